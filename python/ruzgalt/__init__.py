@@ -27,13 +27,13 @@ from typing import TYPE_CHECKING, Any, List
 
 __all__ = [
     "join", "anti", "agg", "dip", "at", "during",
-    "Store", "Division", "Changed", "Verdict", "Refused", "Stopped", "Doubt", "frames", "__version__",
+    "Store", "Script", "Division", "Changed", "Verdict", "Refused", "Stopped", "Doubt", "frames", "__version__",
 ]
 
 if TYPE_CHECKING:
     from ruzgalt import frames
     from ruzgalt.frames import (
-        Changed, Division, Doubt, Refused, Stopped, Store, Verdict, agg, anti, at, dip, during, join,
+        Changed, Division, Doubt, Refused, Script, Stopped, Store, Verdict, agg, anti, at, dip, during, join,
     )
 
     __version__: str

@@ -3,6 +3,7 @@
     join, anti, agg, dip    frames in, a frame out
     at, during              the rows that hold then
     Store                   tables with a past: changes, commits, questions
+    Script                  its changes as a script, with the names of its columns
     Division                the fewest parts of rows of which no two overlap
     Changed, Verdict        what a change of a store did; what a check of a division found
     Refused                 what all of them raise of a value or a call: name, reason, column, label
@@ -40,9 +41,10 @@ from ruzgalt.frames.division import Division
 from ruzgalt.frames.divisions import Verdict
 from ruzgalt.frames.errors import Doubt, Refused, Stopped
 from ruzgalt.frames.rows import at, during
+from ruzgalt.frames.script import Script
 from ruzgalt.frames.store import Store
 
 __all__ = [
     "join", "anti", "agg", "dip", "at", "during",
-    "Store", "Division", "Changed", "Verdict", "Refused", "Stopped", "Doubt",
+    "Store", "Script", "Division", "Changed", "Verdict", "Refused", "Stopped", "Doubt",
 ]

@@ -15,7 +15,7 @@ from ruzgalt.script import records
 Found = Tuple[Cells, ...]
 
 REMEDIES = {
-    "BadName": "a name has 1 to 32 of a to z, 0 to 9 and _, the first a letter; .rename(columns=..) gives another",
+    "BadName": "a name has 1 to 32 of a to z, 0 to 9 and _, the first a letter",
     "BadPeriod": "a start comes before its end, which is the first point behind",
     "BadPoint": "a point is as 2024-01-05 or 2024-01-05T08:30:00, of the years 0001 to 9999",
     "Full": "a table has at most 1,000,000 versions of rows, of all commits",

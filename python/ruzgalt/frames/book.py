@@ -9,7 +9,7 @@ from ruzgalt.frames.arrays import Ints
 from ruzgalt.frames.changes import Change, Changed
 from ruzgalt.frames.errors import Refused
 from ruzgalt.frames.output import Output
-from ruzgalt.frames.script import Command
+from ruzgalt.frames.script import Command, Script
 from ruzgalt.frames.tables import Table
 
 
@@ -22,8 +22,9 @@ class Book:
     commands: Tuple[Command, ...] = ()
 
     @property
-    def script(self) -> bytes:
-        return b"".join(piece for command in self.commands for piece in command.pieces)
+    def script(self) -> Script:
+        names = {one.name: {word: name for name, word in one.words.items()} for one in self.tables.values()}
+        return Script(b"".join(piece for command in self.commands for piece in command.pieces), names)
 
     def known(self, name: Any) -> Table:
         if not isinstance(name, str) or name not in self.tables:

@@ -8,11 +8,13 @@ import numpy as np
 
 from ruzgalt.frames import checks, doubts, points, script, values
 from ruzgalt.frames.arrays import NO_INTS, Ints
+from ruzgalt.frames.ask import REMEDIES
 from ruzgalt.frames.errors import Refused
+from ruzgalt.frames.named import names_of, same
 from ruzgalt.frames.options import Names, Options
 from ruzgalt.frames.script import Command
 from ruzgalt.frames.sides import Side, side_of
-from ruzgalt.frames.tables import Table, table_of, wanted_of
+from ruzgalt.frames.tables import Table, table_of
 from ruzgalt.frames.values import Values
 from ruzgalt.script import forms
 
@@ -84,15 +86,16 @@ class Change:
 def making(name: Any, frame: Any, key: Names, options: Options) -> Change:
     """A table of a frame's columns, and its rows."""
     if not isinstance(name, str) or not forms.is_name(name):
-        told = wanted_of(name).partition(";")[0]
+        told = "it is a word of the language" if name in forms.RESERVED else REMEDIES["BadName"]
         raise Refused("BadName", f"{checks.shown(name)} is no name of a table: {told}")
-    names = [column for column in frame.columns if column not in set(options.period)]
+    names = [column for column in names_of(frame) if column not in options.period]
     side = side_of(frame, names, options.period, options.form, options.decimals)
     doubts.of_decimals(options.decimals, frame)
     made = replace(table_of(name, side, checks.names("key", key) or (), options), kind=side.kind)
     warn_of_ends(made, side)
-    commands = [script.make(name, names, side.columns, made.key), *([script.load(name, side)] if len(side) else [])]
-    return Change(name, commands, made)
+    keys = [made.word(column) for column in made.key]
+    commands = [script.make(name, list(made.words.values()), side.columns, keys)]
+    return Change(name, [*commands, *([script.load(name, side)] if len(side) else [])], made)
 
 
 def loading(table: Table, frame: Any) -> Change:
@@ -114,12 +117,13 @@ def updating(table: Table, frame: Any, where: Names) -> Change:
         raise Refused("BadCommand", f"{table.name} has no key: where= names the columns that tell which rows are meant")
     for name in equal:
         table.column(name)
-    set_to = [column for column in checks.frame("frame", frame).columns if column not in {*table.period, *equal}]
+    own = [*table.period, *equal]
+    set_to = [column for column in names_of(checks.frame("frame", frame)) if column not in own]
     side = table.side_of(frame, [*set_to, *equal])
     if not set_to:
         raise Refused("BadCommand", "the frame has no column but those of the period and of where=, so none to set")
     warn_of_ends(table, side)
-    rows = zip(*([(column.name, text) for text in column_texts(column)] for column in side.columns))
+    rows = zip(*([(table.word(column.name), text) for text in column_texts(column)] for column in side.columns))
     pairs = [[text for pair in row for text in pair] for row in rows]
     times = zip(points.texts_of(side.start), points.texts_of(side.end))
     cut = 2 * len(set_to)
@@ -130,7 +134,7 @@ def updating(table: Table, frame: Any, where: Names) -> Change:
 
 def warn_of_ends(table: Table, side: Side) -> None:
     """Warns of ends that look like last days, or the other way round."""
-    key = [one for one in side.columns if one.name in table.key]
+    key = [one for one in side.columns if same(one.name) in table.key]
     doubts.of_ends(side, key, table.period[1], table.options.last_day)
 
 

@@ -11,6 +11,7 @@ import numpy as np
 import pandas as pd
 
 from ruzgalt.frames.errors import Refused
+from ruzgalt.frames.named import same
 from ruzgalt.script import naming
 
 Pair = Tuple[Any, Any]
@@ -69,7 +70,7 @@ def is_name(given: Any) -> bool:
 def name(option: str, given: Any) -> Any:
     if given is None or not is_name(given):
         raise wrong(option, given, "a column's name is wanted")
-    return given
+    return same(given)
 
 
 def names(option: str, given: Any) -> Optional[Tuple[Any, ...]]:
@@ -79,12 +80,12 @@ def names(option: str, given: Any) -> Optional[Tuple[Any, ...]]:
     told = tuple(given) if isinstance(given, (list, tuple)) else (given,)
     if not all(map(is_name, told)):
         raise wrong(option, given, "a column's name or a list of names is wanted, and list(..) makes one")
-    return told
+    return tuple(map(same, told))
 
 
 def pair(option: str, given: Any) -> Pair:
     """Two different names."""
-    told = tuple(given) if isinstance(given, (list, tuple)) else ()
+    told = tuple(map(same, given)) if isinstance(given, (list, tuple)) else ()
     if len(told) != 2 or not all(map(is_name, told)) or naming.twice(told):
         raise wrong(option, given, "two different names are wanted, of the column of starts and of that of ends")
     return told[0], told[1]
@@ -101,7 +102,7 @@ def digits(option: str, given: Any) -> Mapping[Any, int]:
     """How many decimals columns have."""
     if not isinstance(given, Mapping) or not all(map(is_name, given)):
         raise wrong(option, given, "a dict of columns with their numbers of decimals is wanted, as {'pay': 2}")
-    return {one: whole(f"{option}[{one!r}]", count, 0, MOST_DIGITS) for one, count in given.items()}
+    return {same(one): whole(f"{option}[{one!r}]", count, 0, MOST_DIGITS) for one, count in given.items()}
 
 
 def frame(option: str, given: Any) -> Any:

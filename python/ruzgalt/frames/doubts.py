@@ -5,7 +5,7 @@ rows some, with all of a key; so of a million rows it takes less than a tenth of
 """
 from __future__ import annotations
 
-from typing import Any, Iterable, List, Mapping, Sequence, Set, Tuple
+from typing import Any, Collection, Iterable, List, Mapping, Sequence, Set, Tuple
 
 import numpy as np
 
@@ -15,7 +15,7 @@ from ruzgalt.frames import instants, points, zones
 from ruzgalt.frames.arrays import Ints
 from ruzgalt.frames.errors import doubt
 from ruzgalt.frames.named import names_of, same
-from ruzgalt.frames.sides import Period, Side
+from ruzgalt.frames.sides import Side
 from ruzgalt.frames.values import Values
 
 # So many texts of a column are looked at, and so many rows.
@@ -36,9 +36,8 @@ def of_decimals(decimals: Mapping[Any, int], *frames: Any) -> None:
             doubt(f"decimals= has {name!r}, which is no column; there are {there}")
 
 
-def of_no_columns(frames: Sequence[Any], periods: Sequence[Period]) -> None:
-    """Tells of frames that aren't compared, and have one column in common."""
-    left, right = ([name for name in names_of(frame) if name not in own] for frame, own in zip(frames, periods))
+def of_no_columns(left: Iterable[Any], right: Collection[Any]) -> None:
+    """Tells of frames that aren't compared, and have one column in common, of these names."""
     both = [name for name in left if name in right]
     if len(both) == 1:
         # As on= alone None is none, and a tuple several.

@@ -39,7 +39,7 @@ def overlap(table: Table, command: Command, there: Sequence[Cells]) -> Optional[
 def rows_behind(table: Table, command: Command, there: Sequence[Cells]) -> List[Row]:
     """The rows that the change would leave."""
     ids, start, end, *columns = there
-    keys = [column for name, column in zip(table.columns, columns) if name in table.key]
+    keys = of_key(table, columns)
     names = [f"the store's row of id {one}" for one in ids]
     if command.word == "load":
         return [*rows_of(keys, start, end, names), *loaded(table, command.side)]
@@ -55,8 +55,13 @@ def rows_of(keys: List[Cells], start: Ints, end: Ints, origins: Sequence[Any]) -
 def loaded(table: Table, side: Optional[Side]) -> List[Row]:
     if side is None:
         return []
-    keys = [cells_of(column) for column in side.columns if column.name in table.key]
+    keys = list(map(cells_of, of_key(table, side.columns)))
     return rows_of(keys, side.start, side.end, [Loaded(label) for label in side.labels])
+
+
+def of_key(table: Table, columns: Sequence[Any]) -> List[Any]:
+    """Those of the table's columns that are of its key."""
+    return [column for name, column in zip(table.columns, columns) if name in table.key]
 
 
 def cells_of(column: Values) -> Cells:
@@ -67,24 +72,26 @@ def hits(table: Table, command: Command, there: Sequence[Cells]) -> Tuple[Ints, 
     """The portion of an update, and which of the rows it acts on."""
     portion = np.array([instants.second_of(text) for text in command.fields[2:4]], np.int64)
     is_hit: Marks = (there[1] < portion[1]) & (portion[0] < there[2])
-    for name, value in pairs(table, command, fields.where_places(command.fields)).items():
-        is_hit &= there[3 + list(table.columns).index(name)] == value
+    for place, value in pairs(table, command, fields.where_places(command.fields)).items():
+        is_hit &= there[3 + place] == value
     return portion, is_hit
 
 
-def pairs(table: Table, command: Command, places: range) -> Dict[str, Any]:
-    """The columns that stand at these places of a change, and the values behind them, as an answer has them."""
-    told = {command.fields[place]: command.fields[place + 1] for place in places}
-    return {name: int(text) if table.columns[name].kind == "int" else text for name, text in told.items()}
+def pairs(table: Table, command: Command, places: range) -> Dict[int, Any]:
+    """Which columns stand at these places of a change, by their own places, and the values behind them."""
+    told = {table.place(command.fields[place]): command.fields[place + 1] for place in places}
+    kinds = [one.kind for one in table.columns.values()]
+    return {place: int(text) if kinds[place] == "int" else text for place, text in told.items()}
 
 
 def updated(table: Table, command: Command, portion: Ints, hit: Sequence[Cells]) -> Iterator[Row]:
     """What comes in place of the rows on which an update acts."""
     ids, start, end, *columns = hit
     to = pairs(table, command, fields.set_places(command.fields))
-    keys = [(name, column) for name, column in zip(table.columns, columns) if name in table.key]
-    old = [column for _, column in keys]
-    new = [of_objects([to[name]] * len(ids)) if name in to else column for name, column in keys]
+    old = of_key(table, columns)
+    new = of_key(table, [
+        of_objects([to[place]] * len(ids)) if place in to else column for place, column in enumerate(columns)
+    ])
     names = [f"the store's row of id {one}" for one in ids]
     inside = [f"{name}, as it would be updated," for name in names]
     parts = [

@@ -17,27 +17,32 @@ from ruzgalt.frames import ask, checks, kinds, points, running, script
 from ruzgalt.frames.arrays import NO_INTS, Cells
 from ruzgalt.frames.book import Book
 from ruzgalt.frames.errors import Refused, Stopped, doubt
-from ruzgalt.frames.options import OF_TABLE, Options, options_of
-from ruzgalt.frames.script import Command
+from ruzgalt.frames.named import same
+from ruzgalt.frames.options import OF_TABLE, options_of
+from ruzgalt.frames.script import Command, Script
 from ruzgalt.frames.sides import Side
-from ruzgalt.frames.tables import Table, coded
+from ruzgalt.frames.tables import Table, coded, told_of
 from ruzgalt.frames.values import Texts, Values
-from ruzgalt.script import commands
+from ruzgalt.script import commands, naming
 from ruzgalt.script.reader import Block, Source, long_fields
 from ruzgalt.script.schemas import Kind, Schema
 
-Script = Union[bytes, str, "os.PathLike[str]"]
+# A script, or the file that has it.
+Given = Union[bytes, str, "os.PathLike[str]"]
 # So many refused changes are named.
 NAMED = 10
 
 
-def book_of(given: Script, options: Any, empty: Book) -> Book:
+def book_of(given: Given, options: Any, empty: Book) -> Book:
     """The book of a script's accepted changes. Raises Refused, Stopped; warns of refused changes."""
     found = answers_of(bytes_of(given), empty.workers)
     kept = [command_of(one) for one in found if one.command.word in answers.CHANGES and not one.refusal]
     schemas = found[-1].tables if found else {}
-    made = [table_of(schema, options_of_table(options, schema, schemas)) for schema in schemas.values()]
-    return filled(Book(empty.workers, {one.name: one for one in made}, tuple(kept)))
+    refuse_options(options, schemas)
+    names = given.names if isinstance(given, Script) else {}
+    given_of = {name: {"names": names.get(name, {}), **options.get(name, {})} for name in schemas}
+    made = {name: table_of(schema, given_of[name]) for name, schema in schemas.items()}
+    return filled(Book(empty.workers, made, tuple(kept)))
 
 
 def answers_of(data: bytes, workers: int) -> List[Answer]:
@@ -54,7 +59,7 @@ def answers_of(data: bytes, workers: int) -> List[Answer]:
     return found
 
 
-def bytes_of(given: Script) -> bytes:
+def bytes_of(given: Given) -> bytes:
     if isinstance(given, bytes):
         return given
     wanted = "bytes of a script are wanted, or the path of the file that has it"
@@ -79,29 +84,45 @@ def command_of(answer: Answer) -> Command:
     return Command(list(fields), [script.record(fields), *([rows + end] if rows else [])])
 
 
-def options_of_table(options: Any, schema: Schema, schemas: Mapping[str, Schema]) -> Options:
-    """What is given of a table's frames. Raises Refused where there is no such table or column."""
+def refuse_options(options: Any, schemas: Mapping[str, Schema]) -> None:
+    """Raises Refused where options are no dict of dicts, or there is no such table."""
     if not isinstance(options, Mapping) or not all(isinstance(one, Mapping) for one in options.values()):
         raise checks.wrong("options", options, "a dict of tables, each with a dict, as {'pay': {'open_end': True}}")
     for name in options:
         if name not in schemas:
             raise Refused("NoTable", f"options= has {name!r}, and the script's tables are {', '.join(schemas)}")
-    given = options.get(schema.name, {})
-    if not set(given) <= set(OF_TABLE):
-        raise checks.wrong("options", given, f"of a table these can be given: {', '.join(OF_TABLE)}")
-    told = options_of(**given)
-    for name in told.decimals:
-        if name not in schema.names or schema.columns[schema.place(name)].kind is not Kind.INT:
+
+
+def table_of(schema: Schema, given: Mapping[str, Any]) -> Table:
+    """A table of the script, by what is given of its frames. Raises Refused where it has no such columns."""
+    of_frames = {option: value for option, value in given.items() if option != "names"}
+    if not set(of_frames) <= set(OF_TABLE):
+        raise checks.wrong("options", given, f"of a table these can be given: {', '.join([*OF_TABLE, 'names'])}")
+    options = options_of(**of_frames)
+    names = names_of(schema, given["names"])
+    kinds = dict(zip(names, (column.kind for column in schema.columns)))
+    for name in options.decimals:
+        if kinds.get(name) is not Kind.INT:
             raise Refused("NoColumn", f"decimals= is of columns of numbers; {schema.name} has no such one", name)
-    return told
+    columns = {name: column_of(name, kind, options.decimals.get(name)) for name, kind in kinds.items()}
+    return Table(schema.name, columns, [names[place] for place in schema.key], options, dict(zip(names, schema.names)))
 
 
-def table_of(schema: Schema, options: Options) -> Table:
-    columns = {one.name: column_of(one.name, one.kind, options.decimals.get(one.name)) for one in schema.columns}
-    return Table(schema.name, columns, [schema.names[place] for place in schema.key], options)
+def names_of(schema: Schema, given: Any) -> List[Any]:
+    """The names that the columns have in frames, of names= by those in the script. Raises Refused."""
+    if not isinstance(given, Mapping) or not all(map(checks.is_name, given.values())):
+        raise checks.wrong("names", given, "a dict of the script's columns with their names in frames is wanted")
+    for word in given:
+        if word not in schema.names:
+            told = f"names= is of columns of the script, and {schema.name} has {told_of(schema.names)}"
+            raise Refused("NoColumn", told, word)
+    names = [same(given.get(word, word)) for word in schema.names]
+    for name in naming.twice(names):
+        raise Refused("TwiceNamed", f"names= of {schema.name}: two columns would have this name", name)
+    return names
 
 
-def column_of(name: str, kind: Kind, digits: Any) -> Values:
+def column_of(name: Any, kind: Kind, digits: Any) -> Values:
     dtype = np.dtype("int64") if kind is Kind.INT and digits is None else np.dtype(object)
     return Values(name, kind.value, NO_INTS, Texts(), dtype, digits)
 

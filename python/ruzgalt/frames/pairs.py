@@ -118,7 +118,9 @@ def tell(frames: Sequence[Any], both: Sequence[Side], on: Names, options: Option
     """Warns of what may not be meant."""
     periods = (options.period, options.other_period)
     if on is None and options.left_on is None:
-        doubts.of_no_columns(frames, periods)
+        doubts.of_no_columns(*(
+            [name for name in names_of(frame) if name not in own] for frame, own in zip(frames, periods)
+        ))
     doubts.of_decimals(options.decimals, *frames)
     doubts.of_keys(*(side.columns for side in both))
     for one, other in zip(*(side.columns for side in both)):

@@ -102,12 +102,13 @@ def join(asked: Asked, left: str, right: str, on: Any) -> Any:
 def on_of(tables: Sequence[Table], on: Any, options: Options) -> List[str]:
     """The compared columns, as the fields of a question."""
     names = compared(on, options)
-    if any(isinstance(name, tuple) for name in names[0]):
-        raise checks.wrong("on", on, "names of columns that both tables have; left_on= and right_on= are for others")
-    columns = [[table.column(name) for name in own] for table, own in zip(tables, names)]
-    for pair in zip(*columns):
+    for name in names[0]:
+        if isinstance(name, tuple) and name not in tables[0].columns:
+            wanted = "names of columns that both tables have; left_on= and right_on= are for others"
+            raise checks.wrong("on", on, wanted)
+    for pair in zip(*([table.column(name) for name in own] for table, own in zip(tables, names))):
         pairs.refuse_two_kinds(*pair)
-    told = [column.name for pair in zip(*columns) for column in pair]
+    told = [table.word(name) for pair in zip(*names) for table, name in zip(tables, pair)]
     return ["on", *told] if told else []
 
 
@@ -117,10 +118,9 @@ def warn_of_pairs(asked: Asked, tables: Sequence[Table], on: Any) -> None:
     Whether there are such texts is looked up in the commands, so that rows are asked for only where some may be.
     """
     if on is None and asked.options.left_on is None:
-        frames = [pd.DataFrame(columns=list(table.columns)) for table in tables]
-        doubts.of_no_columns(frames, [table.period for table in tables])
+        doubts.of_no_columns(*(table.columns for table in tables))
     pairs_of = list(zip(*compared(on, asked.options)))
-    told = [[unmeant.texts_of(asked.book.commands, table.name, name) for table, name in zip(tables, pair)]
+    told = [[unmeant.texts_of(asked.book.commands, table, name) for table, name in zip(tables, pair)]
             for pair in pairs_of]
     for pair, texts in zip(pairs_of, told):
         doubts.of_no_value(pair[0], *texts)
@@ -159,7 +159,7 @@ Counted = Tuple[Sequence[Cells], Sequence[Cells]]
 
 def by_one(asked: Asked, table: Table, told: Measures, by: Sequence[Values]) -> Counted:
     """Of one measure, by at most one column: as the language has it."""
-    names = [*told[0].amount, *(text for one in by for text in ("by", one.name))]
+    names = [*map(table.word, told[0].amount), *(text for one in by for text in ("by", table.word(one.name)))]
     kinds = "".join("i" if one.kind == "int" else "t" for one in by) + "ppi"
     cells = list(asked.block(["agg", table.name, told[0].function, *names], kinds))
     return cells[:len(by)], cells[len(by):]

@@ -2,7 +2,7 @@
 from __future__ import annotations
 
 from dataclasses import dataclass
-from typing import Any, Iterator, List, Optional, Sequence
+from typing import Any, Iterator, List, Mapping, Optional, Sequence
 
 import numpy as np
 
@@ -17,6 +17,35 @@ LIMIT = 67_108_864
 ROOM = LIMIT - 10_000
 # So many rows are written at a time.
 CHUNK = 200_000
+
+
+class Script(bytes):
+    """The changes of a store that were accepted: bytes of a script, as ./dipq and tools/answers read it.
+
+    Attributes
+    ----------
+    names : dict
+        Of each table a dict, which has for each column's name in the script its name in frames. Where that is none of
+        the language, the script has one like it.
+
+    Examples
+    --------
+    >>> day = pd.to_datetime
+    >>> rent = pd.DataFrame({"from": day(["2024-01-01"]), "to": day(["2025-01-01"]), "Löhne €": [5000]})
+    >>> store = ruzgalt.Store()
+    >>> store.table("rent", rent)
+    commit 2: 1 added, 0 closed
+    >>> script = store.script()
+    >>> script.decode().splitlines()[0], script.names
+    ('table,rent,lohne,int', {'rent': {'lohne': 'Löhne €'}})
+    """
+
+    names: Mapping[str, Mapping[str, Any]]
+
+    def __new__(cls, data: bytes, names: Optional[Mapping[str, Mapping[str, Any]]] = None) -> Script:
+        made = super().__new__(cls, data)
+        made.names = {} if names is None else names
+        return made
 
 
 @dataclass(frozen=True)

@@ -11,7 +11,7 @@ from ruzgalt.frames import kinds, values, zones
 from ruzgalt.frames.arrays import NO_INTS, Ints, Marks
 from ruzgalt.frames.errors import Refused, label_at
 from ruzgalt.frames.kinds import Kind, refuse_two_zones
-from ruzgalt.frames.named import column_of
+from ruzgalt.frames.named import column_of, same
 from ruzgalt.frames.points import Form
 from ruzgalt.frames.values import Values
 
@@ -77,7 +77,7 @@ def side_of(frame: Any, names: Sequence[Any], period: Period, form: Form, decima
     end, last = form.ends_of(ends)
     refuse_two_zones(first, last, ends.name)
     refuse_empty(start >= end, starts, ends)
-    columns = [values.values_of(column, decimals.get(column.name)) for column in found]
+    columns = [values.values_of(column, decimals.get(same(column.name))) for column in found]
     return Side(start, end, columns, kinds.joint_kind(first, last), frame.index, np.arange(len(start)))
 
 

@@ -18,12 +18,13 @@ from ruzgalt.frames.changes import Change, Changed
 from ruzgalt.frames.division import Division
 from ruzgalt.frames.divisions import Verdict
 from ruzgalt.frames.errors import Refused, doubt
-from ruzgalt.frames.opening import Script
+from ruzgalt.frames.opening import Given
 from ruzgalt.frames.options import (
     FLOAT, NO_DECIMALS, PERIOD, SUFFIXES, WORKERS, Functions, Names, PairOfNames, PairOfSuffixes, options_of,
     workers_of,
 )
 from ruzgalt.frames.questions import Asked
+from ruzgalt.frames.script import Script
 from ruzgalt.frames.tables import Table
 
 
@@ -74,7 +75,7 @@ class Store:
         self.draft: Optional[Draft] = None
 
     @classmethod
-    def from_script(cls, script: Script, *, workers: int = WORKERS,
+    def from_script(cls, script: Given, *, workers: int = WORKERS,
                     options: Optional[Mapping[str, Mapping[str, Any]]] = None) -> Store:
         """A store of a script's accepted changes; its questions and refused changes are left out.
 
@@ -86,7 +87,7 @@ class Store:
             Threads of the program, 1 to 64.
         options : dict, optional
             Of tables by their names, a dict of what `table` takes: period, open_end, last_day, decimals. Numbers
-            become Decimals by decimals.
+            become Decimals by decimals. `names` are as a Script has them of a table, for one that comes from a file.
 
         Returns
         -------
@@ -158,13 +159,13 @@ class Store:
     def asked(self, as_of: Optional[int] = None, **options: Any) -> Asked:
         return Asked(self.seen(), as_of, options_of(**options))
 
-    def script(self) -> bytes:
+    def script(self) -> Script:
         """All changes that were accepted, as ./dipq and tools/answers read them.
 
         Returns
         -------
-        bytes
-            A script of the language: CSV in UTF-8.
+        Script
+            Bytes: a script of the language, CSV in UTF-8. Its `names` say what its columns are called in frames.
 
         Examples
         --------
@@ -188,9 +189,9 @@ class Store:
         Parameters
         ----------
         name : str
-            1 to 32 of a to z, 0 to 9 and _, the first a letter; so are the names of columns.
+            1 to 32 of a to z, 0 to 9 and _, the first a letter.
         frame : DataFrame
-            Of pandas, with the period's columns and the table's.
+            Of pandas, with the period's columns and the table's. Columns have any names.
         period : pair of names, default ("from", "to")
             The columns of a row's start and of its end, the first point behind it.
         key : name or list of names, default none

@@ -1,39 +1,54 @@
-"""A table of a store: what the columns of its frames are there, and how fields become cells again."""
+"""A table of a store: what the columns of its frames are there, and how fields become cells again.
+
+A column of a frame may have any name, and has one of the language in the store: `words` of a table has it.
+"""
 from __future__ import annotations
 
-from dataclasses import dataclass, replace
+from dataclasses import dataclass, field, replace
 from decimal import Decimal
-from typing import Any, Iterator, List, Mapping, Sequence, Tuple
+from typing import Any, Iterable, Iterator, List, Mapping, Sequence, Tuple
 
 import numpy as np
 import pandas as pd
 
 from ruzgalt.frames import checks, instants, kinds, points, sides, values
 from ruzgalt.frames.arrays import Cells, Ints
-from ruzgalt.frames.ask import REMEDIES
 from ruzgalt.frames.errors import Refused
 from ruzgalt.frames.kinds import WITHOUT_ZONE, Kind
+from ruzgalt.frames.named import names_of, same
 from ruzgalt.frames.options import Options
 from ruzgalt.frames.points import Form
 from ruzgalt.frames.sides import Period, Side
 from ruzgalt.frames.values import Texts, Values
-from ruzgalt.script import forms
+from ruzgalt.script import forms, naming
 
 
 @dataclass(frozen=True)
 class Table:
     """A table's name, its columns without their cells, its key, how its frames are, and the kind of their points.
 
+    words: of each column its name in the store.
     first, last: no row starts before the one second or ends behind the other.
     """
 
     name: str
-    columns: Mapping[str, Values]
-    key: Sequence[str]
+    columns: Mapping[Any, Values]
+    key: Sequence[Any]
     options: Options
+    words: Mapping[Any, str] = field(default_factory=dict)
     kind: Kind = Kind()
     first: int = points.LAST
     last: int = points.FIRST
+
+    def __setstate__(self, state: Mapping[str, Any]) -> None:
+        """Of a pickle NaN as a name is another one, which isn't found by the one that all names here are."""
+        columns = {same(name): replace(one, name=same(name)) for name, one in state["columns"].items()}
+        words = {same(name): word for name, word in state["words"].items()}
+        given = state["options"]
+        decimals = {same(name): digits for name, digits in given.decimals.items()}
+        options = replace(given, period=tuple(map(same, given.period)), decimals=decimals)
+        own = {"columns": columns, "words": words, "key": list(map(same, state["key"])), "options": options}
+        self.__dict__.update({**state, **own})
 
     @property
     def period(self) -> Period:
@@ -49,17 +64,25 @@ class Table:
         return "".join("i" if one.kind == "int" else "t" for one in self.columns.values())
 
     def column(self, name: Any) -> Values:
-        if name not in self.columns:
-            told = ", ".join(self.columns) or "none"
-            raise Refused("NoColumn", f"{self.name} has no such column; it has {told}", name)
-        return self.columns[name]
+        found = self.columns.get(same(name))
+        if found is None:
+            raise Refused("NoColumn", f"{self.name} has no such column; it has {told_of(self.columns)}", name)
+        return found
+
+    def word(self, name: Any) -> str:
+        """The column's name in the store. Raises Refused (NoColumn)."""
+        return self.words[self.column(name).name]
+
+    def place(self, word: str) -> int:
+        """Where the column stands that has this name in the store."""
+        return list(self.words.values()).index(word)
 
     # What comes in.
 
     def side_of(self, frame: Any, names: Sequence[Any]) -> Side:
         """A frame's rows with these of the table's columns, which are all that it has. Raises Refused."""
-        for name in frame.columns:
-            if name not in set(self.period):
+        for name in names_of(frame):
+            if name not in self.period:
                 self.column(name)
         side = sides.side_of(frame, names, self.period, self.form, self.options.decimals)
         refuse_points(side, self.period)
@@ -90,7 +113,7 @@ class Table:
         if not told:
             remedy = "leave it out for all rows" if word == "where" else "it names what is to be changed"
             raise Refused("BadCommand", f"{word}={{}} has no column: {remedy}")
-        return [text for name, value in told.items() for text in (name, self.field_of(name, value))]
+        return [text for name, value in told.items() for text in (self.word(name), self.field_of(name, value))]
 
     def field_of(self, name: Any, value: Any) -> str:
         """A value of an update or a condition, looked at as one of a frame. Raises Refused."""
@@ -123,7 +146,7 @@ class Table:
 
     def cells(self, cells: Iterator[Cells]) -> List[Tuple[str, Any]]:
         """The next columns of an answer as the table's columns."""
-        return [(name, one.restored(next(cells))) for name, one in self.columns.items()]
+        return [(one.name, one.restored(next(cells))) for one in self.columns.values()]
 
     def period_cells(self, cells: Iterator[Cells], kind: Kind) -> List[Tuple[Any, Any]]:
         """The next two columns of an answer as the period, of points of that kind."""
@@ -179,21 +202,18 @@ def refuse_points(side: Side, period: Period) -> None:
         raise Refused("WrongKind", f"{told}; {remedy}", period[0])
 
 
-def wanted_of(name: Any) -> str:
-    """What a name is to be, of one that is none of a store."""
-    if name in forms.RESERVED:
-        return f"a word of the language; .rename(columns={{{name!r}: '{name}_'}}) gives another"
-    return REMEDIES["BadName"]
+def told_of(names: Iterable[Any]) -> str:
+    """Names of columns, for a person."""
+    told = (name if isinstance(name, str) and forms.is_name(name) else checks.shown(name) for name in names)
+    return ", ".join(told) or "none"
 
 
-def table_of(name: str, side: Side, key: Sequence[str], options: Options) -> Table:
-    """Of its first rows, which it hasn't yet. Raises Refused where a name is none of the store."""
+def table_of(name: str, side: Side, key: Sequence[Any], options: Options) -> Table:
+    """Of its first rows, which it hasn't yet. Raises Refused where the key has a column that isn't there."""
     refuse_points(side, options.period)
-    for one in side.columns:
-        if not (isinstance(one.name, str) and forms.is_name(one.name)):
-            raise Refused("BadName", f"no name of a column of a store: {wanted_of(one.name)}", one.name)
-    columns = {one.name: replace(one, codes=one.codes[:0], texts=Texts()) for one in side.columns}
+    columns = [replace(one, name=same(one.name), codes=one.codes[:0], texts=Texts()) for one in side.columns]
+    names = [one.name for one in columns]
     for column in key:
-        if column not in columns:
-            raise Refused("NoColumn", f"key= is of columns of the table: {', '.join(columns) or 'it has none'}", column)
-    return Table(name, columns, list(key), options)
+        if column not in names:
+            raise Refused("NoColumn", f"key= is of columns of the table: {told_of(names)}", column)
+    return Table(name, dict(zip(names, columns)), list(key), options, dict(zip(names, naming.of_store(names))))

@@ -17,16 +17,16 @@ from ruzgalt.frames.values import Values
 from ruzgalt.script import fields
 
 
-def texts_of(commands: Sequence[Command], table: str, name: str) -> List[str]:
+def texts_of(commands: Sequence[Command], table: Table, name: Any) -> List[str]:
     """The texts that a column of a table has, or had before a change."""
     found: Dict[str, None] = {}
+    word = table.word(name)
     for one in commands:
-        if one.fields[1] == table and one.side is not None:
-            columns = [column for column in one.side.columns if column.name == name]
-            found.update(dict.fromkeys(text for column in columns for text in column.texts.cells))
-        elif one.fields[1] == table and one.word == "update":
+        if one.fields[1] == table.name and one.side is not None:
+            found.update(dict.fromkeys(one.side.columns[table.place(word)].texts.cells))
+        elif one.fields[1] == table.name and one.word == "update":
             places = fields.set_places(one.fields)
-            found.update((one.fields[place + 1], None) for place in places if one.fields[place] == name)
+            found.update((one.fields[place + 1], None) for place in places if one.fields[place] == word)
     return list(found)
 
 

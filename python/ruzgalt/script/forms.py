@@ -6,7 +6,8 @@ from typing import Optional
 
 POINT = re.compile(r"(\d{4})-(\d\d)-(\d\d)(?:T(\d\d):(\d\d):(\d\d))?", re.ASCII)
 INTEGER = re.compile(r"0|-?[1-9]\d*", re.ASCII)
-NAME = re.compile(r"[a-z][a-z0-9_]{0,31}", re.ASCII)
+LONGEST_NAME = 32
+NAME = re.compile(rf"[a-z][a-z0-9_]{{0,{LONGEST_NAME - 1}}}", re.ASCII)
 RESERVED = ("asof", "by", "key", "on", "set", "where")
 TEXT_LIMIT = 4096
 # No number of a column has more characters; a sum of 1,000,000 of them has six more.

@@ -1,11 +1,16 @@
-"""What the columns of an answer are called, so that each has a name of its own.
+"""What the columns of an answer are called, so that each has a name of its own, and those of a store.
 
 An answer has words of its own, as `row_id`, which stay as they are. In an answer of one table a column whose name is
 taken has `_` behind it; in one of two a name that several have gets its side's suffix, and what is twice then is
-refused by whoever asks here.
+refused by whoever asks here. In a store a column has a name of the language, which is like its own.
 """
+import re
+import unicodedata
 from collections import Counter
+from itertools import chain, count
 from typing import Any, List, Optional, Sequence, Set
+
+from ruzgalt.script.forms import LONGEST_NAME, is_name
 
 
 def apart(names: Sequence[Any]) -> List[Any]:
@@ -30,6 +35,32 @@ def with_suffixes(names: Sequence[Any], suffixes: Sequence[Optional[str]]) -> Li
     """The names; each of those that stand several times has its suffix behind it, where there is one."""
     counts = Counter(names)
     return [f"{name}{suffix}" if suffix and counts[name] > 1 else name for name, suffix in zip(names, suffixes)]
+
+
+def of_store(names: Sequence[Any]) -> List[str]:
+    """Names of the language for columns, each another one: their own where they are such, or else names like them."""
+    taken = {name for name in names if isinstance(name, str) and is_name(name)}
+    made = []
+    for name in names:
+        told = name if isinstance(name, str) and is_name(name) else free(like(name), taken)
+        taken.add(told)
+        made.append(told)
+    return made
+
+
+def like(name: Any) -> str:
+    """The letters and digits of ASCII in it, without accents and in small letters, a letter first."""
+    plain = unicodedata.normalize("NFKD", str(name)).casefold()
+    parts = re.split("[^a-z0-9]+", "".join(one for one in plain if not unicodedata.combining(one)))
+    told = "_".join(filter(None, parts))
+    return told if told[:1].isalpha() else f"c{told}"
+
+
+def free(told: str, taken: Set[str]) -> str:
+    """A name of the language that begins so, and that no column has."""
+    endings = chain(["", "_"], map("_{}".format, count(2)))
+    made = (told[:LONGEST_NAME - len(ending)] + ending for ending in endings)
+    return next(name for name in made if is_name(name) and name not in taken)
 
 
 def twice(names: Sequence[Any]) -> List[Any]:

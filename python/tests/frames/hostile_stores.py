@@ -8,7 +8,8 @@ from hypothesis import strategies as st
 import plain_store
 
 NAMES = ["row_id", "id", "left_id", "right_id", "part", "count", "cents", "sum_cents", "sys_from", "sys_to", "sys_to_",
-         "valid_from", "id_left", "a", "b"]
+         "valid_from", "id_left", "a", "b", "person", "Person", "PERSON", "Löhne €", "", " id", 'a"b', "a\nb", "by",
+         "set", "where", "asof", "x" * 4096, "x" * 33, 2024, 1.5, None, ("a", 1)]
 BAD_NAMES = ["Id", " id", "", "größe", "x" * 33, "by", "set", 7, None, ("a", "b"), 1.5]
 TEXTS = ["", "a", "A", " a", "a,b", 'a"b', "row", "where", "é", "e\u0301", "a\0b", "a\nb"]
 PERIODS = [("from", "to"), ("valid_from", "to"), ("row_id", "sys_from"), ("von", 1)]
@@ -140,16 +141,19 @@ def texts_of_points(draw, form, told):
 def spoiled(draw, form, frame, hows=("more", "fewer", "twice", "missing", "float", "levels", "other")):
     """A frame that is none of the table's."""
     how = draw(st.sampled_from(hows))
-    name = draw(st.sampled_from(form.names))
+    place = draw(st.integers(2, len(frame.columns) - 1))
+    places = list(range(len(frame.columns)))
     if how == "more":
         return frame.assign(other=1)
     if how == "fewer":
-        return frame.drop(columns=[name])
+        return frame.iloc[:, [*places[:place], *places[place + 1:]]]
     if how == "twice":
-        return pd.concat([frame, frame[[name]]], axis=1)
+        return frame.iloc[:, [*places, place]]
     if how == "levels":
         return frame.set_axis(pd.MultiIndex.from_product([["a"], map(str, range(len(frame.columns)))]), axis=1)
     if how == "other" or not len(frame):
         return draw(st.sampled_from(NO_FRAMES))
     cells = {"missing": [None] * len(frame), "float": [1.5] * len(frame)}[how]
-    return frame.assign(**{name: pd.Series(cells, dtype=object if how == "missing" else "float64")})
+    made = frame.copy()
+    made.isetitem(place, pd.Series(cells, dtype=object if how == "missing" else "float64"))
+    return made

@@ -130,7 +130,7 @@ def join(sides, pairs, shared, suffixes):
     given = [*((name, None) for name in (*left.period, "left_id", "right_id")),
              *((name, suffixes[0]) for name in left.names), *((name, suffixes[1]) for name in rest)]
     told = [name for name, _ in given]
-    names = [name + (suffix or "") if told.count(name) > 1 else name for name, suffix in given]
+    names = [f"{name}{suffix}" if suffix and told.count(name) > 1 else name for name, suffix in given]
     if len(set(names)) < len(names):
         return REFUSED
     return names, [[*pair[:4], *left.cells(pair[4]), *(pair[5]["values"][name] for name in rest)] for pair in found]
@@ -195,7 +195,7 @@ def apart(names):
     told = []
     for name in names:
         if name in told:
-            name += "_"
+            name = f"{name}_"
             while name in told or name in names:
                 name += "_"
         told.append(name)

@@ -39,10 +39,10 @@ class Divisions(unittest.TestCase):
     def test_a_store_has_it_in_its_table_s_kind(self):
         days = objects([datetime.date(2024, 1, 1), datetime.date(2024, 1, 1)])
         store = ruzgalt.Store()
-        store.table("t", frame(days, objects([datetime.date(2024, 3, 1)] * 2)))
+        store.table("t", frame(days, objects([datetime.date(2024, 3, 1), datetime.date(2024, 3, 2)])).assign(k=[1, 2]))
         self.assertIs(type(store.dip("t").instant), datetime.date)
-        store.delete("t", "2024-01-01", "2024-01-10T08:00:00")
-        self.assertEqual(store.dip("t").instant, datetime.datetime(2024, 1, 10, 8))
+        store.update("t", "2024-01-10T08:00:00", "2024-01-11", {"k": 2}, {"k": 1})
+        self.assertEqual(repr(store.dip("t").instant), "datetime.datetime(2024, 1, 1, 0, 0)")
 
     def test_of_no_rows_there_is_none(self):
         for division in (ruzgalt.dip(frame(FIRST, LAST).iloc[:0]),):

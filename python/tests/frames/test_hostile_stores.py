@@ -72,7 +72,7 @@ class Stores(stateful.RuleBasedStateMachine):
         name, form = self.some_table(data)
         rows = data.draw(hostile.rows_of(form))
         frame = form.frame(rows)
-        frame = frame[data.draw(st.permutations(list(frame.columns)))]
+        frame = frame.iloc[:, data.draw(st.permutations(list(range(len(frame.columns)))))]
         self.same(outcome(lambda: self.store.load(name, frame)), self.plain.load(name, rows))
 
     @precondition(lambda self: self.forms)
@@ -192,11 +192,11 @@ class Stores(stateful.RuleBasedStateMachine):
     @rule(data=DATA, function=st.sampled_from(["count", "sum", "min", "max"]))
     def counts(self, data, function):
         name, form = self.some_table(data)
-        numbers = [one for one in form.names if form.kinds[one] == "int"]
+        numbers = [one for one in form.names if form.kinds[one] == "int" and one is not None]
         column = data.draw(st.sampled_from(numbers)) if numbers and function != "count" else None
         function = function if column is not None else "count"
         by, as_of = hostile.some(data.draw, form.names), self.as_of(data)
-        told = by[0] if len(by) == 1 else by or None
+        told = by[0] if len(by) == 1 and isinstance(by[0], str) else by or None
         self.is_as(form, lambda: self.store.agg(name, function, column, by=told, as_of=as_of),
                    plain_store.agg(form.plain, self.shown(name, as_of), function, column, by), len(by))
 
@@ -211,7 +211,7 @@ class Stores(stateful.RuleBasedStateMachine):
         assert self.store.check(name, got, as_of=as_of)
         assert self.store.check(name, got.iloc[::-1], got.count, got.instant, as_of=as_of)
         if parts:
-            assert not self.store.check(name, got.iloc[1:], as_of=as_of)
+            assert not self.store.check(name, got.iloc[1:], got.count, got.instant, as_of=as_of)
 
     # Wrong calls.
 
@@ -258,7 +258,6 @@ class Stores(stateful.RuleBasedStateMachine):
             "end": lambda: store.delete(name, "2024-01-01", point if point is not None else "2024-01-01 "),
             "value": lambda: store.update(name, "2024-01-01", None, {form.names[0]: 1.5}),
             "load": lambda: store.load(name, spoiled), "there": lambda: store.table(name, form.frame(rows)),
-            "column": lambda: store.table("v", hostile.A_FRAME.set_axis(["from", "to", bad], axis=1)),
             "name": lambda: store.table(bad, hostile.A_FRAME),
             "key": lambda: store.table("v", hostile.A_FRAME, key="T" if bad is None else bad),
             "parts": lambda: store.check(name, no_frame, 1, "2024-01-01"),
@@ -276,6 +275,7 @@ class Stores(stateful.RuleBasedStateMachine):
         again = ruzgalt.Store.from_script(self.store.script(), workers=1)
         assert again.script() == self.store.script()
         for name, form in self.forms.items():
+            assert list(map(repr, again.tables[name].columns)) == list(map(repr, form.names))
             got = again.rows(name).iloc[:, [0, *range(3, 3 + len(form.names))]].values.tolist()
             wanted = [[row["id"], *form.plain.cells(row)] for row in self.plain.tables[name].open()]
             assert got == wanted, (got, wanted)

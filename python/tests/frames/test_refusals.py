@@ -209,8 +209,6 @@ class Refusals(unittest.TestCase):
         self.refuses("of no column", lambda: store(OK, key=["z"]), "NoColumn", "z", None)
 
     def test_names(self):
-        self.refuses("a column with a capital", lambda: store(frame(Name=["a", "b"])), "BadName", "Name", None)
-        self.refuses("a number", lambda: store(frame(**{"k": ["a", "b"]}).rename(columns={"k": 7})), "BadName", 7, None)
         self.refuses("a table with a capital", lambda: ruzgalt.Store().table("T", OK), "BadName", None, None)
         self.refuses("a word of the language", lambda: ruzgalt.Store().table("by", OK), "BadName", None, None)
         many = frame(**{f"c{place}": [1, 2] for place in range(16)})

@@ -128,6 +128,45 @@ class Names(Case):
         self.refuses(lambda: made.join("l", "r", on="price"), "WrongKind", "'price'")
         self.refuses(lambda: made.anti("l", "r", on="price"), "WrongKind", "'price'")
 
+    def test_columns_have_any_names_and_the_store_names_like_them(self):
+        nan = float("nan")
+        names = ["Person", "person", "Löhne €", "", "a,\"b\"\n", "where", 2024, ("a", 1), None, nan, "x" * 4096]
+        told = frame(**{f"c{place}": [place, 7] for place in range(1, len(names))})
+        told.columns = pd.Index(["from", "to", *names], dtype=object, tupleize_cols=False)
+        made = store(told, key=["Person", float("nan")])
+        made.update("t", "2024-01-10", None, {"Löhne €": 3, float("nan"): 5}, {"Person": "a", ("a", 1): 7})
+        made.update_rows("t", told.iloc[:1, [0, 1, 2, 4]], "Person")
+        script = made.script()
+        self.assertEqual(list(script.names["t"]), [
+            "person_", "person", "lohne", "c", "a_b", "where_", "c2024", "a_1", "none", "nan", "x" * 32,
+        ])
+        self.assertEqual(list(map(repr, script.names["t"].values())), list(map(repr, names)))
+        self.assertIn(b",key,person_,nan\n", script)
+        again = ruzgalt.Store.from_script(script)
+        for one in (made, again, pickle.loads(pickle.dumps(made))):
+            self.assertEqual(list(map(repr, one.rows("t").columns[3:])), list(map(repr, names)))
+            for by in ([("a", 1)], [None], [float("nan"), ""]):
+                groups = one.agg("t", "sum", 2024, by=by).columns[:len(by)]
+                self.assertEqual(list(map(repr, groups)), list(map(repr, by)))
+            pairs = one.join("t", "t", on=[None, float("nan"), ("a", 1), "x" * 4096])
+            self.assertEqual(pairs["left_id"].tolist(), one.rows("t").sort_values("from")["row_id"].tolist())
+        self.refuses(lambda: made.load("t", told), "KeyOverlap", "Person 'a'", "nan ")
+        self.refuses(lambda: made.update("t", "2024-01-10", None, {"lohne": 3}), "NoColumn", "'lohne'", "'Löhne €'")
+
+    def test_a_script_from_a_file_has_its_names_in_frames_by_an_option(self):
+        script = store(frame(**{"Löhne €": [1.25, 2.5]}), decimals={"Löhne €": 2}).script()
+        names = script.names["t"]
+        again = ruzgalt.Store.from_script(bytes(script))
+        self.assertEqual(list(again.tables["t"].columns), ["k", "lohne"])
+        again = ruzgalt.Store.from_script(bytes(script), options={"t": {"names": names, "decimals": {"Löhne €": 2}}})
+        self.assertEqual(list(map(str, again.rows("t")["Löhne €"])), ["1.25", "2.50"])
+        for wrong, name, word in (
+            ({"names": {"no": "No"}}, "NoColumn", "k, lohne"), ({"names": {"lohne": "k"}}, "TwiceNamed", "'k'"),
+            ({"names": ["k"]}, "BadCommand", "names="), ({"names": {"k": ["k"]}}, "BadCommand", "names="),
+            ({"names": names, "decimals": {"lohne": 2}}, "NoColumn", "decimals="),
+        ):
+            self.refuses(lambda: ruzgalt.Store.from_script(bytes(script), options={"t": wrong}), name, word)
+
 
 class Points(Case):
     def test_no_point_is_refused(self):
@@ -330,8 +369,7 @@ class Changes(Case):
             made.update("t", "2024-01-10", "2024-01-11", {"price": value}, {"k": "a"})
             self.assertEqual(made.at("t", "2024-01-10")["price"].tolist()[-1], 3.25)
 
-    def test_a_word_of_the_language_is_no_name(self):
-        self.refuses(lambda: store(frame(where=[1, 2])), "BadName", "'where'", "a word of the language", "'where_'")
+    def test_a_word_of_the_language_is_no_name_of_a_table(self):
         self.refuses(lambda: store(frame(), name="on"), "BadName", "'on'", "a word of the language")
 
     def test_what_is_no_name_is_told_by_its_type(self):
