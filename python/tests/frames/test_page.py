@@ -80,11 +80,20 @@ class Page(unittest.TestCase):
         left, right = frame(k=["a", "b"]), frame(k=["b", "b"])
         self.tries("The calls", {
             "`join(left, right, on=..)`": lambda: ruzgalt.join(left, right, on="k")["k"].tolist() == ["b"],
+            '`join(.., how="left")`': lambda: [
+                len(ruzgalt.join(left, right, on="k", how=how)) for how in ("left", "right", "outer")
+            ] == [2, 2, 3],
             "`anti(left, right, on=..)`": lambda: ruzgalt.anti(left, right, on="k").index.tolist() == [0],
             '`agg(frame, "sum", COLUMN, by=..)`': lambda: [
                 ruzgalt.agg(frame(x=[3, 4]), name, *column).iloc[:, -1].tolist()
                 for name, column in (("count", ()), ("sum", "x"), ("min", "x"), ("max", "x"))
             ] == [[1], [3, 4], [3, 4], [3, 4]],
+            '`agg(frame, {"cents": ["sum", "max"], "hours": "mean"}, by=..)`': lambda: list(
+                ruzgalt.agg(frame(x=[3, 4], y=[1, 2]), {"x": ["sum", "max"], "y": "mean"})
+            ) == ["from", "to", "sum_x", "max_x", "mean_y"],
+            "`at(frame, POINT)`, `during(frame, START, END)`": lambda: (
+                ruzgalt.at(left, "2024-01-01").index.tolist(), len(ruzgalt.during(left, "2024-01-01", None)),
+            ) == ([0], 2),
             "`dip(frame)`": lambda: (lambda parts: (
                 parts.tolist(), parts.count, str(parts.instant),
             ))(ruzgalt.dip(left)) == ([0, 0], 1, "2024-01-01 00:00:00"),
