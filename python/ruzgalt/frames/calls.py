@@ -7,12 +7,12 @@ from typing import TYPE_CHECKING, Any, Mapping, Optional, Union, overload
 
 import pandas as pd
 
-from ruzgalt.frames import division, groups, measures, pairs
+from ruzgalt.frames import division, groups, intervals, measures, pairs
 from ruzgalt.frames.checks import are_spread
 from ruzgalt.frames.division import Division
 from ruzgalt.frames.errors import Refused
 from ruzgalt.frames.options import (
-    FLOAT, INNER, NO_DECIMALS, PERIOD, SUFFIXES, WORKERS, Functions, Names, PairOfNames, PairOfSuffixes, options_of,
+    FLOAT, INNER, NO_DECIMALS, PERIOD, SUFFIXES, WORKERS, Functions, Names, PeriodNames, PairOfSuffixes, options_of,
 )
 
 if TYPE_CHECKING:
@@ -21,14 +21,14 @@ if TYPE_CHECKING:
 
 @overload
 def join(left: pd.DataFrame, right: pd.DataFrame, on: Names = ..., *, left_on: Names = ..., right_on: Names = ...,
-         how: str = ..., period: PairOfNames = ..., right_period: Optional[PairOfNames] = ..., open_end: bool = ...,
+         how: str = ..., period: PeriodNames = ..., right_period: Optional[PeriodNames] = ..., open_end: bool = ...,
          last_day: bool = ..., decimals: Mapping[Any, int] = ..., suffixes: PairOfSuffixes = ..., labels: bool = ...,
          points_as: Optional[str] = ..., workers: int = ..., parts: Optional[int] = ...) -> pd.DataFrame: ...
 
 
 @overload
 def join(left: dd.DataFrame, right: Union[dd.DataFrame, pd.DataFrame], on: Names = ..., *, left_on: Names = ...,
-         right_on: Names = ..., how: str = ..., period: PairOfNames = ..., right_period: Optional[PairOfNames] = ...,
+         right_on: Names = ..., how: str = ..., period: PeriodNames = ..., right_period: Optional[PeriodNames] = ...,
          open_end: bool = ..., last_day: bool = ..., decimals: Mapping[Any, int] = ..., suffixes: PairOfSuffixes = ...,
          labels: bool = ..., points_as: Optional[str] = ..., workers: int = ...,
          parts: Optional[int] = ...) -> dd.DataFrame: ...
@@ -36,13 +36,13 @@ def join(left: dd.DataFrame, right: Union[dd.DataFrame, pd.DataFrame], on: Names
 
 @overload
 def join(left: pd.DataFrame, right: dd.DataFrame, on: Names = ..., *, left_on: Names = ..., right_on: Names = ...,
-         how: str = ..., period: PairOfNames = ..., right_period: Optional[PairOfNames] = ..., open_end: bool = ...,
+         how: str = ..., period: PeriodNames = ..., right_period: Optional[PeriodNames] = ..., open_end: bool = ...,
          last_day: bool = ..., decimals: Mapping[Any, int] = ..., suffixes: PairOfSuffixes = ..., labels: bool = ...,
          points_as: Optional[str] = ..., workers: int = ..., parts: Optional[int] = ...) -> dd.DataFrame: ...
 
 
 def join(left: Any, right: Any, on: Names = None, *, left_on: Names = None, right_on: Names = None,
-         how: str = INNER, period: PairOfNames = PERIOD, right_period: Optional[PairOfNames] = None,
+         how: str = INNER, period: PeriodNames = PERIOD, right_period: Optional[PeriodNames] = None,
          open_end: bool = False, last_day: bool = False, decimals: Mapping[Any, int] = NO_DECIMALS,
          suffixes: PairOfSuffixes = SUFFIXES, labels: bool = False, points_as: Optional[str] = None,
          workers: int = WORKERS, parts: Optional[int] = None) -> Any:
@@ -59,9 +59,9 @@ def join(left: Any, right: Any, on: Names = None, *, left_on: Names = None, righ
     how : str, default "inner"
         inner has the pairs; left has the left rows too, each for as long as no right row meets it, with missing cells
         in the right columns; right has the right rows so, and outer both.
-    period : pair of names, default ("from", "to")
-        The columns of a row's start and of its end, the first point behind it.
-    right_period : pair of names, optional
+    period : pair of names, or name, default ("from", "to")
+        The columns of a row's start and of its end, the first point behind it; or one of intervals.
+    right_period : pair of names, or name, optional
         The same of the right frame, where they are others.
     open_end : bool, default False
         A missing end stands for 9999-12-31, and comes back as missing.
@@ -125,6 +125,7 @@ def join(left: Any, right: Any, on: Names = None, *, left_on: Names = None, righ
         parts=parts,
     )
     if are_spread(left=left, right=right):
+        intervals.refuse_spread(options.period, options.other_period)
         from ruzgalt.frames import spread
         return spread.paired(pairs.join_part, left, right, on, options)
     return pairs.join(left, right, on, options)
@@ -132,27 +133,27 @@ def join(left: Any, right: Any, on: Names = None, *, left_on: Names = None, righ
 
 @overload
 def anti(left: pd.DataFrame, right: pd.DataFrame, on: Names = ..., *, left_on: Names = ..., right_on: Names = ...,
-         period: PairOfNames = ..., right_period: Optional[PairOfNames] = ..., open_end: bool = ...,
+         period: PeriodNames = ..., right_period: Optional[PeriodNames] = ..., open_end: bool = ...,
          last_day: bool = ..., decimals: Mapping[Any, int] = ..., points_as: Optional[str] = ..., workers: int = ...,
          parts: Optional[int] = ...) -> pd.DataFrame: ...
 
 
 @overload
 def anti(left: dd.DataFrame, right: Union[dd.DataFrame, pd.DataFrame], on: Names = ..., *, left_on: Names = ...,
-         right_on: Names = ..., period: PairOfNames = ..., right_period: Optional[PairOfNames] = ...,
+         right_on: Names = ..., period: PeriodNames = ..., right_period: Optional[PeriodNames] = ...,
          open_end: bool = ..., last_day: bool = ..., decimals: Mapping[Any, int] = ..., points_as: Optional[str] = ...,
          workers: int = ..., parts: Optional[int] = ...) -> dd.DataFrame: ...
 
 
 @overload
 def anti(left: pd.DataFrame, right: dd.DataFrame, on: Names = ..., *, left_on: Names = ..., right_on: Names = ...,
-         period: PairOfNames = ..., right_period: Optional[PairOfNames] = ..., open_end: bool = ...,
+         period: PeriodNames = ..., right_period: Optional[PeriodNames] = ..., open_end: bool = ...,
          last_day: bool = ..., decimals: Mapping[Any, int] = ..., points_as: Optional[str] = ..., workers: int = ...,
          parts: Optional[int] = ...) -> dd.DataFrame: ...
 
 
 def anti(left: Any, right: Any, on: Names = None, *, left_on: Names = None, right_on: Names = None,
-         period: PairOfNames = PERIOD, right_period: Optional[PairOfNames] = None, open_end: bool = False,
+         period: PeriodNames = PERIOD, right_period: Optional[PeriodNames] = None, open_end: bool = False,
          last_day: bool = False, decimals: Mapping[Any, int] = NO_DECIMALS, points_as: Optional[str] = None,
          workers: int = WORKERS, parts: Optional[int] = None) -> Any:
     """The left rows, each for as long as no right row holds that is equal in the columns `on`.
@@ -165,9 +166,9 @@ def anti(left: Any, right: Any, on: Names = None, *, left_on: Names = None, righ
         Columns of both frames that are to be equal. `on=[]` says that each row may meet each.
     left_on, right_on : name or list of names, optional
         The compared columns in place of `on`, where the two frames have different names for them.
-    period : pair of names, default ("from", "to")
-        The columns of a row's start and of its end, the first point behind it.
-    right_period : pair of names, optional
+    period : pair of names, or name, default ("from", "to")
+        The columns of a row's start and of its end, the first point behind it; or one of intervals.
+    right_period : pair of names, or name, optional
         The same of the right frame, where they are others.
     open_end : bool, default False
         A missing end stands for 9999-12-31, and comes back as missing.
@@ -216,6 +217,7 @@ def anti(left: Any, right: Any, on: Names = None, *, left_on: Names = None, righ
         last_day=last_day, decimals=decimals, points_as=points_as, workers=workers, parts=parts,
     )
     if are_spread(left=left, right=right):
+        intervals.refuse_spread(options.period, options.other_period)
         from ruzgalt.frames import spread
         return spread.paired(pairs.anti_part, left, right, on, options)
     return pairs.anti(left, right, on, options)
@@ -223,18 +225,18 @@ def anti(left: Any, right: Any, on: Names = None, *, left_on: Names = None, righ
 
 @overload
 def agg(frame: pd.DataFrame, function: Functions, column: Any = ..., *, by: Names = ..., mean_as: str = ...,
-        period: PairOfNames = ..., open_end: bool = ..., last_day: bool = ..., decimals: Mapping[Any, int] = ...,
+        period: PeriodNames = ..., open_end: bool = ..., last_day: bool = ..., decimals: Mapping[Any, int] = ...,
         points_as: Optional[str] = ..., workers: int = ..., parts: Optional[int] = ...) -> pd.DataFrame: ...
 
 
 @overload
 def agg(frame: dd.DataFrame, function: Functions, column: Any = ..., *, by: Names = ..., mean_as: str = ...,
-        period: PairOfNames = ..., open_end: bool = ..., last_day: bool = ..., decimals: Mapping[Any, int] = ...,
+        period: PeriodNames = ..., open_end: bool = ..., last_day: bool = ..., decimals: Mapping[Any, int] = ...,
         points_as: Optional[str] = ..., workers: int = ..., parts: Optional[int] = ...) -> dd.DataFrame: ...
 
 
 def agg(frame: Any, function: Functions, column: Any = None, *, by: Names = None, mean_as: str = FLOAT,
-        period: PairOfNames = PERIOD, open_end: bool = False, last_day: bool = False,
+        period: PeriodNames = PERIOD, open_end: bool = False, last_day: bool = False,
         decimals: Mapping[Any, int] = NO_DECIMALS, points_as: Optional[str] = None, workers: int = WORKERS,
         parts: Optional[int] = None) -> Any:
     """count, sum, min, max or mean of the rows that hold, for each period in which it stays the same, by groups.
@@ -252,8 +254,8 @@ def agg(frame: Any, function: Functions, column: Any = None, *, by: Names = None
         Columns whose equal values are a group; without any all rows are one.
     mean_as : str, default "float"
         As what a mean comes: the nearest float, the Fraction that it is, or the Decimal as Decimals divide.
-    period : pair of names, default ("from", "to")
-        The columns of a row's start and of its end, the first point behind it.
+    period : pair of names, or name, default ("from", "to")
+        The columns of a row's start and of its end, the first point behind it; or one of intervals.
     open_end : bool, default False
         A missing end stands for 9999-12-31, and comes back as missing.
     last_day : bool, default False
@@ -314,13 +316,14 @@ def agg(frame: Any, function: Functions, column: Any = None, *, by: Names = None
     )
     told = measures.of_call(function, column)
     if are_spread(frame=frame):
+        intervals.refuse_spread(options.period)
         from ruzgalt.frames import slices, spread
         asked = spread.agg if options.by else slices.agg
         return asked(frame, told, options)
     return groups.agg(frame, told, options)
 
 
-def dip(frame: pd.DataFrame, *, period: PairOfNames = PERIOD, open_end: bool = False, last_day: bool = False,
+def dip(frame: pd.DataFrame, *, period: PeriodNames = PERIOD, open_end: bool = False, last_day: bool = False,
         workers: int = WORKERS) -> Division[pd.Series]:
     """The fewest parts into which the rows can be divided so that no two of a part hold at one time.
 
@@ -328,8 +331,8 @@ def dip(frame: pd.DataFrame, *, period: PairOfNames = PERIOD, open_end: bool = F
     ----------
     frame : DataFrame
         A frame of pandas, of at most 1,000,000 rows.
-    period : pair of names, default ("from", "to")
-        The columns of a row's start and of its end, the first point behind it.
+    period : pair of names, or name, default ("from", "to")
+        The columns of a row's start and of its end, the first point behind it; or one of intervals.
     open_end : bool, default False
         A missing end stands for 9999-12-31, and comes back as missing.
     last_day : bool, default False

@@ -14,7 +14,6 @@ from ruzgalt.frames.errors import Refused
 from ruzgalt.frames.named import same
 from ruzgalt.script import naming
 
-Pair = Tuple[Any, Any]
 Suffixes = Tuple[Optional[str], Optional[str]]
 # What is shown as it was given, up to so many characters, in a list too; of all else its type.
 SHOWN, LONGEST = (str, bytes, int, float, np.generic, type(None)), 60
@@ -83,12 +82,15 @@ def names(option: str, given: Any) -> Optional[Tuple[Any, ...]]:
     return tuple(map(same, told))
 
 
-def pair(option: str, given: Any) -> Pair:
-    """Two different names."""
+def period(option: str, given: Any) -> Tuple[Any, ...]:
+    """Two different names, or a name by itself."""
+    if is_name(given) and given is not None and not isinstance(given, tuple):
+        return (same(given),)
     told = tuple(map(same, given)) if isinstance(given, (list, tuple)) else ()
     if len(told) != 2 or not all(map(is_name, told)) or naming.twice(told):
-        raise wrong(option, given, "two different names are wanted, of the column of starts and of that of ends")
-    return told[0], told[1]
+        wanted = "two different names are wanted, of the column of starts and of that of ends, or one of intervals"
+        raise wrong(option, given, wanted)
+    return told
 
 
 def suffixes(option: str, given: Any) -> Suffixes:

@@ -106,7 +106,7 @@ class RowEnds(Ends):
 
 def of_ends(side: Side, key: Sequence[Values], name: Any, is_last_day: bool) -> None:
     """Tells of ends that look like last days where they aren't taken for such, or the other way round."""
-    if side.kind.is_long:
+    if side.kind.is_long or side.has_intervals:
         return
     walls = walls_of(side.end, side)
     of_last_minutes(walls, name)

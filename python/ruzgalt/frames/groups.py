@@ -24,7 +24,7 @@ def agg(frame: Any, asked: Measures, options: Options) -> Any:
     doubts.of_decimals(options.decimals, frame)
     by = side.columns[:len(options.by or ())]
     doubts.of_groups(by)
-    doubts.of_ends(side, by, options.period[1], options.last_day)
+    doubts.of_ends(side, by, options.period[-1], options.last_day)
     return counted(frame, side, asked, options)
 
 

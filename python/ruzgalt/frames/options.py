@@ -5,7 +5,7 @@ from dataclasses import dataclass, field
 from types import MappingProxyType
 from typing import Any, Callable, Dict, List, Mapping, Optional, Sequence, Tuple, Union
 
-from ruzgalt.frames import checks, kinds
+from ruzgalt.frames import checks, intervals, kinds
 from ruzgalt.frames.checks import Suffixes
 from ruzgalt.frames.errors import Refused
 from ruzgalt.frames.kinds import Kind
@@ -15,11 +15,11 @@ from ruzgalt.frames.sides import Period
 # As a call takes them, and as they are worked with.
 Names = Union[str, int, Sequence[Any], None]
 Functions = Union[str, Mapping[Any, Union[str, Sequence[str]]]]
-PairOfNames = Union[Tuple[Any, Any], List[Any]]
+PeriodNames = Union[str, int, Tuple[Any, Any], List[Any]]
 PairOfSuffixes = Union[Suffixes, List[Optional[str]]]
 Told = Optional[Tuple[Any, ...]]
 # What a call has where nothing else is given.
-PERIOD: Period = ("from", "to")
+PERIOD: Tuple[Any, Any] = ("from", "to")
 SUFFIXES: Suffixes = ("_left", "_right")
 NO_DECIMALS: Mapping[Any, int] = MappingProxyType({})
 WORKERS = 4
@@ -62,9 +62,11 @@ class Options:
     def other_period(self) -> Period:
         return self.right_period or self.period
 
-    def kind_of(self, *given: Kind) -> Kind:
-        """The kind of the answer's points, of frames of these. Raises Refused."""
+    def kind_of(self, period: Period, *given: Kind) -> Kind:
+        """The kind of the answer's points, of frames of these, in this period of its. Raises Refused."""
         joint = kinds.joint_kind(*given)
+        if intervals.are_in(period):
+            return intervals.kind_of(self.points_as, joint, given[0])
         return joint if self.points_as is None else joint.asked_as(self.points_as)
 
 
@@ -91,7 +93,7 @@ def kind_named(option: str, given: Any) -> str:
 # How each option is looked at.
 CHECKS: Dict[str, Callable[[str, Any], Any]] = {
     **dict.fromkeys(("left_on", "right_on", "by"), checks.names),
-    **dict.fromkeys(("period", "right_period"), checks.pair),
+    **dict.fromkeys(("period", "right_period"), checks.period),
     **dict.fromkeys(("open_end", "last_day", "labels"), checks.flag),
     "decimals": checks.digits, "suffixes": checks.suffixes, "points_as": kind_named,
     "workers": workers_of, "parts": parts_of, "how": how_named, "mean_as": mean_named,
@@ -103,7 +105,20 @@ OPTIONAL = ("left_on", "right_on", "by", "right_period", "points_as", "parts")
 def options_of(**given: Any) -> Options:
     """Raises Refused where a value is none of its option's. Which options there are, the calls' signatures say."""
     there = {name: value for name, value in given.items() if value is not None or name not in OPTIONAL}
-    return Options(**{name: CHECKS[name](name, value) for name, value in there.items()})
+    options = Options(**{name: CHECKS[name](name, value) for name, value in there.items()})
+    refuse_beside_intervals(options)
+    return options
+
+
+def refuse_beside_intervals(options: Options) -> None:
+    """Raises Refused for options that are of two columns, where a period is one of intervals."""
+    are_some = [intervals.are_in(period) for period in (options.period, options.other_period)]
+    if options.last_day and any(are_some):
+        told = "last_day=True: intervals that are closed on the left end before their right side"
+        raise Refused("BadCommand", f"{told}; {intervals.BY_SIDES}ends may be last days")
+    if options.open_end and are_some[0]:
+        told = "open_end=True: intervals have no missing end"
+        raise Refused("BadCommand", f"{told}; {intervals.BY_SIDES}ends may be missing")
 
 
 def compared(on: Names, options: Options) -> Tuple[List[Any], List[Any]]:

@@ -9,7 +9,7 @@ from typing import Any, Iterable, List, Sequence
 
 import numpy as np
 
-from ruzgalt.frames import answer, doubts, missing, points, sides, split, values
+from ruzgalt.frames import answer, doubts, intervals, missing, points, sides, split, values
 from ruzgalt.frames.answer import Column
 from ruzgalt.frames.arrays import Ints
 from ruzgalt.frames.ask import Found
@@ -110,7 +110,7 @@ def left_over(left: Any, both: Sequence[Side], options: Options) -> Any:
     start, end, places = split.anti(both, options.workers)
     made = with_labels_twice(left).take(places)
     for name, cells in period_of(start, end, both, options, made.index):
-        made.isetitem(place_of(left, name), cells)
+        intervals.with_cells(made, name, cells)
     return made
 
 
@@ -126,7 +126,7 @@ def tell(frames: Sequence[Any], both: Sequence[Side], on: Names, options: Option
     for one, other in zip(*(side.columns for side in both)):
         doubts.of_no_value(one.name, one.texts.cells, other.texts.cells)
     for side, period in zip(both, periods):
-        doubts.of_ends(side, side.columns, period[1], options.last_day)
+        doubts.of_ends(side, side.columns, period[-1], options.last_day)
 
 
 def with_labels_twice(frame: Any) -> Any:
@@ -136,8 +136,7 @@ def with_labels_twice(frame: Any) -> Any:
 
 def columns_at(frame: Any, left_out: Sequence[Any], rows: Ints, is_wide: bool = False) -> Iterable[Column]:
     """The columns but for those left out, each with its cells of these rows, as missing.rows_at has them."""
-    away = [place_of(frame, name) for name in left_out]
-    kept = [place for place in range(len(frame.columns)) if place not in away]
+    kept = [place for place, name in enumerate(names_of(frame)) if name not in left_out]
     taken = missing.rows_at(with_labels_twice(frame).iloc[:, kept], rows, is_wide)
     return [(name, taken.iloc[:, place]) for place, name in enumerate(names_of(taken))]
 
@@ -176,7 +175,7 @@ def refuse_two_kinds(one: Values, other: Values) -> None:
 
 
 def period_of(start: Ints, end: Ints, both: Sequence[Side], options: Options, index: Any = None) -> List[Column]:
-    """The period's two columns of an answer."""
-    kind = options.kind_of(*(side.kind for side in both))
+    """The period's columns of an answer."""
+    kind = options.kind_of(options.period, *(side.kind for side in both))
     cells = points.series_of(start, kind, index), options.form.restored_ends(end, kind, index)
-    return list(zip(options.period, cells))
+    return intervals.columns_of(options.period, *cells)

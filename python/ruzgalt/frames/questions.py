@@ -68,7 +68,8 @@ def listed(asked: Asked, name: str, words: Sequence[str], *kinds: Kind) -> Any:
     """Rows of a table; kinds are those of the points of others that are asked."""
     table = asked.book.known(name)
     cells = asked.block(words, "ipp" + table.readers)
-    columns = Columns([("row_id", next(cells)), *table.period_cells(cells, asked.options.kind_of(table.kind, *kinds))])
+    kind = asked.options.kind_of(table.period, table.kind, *kinds)
+    columns = Columns([("row_id", next(cells)), *table.period_cells(cells, kind)])
     columns.add(table.cells(cells))
     return columns.of_table()
 
@@ -80,7 +81,8 @@ def versions(asked: Asked, word: str, name: str, first: Any, last: Any) -> Any:
     if first > last or (word == "fromto" and first == last):
         raise Refused("BadPeriod", f"{first} to {last}: the first commit comes before the last")
     cells = asked.block([word, name, *numbers], "ippcc" + table.readers)
-    columns = Columns([("row_id", next(cells)), *table.period_cells(cells, asked.options.kind_of(table.kind))])
+    kind = asked.options.kind_of(table.period, table.kind)
+    columns = Columns([("row_id", next(cells)), *table.period_cells(cells, kind)])
     made, closed = next(cells), next(cells)
     columns.add([("sys_from", made), ("sys_to", pd.arrays.IntegerArray(closed, closed < 0)), *table.cells(cells)])
     return columns.of_table()
@@ -90,7 +92,7 @@ def join(asked: Asked, left: str, right: str, on: Any) -> Any:
     one, other = asked.book.known(left), asked.book.known(right)
     words = ["join", left, right, *on_of([one, other], on, asked.options)]
     cells = asked.block(words, "ppii" + one.readers + other.readers)
-    own = one.period_cells(cells, asked.options.kind_of(one.kind, other.kind))
+    own = one.period_cells(cells, asked.options.kind_of(one.period, one.kind, other.kind))
     own += [("left_id", next(cells)), ("right_id", next(cells))]
     sides = [one.cells(cells), other.cells(cells)]
     shared = compared(on, asked.options)[1] if on is not None else []
@@ -148,7 +150,7 @@ def agg(asked: Asked, name: str, function: Any, column: Any) -> Any:
     groups_of, (start, end, *values) = (by_one if is_alone else by_several)(asked, table, told, by)
     doubts.of_groups(coded(one, pd.unique(cells)) for one, cells in zip(by, groups_of))
     columns = Columns([(one.name, one.restored(cells)) for one, cells in zip(by, groups_of)])
-    columns.add(table.period_cells(iter((start, end)), asked.options.kind_of(table.kind)))
+    columns.add(table.period_cells(iter((start, end)), asked.options.kind_of(table.period, table.kind)))
     columns.add(measures.columns_of(values, told, amounts, asked.options.mean_as))
     return columns.frame()
 

@@ -8,7 +8,7 @@ import pandas as pd
 
 from ruzgalt.frames import doubts, instants, sides
 from ruzgalt.frames.checks import are_spread
-from ruzgalt.frames.options import PERIOD, Options, PairOfNames, options_of
+from ruzgalt.frames.options import PERIOD, Options, PeriodNames, options_of
 
 if TYPE_CHECKING:
     import dask.dataframe as dd
@@ -19,7 +19,7 @@ if TYPE_CHECKING:
 Span = Tuple[int, int]
 
 
-def at(frame: Frame, point: Any, *, period: PairOfNames = PERIOD, open_end: bool = False,
+def at(frame: Frame, point: Any, *, period: PeriodNames = PERIOD, open_end: bool = False,
        last_day: bool = False) -> Frame:
     """The rows that hold at a point.
 
@@ -29,8 +29,8 @@ def at(frame: Frame, point: Any, *, period: PairOfNames = PERIOD, open_end: bool
         A frame of pandas or of Dask.
     point : str, date, datetime, Timestamp or Period
         A day is its begin. Where the frame's points have a time zone, one without is what clocks show there.
-    period : pair of names, default ("from", "to")
-        The columns of a row's start and of its end, the first point behind it.
+    period : pair of names, or name, default ("from", "to")
+        The columns of a row's start and of its end, the first point behind it; or one of intervals.
     open_end : bool, default False
         A missing end stands for 9999-12-31, and comes back as missing.
     last_day : bool, default False
@@ -66,7 +66,7 @@ def at(frame: Frame, point: Any, *, period: PairOfNames = PERIOD, open_end: bool
     return held(frame, is_spread, (second, second + 1), options)
 
 
-def during(frame: Frame, start: Any, end: Any, *, period: PairOfNames = PERIOD, open_end: bool = False,
+def during(frame: Frame, start: Any, end: Any, *, period: PeriodNames = PERIOD, open_end: bool = False,
            last_day: bool = False) -> Frame:
     """The rows that hold at some point from `start` on and before `end`.
 
@@ -77,8 +77,8 @@ def during(frame: Frame, start: Any, end: Any, *, period: PairOfNames = PERIOD, 
     start, end : str, date, datetime, Timestamp or Period
         With `last_day` the end is the last day. None as the end is no end: 9999-12-31. Where the frame's points have a
         time zone, one without is what clocks show there.
-    period : pair of names, default ("from", "to")
-        The columns of a row's start and of its end, the first point behind it.
+    period : pair of names, or name, default ("from", "to")
+        The columns of a row's start and of its end, the first point behind it; or one of intervals.
     open_end : bool, default False
         A missing end stands for 9999-12-31, and comes back as missing.
     last_day : bool, default False
@@ -126,7 +126,7 @@ def held(frame: Any, is_spread: bool, span: Span, options: Options) -> Any:
     """The rows that share a second with the span."""
     if is_spread:
         return frame.map_partitions(held_part, span, options, meta=frame._meta)
-    doubts.of_ends(side_of(frame, options), [], options.period[1], options.last_day)
+    doubts.of_ends(side_of(frame, options), [], options.period[-1], options.last_day)
     return held_part(frame, span, options)
 
 

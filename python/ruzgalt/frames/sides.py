@@ -7,7 +7,7 @@ from typing import Any, List, Mapping, Optional, Sequence, Tuple
 
 import numpy as np
 
-from ruzgalt.frames import kinds, values, zones
+from ruzgalt.frames import intervals, kinds, values, zones
 from ruzgalt.frames.arrays import NO_INTS, Ints, Marks
 from ruzgalt.frames.errors import Refused, label_at
 from ruzgalt.frames.kinds import Kind, refuse_two_zones
@@ -15,14 +15,15 @@ from ruzgalt.frames.named import column_of, same
 from ruzgalt.frames.points import Form
 from ruzgalt.frames.values import Values
 
-Period = Tuple[Any, Any]
+# The names of the columns of starts and of ends, or the name of one of intervals.
+Period = Tuple[Any, ...]
 
 
 @dataclass(frozen=True)
 class Side:
     """Rows: the seconds of their starts and of the first points behind them, their values, their places in the frame.
 
-    kind is that of the frame's points; labels is its index.
+    kind is that of the frame's points; labels is its index; has_intervals: its periods are intervals.
     """
 
     start: Ints
@@ -31,6 +32,7 @@ class Side:
     kind: Kind = Kind("S")
     labels: Any = None
     places: Ints = field(default_factory=lambda: NO_INTS)
+    has_intervals: bool = False
 
     def __len__(self) -> int:
         return len(self.start)
@@ -71,14 +73,15 @@ def together(sides: Sequence[Side]) -> Side:
 
 def side_of(frame: Any, names: Sequence[Any], period: Period, form: Form, decimals: Mapping[Any, int]) -> Side:
     """The rows of a DataFrame with the columns of these names. Raises Refused."""
-    starts, ends = (column_of(frame, name) for name in period)
+    starts, ends = intervals.bounds_of(frame, period)
     found = [column_of(frame, name) for name in names]
     start, first = form.starts_of(starts)
     end, last = form.ends_of(ends)
     refuse_two_zones(first, last, ends.name)
     refuse_empty(start >= end, starts, ends)
     columns = [values.values_of(column, decimals.get(same(column.name))) for column in found]
-    return Side(start, end, columns, kinds.joint_kind(first, last), frame.index, np.arange(len(start)))
+    kind = kinds.joint_kind(first, last)
+    return Side(start, end, columns, kind, frame.index, np.arange(len(start)), intervals.are_in(period))
 
 
 def refuse_empty(marked: Marks, starts: Any, ends: Any) -> None:

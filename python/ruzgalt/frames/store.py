@@ -20,7 +20,7 @@ from ruzgalt.frames.divisions import Verdict
 from ruzgalt.frames.errors import Refused, doubt
 from ruzgalt.frames.opening import Given
 from ruzgalt.frames.options import (
-    FLOAT, NO_DECIMALS, PERIOD, SUFFIXES, WORKERS, Functions, Names, PairOfNames, PairOfSuffixes, options_of,
+    FLOAT, NO_DECIMALS, PERIOD, SUFFIXES, WORKERS, Functions, Names, PeriodNames, PairOfSuffixes, options_of,
     workers_of,
 )
 from ruzgalt.frames.questions import Asked
@@ -181,7 +181,7 @@ class Store:
 
     # Changes. Each answers what it did, or within a batch None. It warns of what may not be meant (ruzgalt.Doubt).
 
-    def table(self, name: str, frame: pd.DataFrame, *, period: PairOfNames = PERIOD, key: Names = (),
+    def table(self, name: str, frame: pd.DataFrame, *, period: PeriodNames = PERIOD, key: Names = (),
               open_end: bool = False, last_day: bool = False,
               decimals: Mapping[Any, int] = NO_DECIMALS) -> Optional[Changed]:
         """Makes a table of a frame's columns, but for the period's two, and loads its rows.
@@ -192,8 +192,8 @@ class Store:
             1 to 32 of a to z, 0 to 9 and _, the first a letter.
         frame : DataFrame
             Of pandas, with the period's columns and the table's. Columns have any names.
-        period : pair of names, default ("from", "to")
-            The columns of a row's start and of its end, the first point behind it.
+        period : pair of names, or name, default ("from", "to")
+            The columns of a row's start and of its end, the first point behind it; or one of intervals.
         key : name or list of names, default none
             Columns of which no two rows that are equal in all hold at one point.
         open_end : bool, default False

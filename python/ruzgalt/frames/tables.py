@@ -11,7 +11,7 @@ from typing import Any, Iterable, Iterator, List, Mapping, Sequence, Tuple
 import numpy as np
 import pandas as pd
 
-from ruzgalt.frames import checks, instants, kinds, points, sides, values
+from ruzgalt.frames import checks, instants, intervals, kinds, points, sides, values
 from ruzgalt.frames.arrays import Cells, Ints
 from ruzgalt.frames.errors import Refused
 from ruzgalt.frames.kinds import WITHOUT_ZONE, Kind
@@ -151,7 +151,7 @@ class Table:
     def period_cells(self, cells: Iterator[Cells], kind: Kind) -> List[Tuple[Any, Any]]:
         """The next two columns of an answer as the period, of points of that kind."""
         start, end = next(cells), next(cells)
-        return list(zip(self.period, (points.series_of(start, kind), self.form.restored_ends(end, kind))))
+        return intervals.columns_of(self.period, points.series_of(start, kind), self.form.restored_ends(end, kind))
 
 
 def refuse_value(column: Values, value: Any) -> None:

@@ -13,7 +13,7 @@ DAYS = pd.to_datetime
 FRAME = pd.DataFrame({"from": DAYS(["2024-01-01"]), "to": DAYS(["2024-02-01"]), "k": ["a"], "x": [1]})
 NO_FLAGS = ("no", "", 1, 0, None, (True, False), [], np.int64(1))
 NO_NAMES = (pd.Index(["k"]), {"k": 1}, {"k"}, FRAME["k"], FRAME[["k"]], (one for one in "k"), True, [["k"]])
-NO_PAIRS = ("ab", ("from",), ("from", "to", "k"), ["from", "from"], pd.Index(["from", "to"]), 5)
+NO_PAIRS = (True, ("from",), ("from", "to", "k"), ["from", "from"], pd.Index(["from", "to"]), {"from": "to"})
 WRONG = {
     "on": NO_NAMES, "left_on": NO_NAMES, "right_on": NO_NAMES, "by": NO_NAMES, "period": (*NO_PAIRS, None),
     "right_period": NO_PAIRS, "open_end": NO_FLAGS, "last_day": NO_FLAGS, "labels": NO_FLAGS,
