@@ -13,8 +13,8 @@ from ruzgalt.frames.errors import Refused
 from ruzgalt.frames.named import names_of, same
 from ruzgalt.frames.options import Names, Options
 from ruzgalt.frames.script import Command
-from ruzgalt.frames.sides import Side, side_of
-from ruzgalt.frames.tables import Table, table_of
+from ruzgalt.frames.sides import Side
+from ruzgalt.frames.tables import Table, side_of, table_of
 from ruzgalt.frames.values import Values
 from ruzgalt.script import forms
 
@@ -89,7 +89,7 @@ def making(name: Any, frame: Any, key: Names, options: Options) -> Change:
         told = "it is a word of the language" if name in forms.RESERVED else REMEDIES["BadName"]
         raise Refused("BadName", f"{checks.shown(name)} is no name of a table: {told}")
     names = [column for column in names_of(frame) if column not in options.period]
-    side = side_of(frame, names, options.period, options.form, options.decimals)
+    side = side_of(frame, names, options)
     doubts.of_decimals(options.decimals, frame)
     made = replace(table_of(name, side, checks.names("key", key) or (), options), kind=side.kind)
     warn_of_ends(made, side)

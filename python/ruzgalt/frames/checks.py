@@ -107,6 +107,13 @@ def digits(option: str, given: Any) -> Mapping[Any, int]:
     return {same(one): whole(f"{option}[{one!r}]", count, 0, MOST_DIGITS) for one, count in given.items()}
 
 
+def stand_ins(option: str, given: Any) -> Mapping[Any, Any]:
+    """What stands for missing cells of columns; whether a column can have it, its kind says."""
+    if not isinstance(given, Mapping) or not all(map(is_name, given)) or any(one is None for one in given.values()):
+        raise wrong(option, given, "a dict of columns with what stands for missing cells is wanted, as {'note': '?'}")
+    return {same(one): value for one, value in given.items()}
+
+
 def frame(option: str, given: Any) -> Any:
     """A frame of pandas."""
     if not isinstance(given, pd.DataFrame):

@@ -21,7 +21,7 @@ from ruzgalt.frames.named import same
 from ruzgalt.frames.options import OF_TABLE, options_of
 from ruzgalt.frames.script import Command, Script
 from ruzgalt.frames.sides import Side
-from ruzgalt.frames.tables import Table, coded, told_of
+from ruzgalt.frames.tables import Table, coded, refuse_stand_ins, told_of
 from ruzgalt.frames.values import Texts, Values
 from ruzgalt.script import commands, naming
 from ruzgalt.script.reader import Block, Source, long_fields
@@ -105,7 +105,10 @@ def table_of(schema: Schema, given: Mapping[str, Any]) -> Table:
         if kinds.get(name) is not Kind.INT:
             raise Refused("NoColumn", f"decimals= is of columns of numbers; {schema.name} has no such one", name)
     columns = {name: column_of(name, kind, options.decimals.get(name)) for name, kind in kinds.items()}
-    return Table(schema.name, columns, [names[place] for place in schema.key], options, dict(zip(names, schema.names)))
+    key = [names[place] for place in schema.key]
+    made = Table(schema.name, columns, key, options, dict(zip(names, schema.names)))
+    refuse_stand_ins(made)
+    return made
 
 
 def names_of(schema: Schema, given: Any) -> List[Any]:

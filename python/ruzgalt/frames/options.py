@@ -22,6 +22,7 @@ Told = Optional[Tuple[Any, ...]]
 PERIOD: Tuple[Any, Any] = ("from", "to")
 SUFFIXES: Suffixes = ("_left", "_right")
 NO_DECIMALS: Mapping[Any, int] = MappingProxyType({})
+NO_STAND_INS: Mapping[Any, Any] = MappingProxyType({})
 WORKERS = 4
 # Whose rows a join has: those of pairs, and the left ones, the right ones or all that are in none.
 HOWS = ("inner", "left", "right", "outer")
@@ -31,7 +32,7 @@ MEANS = ("float", "Fraction", "Decimal")
 FLOAT = MEANS[0]
 MOST_WORKERS = 64
 # What may be given of a table's frames.
-OF_TABLE = ("period", "open_end", "last_day", "decimals")
+OF_TABLE = ("period", "open_end", "last_day", "decimals", "missing")
 
 
 @dataclass(frozen=True)
@@ -46,6 +47,7 @@ class Options:
     open_end: bool = False
     last_day: bool = False
     decimals: Mapping[Any, int] = field(default_factory=dict)
+    missing: Mapping[Any, Any] = field(default_factory=dict)
     suffixes: Suffixes = SUFFIXES
     how: str = INNER
     mean_as: str = FLOAT
@@ -95,7 +97,7 @@ CHECKS: Dict[str, Callable[[str, Any], Any]] = {
     **dict.fromkeys(("left_on", "right_on", "by"), checks.names),
     **dict.fromkeys(("period", "right_period"), checks.period),
     **dict.fromkeys(("open_end", "last_day", "labels"), checks.flag),
-    "decimals": checks.digits, "suffixes": checks.suffixes, "points_as": kind_named,
+    "decimals": checks.digits, "missing": checks.stand_ins, "suffixes": checks.suffixes, "points_as": kind_named,
     "workers": workers_of, "parts": parts_of, "how": how_named, "mean_as": mean_named,
 }
 # Those that may be None, as where they aren't given.

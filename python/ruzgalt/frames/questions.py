@@ -110,8 +110,10 @@ def on_of(tables: Sequence[Table], on: Any, options: Options) -> List[str]:
             raise checks.wrong("on", on, wanted)
     for pair in zip(*([table.column(name) for name in own] for table, own in zip(tables, names))):
         pairs.refuse_two_kinds(*pair)
-    told = [table.word(name) for pair in zip(*names) for table, name in zip(tables, pair)]
-    return ["on", *told] if told else []
+    told = [(table, name) for pair in zip(*names) for table, name in zip(tables, pair)]
+    for table, name in told:
+        table.refuse_missing(name, "would meet that of another row")
+    return ["on", *(table.word(name) for table, name in told)] if told else []
 
 
 def warn_of_pairs(asked: Asked, tables: Sequence[Table], on: Any) -> None:
@@ -143,13 +145,15 @@ def agg(asked: Asked, name: str, function: Any, column: Any) -> Any:
     by = [table.column(one) for one in asked.options.by or ()]
     for one in told:
         if one.is_of_column:
-            table.column(one.column)
+            table.refuse_missing(one.column, "would be counted as a value")
     amounts = {one: table.column(one) for one in measures.amounts_of(told)}
     measures.refuse_texts(told, amounts)
     is_alone = len(by) < 2 and len(told) == 1 and told[0].function != "mean"
     groups_of, (start, end, *values) = (by_one if is_alone else by_several)(asked, table, told, by)
-    doubts.of_groups(coded(one, pd.unique(cells)) for one, cells in zip(by, groups_of))
-    columns = Columns([(one.name, one.restored(cells)) for one, cells in zip(by, groups_of)])
+    doubts.of_groups(
+        coded(one, pd.unique(cells)) for one, cells in zip(by, groups_of) if table.stand_in(one.name) is None
+    )
+    columns = Columns([(one.name, table.restored(one, cells)) for one, cells in zip(by, groups_of)])
     columns.add(table.period_cells(iter((start, end)), asked.options.kind_of(table.period, table.kind)))
     columns.add(measures.columns_of(values, told, amounts, asked.options.mean_as))
     return columns.frame()

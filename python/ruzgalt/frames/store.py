@@ -20,8 +20,8 @@ from ruzgalt.frames.divisions import Verdict
 from ruzgalt.frames.errors import Refused, doubt
 from ruzgalt.frames.opening import Given
 from ruzgalt.frames.options import (
-    FLOAT, NO_DECIMALS, PERIOD, SUFFIXES, WORKERS, Functions, Names, PeriodNames, PairOfSuffixes, options_of,
-    workers_of,
+    FLOAT, NO_DECIMALS, NO_STAND_INS, PERIOD, SUFFIXES, WORKERS, Functions, Names, PairOfSuffixes, PeriodNames,
+    options_of, workers_of,
 )
 from ruzgalt.frames.questions import Asked
 from ruzgalt.frames.script import Script
@@ -86,8 +86,8 @@ class Store:
         workers : int, default 4
             Threads of the program, 1 to 64.
         options : dict, optional
-            Of tables by their names, a dict of what `table` takes: period, open_end, last_day, decimals. Numbers
-            become Decimals by decimals. `names` are as a Script has them of a table, for one that comes from a file.
+            Of tables by their names, a dict of what `table` takes: period, open_end, last_day, decimals, missing.
+            Numbers become Decimals by decimals. `names` are as a Script has them of a table, for one from a file.
 
         Returns
         -------
@@ -182,8 +182,8 @@ class Store:
     # Changes. Each answers what it did, or within a batch None. It warns of what may not be meant (ruzgalt.Doubt).
 
     def table(self, name: str, frame: pd.DataFrame, *, period: PeriodNames = PERIOD, key: Names = (),
-              open_end: bool = False, last_day: bool = False,
-              decimals: Mapping[Any, int] = NO_DECIMALS) -> Optional[Changed]:
+              open_end: bool = False, last_day: bool = False, decimals: Mapping[Any, int] = NO_DECIMALS,
+              missing: Mapping[Any, Any] = NO_STAND_INS) -> Optional[Changed]:
         """Makes a table of a frame's columns, but for the period's two, and loads its rows.
 
         Parameters
@@ -202,6 +202,9 @@ class Store:
             Of each frame of this table, and of each change, an end is the last day. No point has a time then.
         decimals : dict, optional
             How many decimals a column of floats or Decimals has, as `{"hours": 2}`.
+        missing : dict, optional
+            What stands in the store for a missing cell of a column, as `{"note": "?"}`: a value that no cell has. It
+            comes back as missing; such a column isn't compared or added up.
 
         Returns
         -------
@@ -225,7 +228,8 @@ class Store:
         >>> store.table("centre", pay[["from", "to", "person"]].assign(centre="lab"), key=["person"])
         commit 5: 2 added, 0 closed
         """
-        of_table = options_of(period=period, open_end=open_end, last_day=last_day, decimals=decimals)
+        given = {"open_end": open_end, "last_day": last_day, "decimals": decimals, "missing": missing}
+        of_table = options_of(period=period, **given)
         return self.change(changes.making(name, checks.frame("frame", frame), key, of_table))
 
     def load(self, name: str, frame: pd.DataFrame) -> Optional[Changed]:

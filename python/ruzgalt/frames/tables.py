@@ -5,20 +5,17 @@ A column of a frame may have any name, and has one of the language in the store:
 from __future__ import annotations
 
 from dataclasses import dataclass, field, replace
-from decimal import Decimal
-from typing import Any, Iterable, Iterator, List, Mapping, Sequence, Tuple
+from typing import Any, Iterable, Iterator, List, Mapping, Optional, Sequence, Tuple
 
-import numpy as np
-import pandas as pd
-
-from ruzgalt.frames import checks, instants, intervals, kinds, points, sides, values
+from ruzgalt.frames import checks, instants, intervals, kinds, points, sides, singles, stand_ins, values
 from ruzgalt.frames.arrays import Cells, Ints
 from ruzgalt.frames.errors import Refused
 from ruzgalt.frames.kinds import WITHOUT_ZONE, Kind
-from ruzgalt.frames.named import names_of, same
+from ruzgalt.frames.named import column_of, names_of, same
 from ruzgalt.frames.options import Options
 from ruzgalt.frames.points import Form
 from ruzgalt.frames.sides import Period, Side
+from ruzgalt.frames.singles import Cell
 from ruzgalt.frames.values import Texts, Values
 from ruzgalt.script import forms, naming
 
@@ -45,8 +42,11 @@ class Table:
         columns = {same(name): replace(one, name=same(name)) for name, one in state["columns"].items()}
         words = {same(name): word for name, word in state["words"].items()}
         given = state["options"]
-        decimals = {same(name): digits for name, digits in given.decimals.items()}
-        options = replace(given, period=tuple(map(same, given.period)), decimals=decimals)
+        decimals, missing = (
+            {same(name): told for name, told in one.items()} for one in (given.decimals, given.missing)
+        )
+        period = tuple(map(same, given.period))
+        options = replace(given, period=period, decimals=decimals, missing=missing)
         own = {"columns": columns, "words": words, "key": list(map(same, state["key"])), "options": options}
         self.__dict__.update({**state, **own})
 
@@ -84,7 +84,7 @@ class Table:
         for name in names_of(frame):
             if name not in self.period:
                 self.column(name)
-        side = sides.side_of(frame, names, self.period, self.form, self.options.decimals)
+        side = side_of(frame, names, self.options)
         refuse_points(side, self.period)
         for one in side.columns:
             self.refuse_kind(one)
@@ -117,16 +117,24 @@ class Table:
 
     def field_of(self, name: Any, value: Any) -> str:
         """A value of an update or a condition, looked at as one of a frame. Raises Refused."""
-        column = self.column(name)
-        refuse_value(column, value)
-        try:
-            told = values.values_of(series_of(column, value), column.digits)
-        except Refused as error:
-            raise Refused(error.name, error.reason, name) from None
-        except OverflowError:
-            bounds = f"numbers are of 64 bits, from {values.LEAST} to {values.GREATEST}"
-            raise Refused("BadNumber", f"{checks.shown(value)}: {bounds}", name) from None
-        return values.fields_of(told)[0] if told.kind == "int" else told.texts.cells[0]
+        column, stand_in = self.column(name), self.stand_in(name)
+        if stand_in is not None and values.is_missing(value):
+            return str(stand_in)
+        cell = singles.cell_of(column, value)
+        if cell == stand_in:
+            raise Refused("BadCommand", f"missing= has {checks.shown(value)} for what is missing: None is it", name)
+        return str(cell)
+
+    def stand_in(self, name: Any) -> Optional[Cell]:
+        """What stands for a missing cell of the column."""
+        given = self.options.missing.get(same(name))
+        return None if given is None else stand_ins.of_column(self.column(name), given)
+
+    def refuse_missing(self, name: Any, doing: str) -> None:
+        """Raises Refused where the column isn't there, or may have missing cells, which this can't be done with."""
+        if self.stand_in(name) is not None:
+            remedy = "rows() and .dropna() leave rows without a value out, and ruzgalt.join, anti and agg take them"
+            raise Refused("WrongKind", f"it has missing cells, and what stands for one {doing}; {remedy}", name)
 
     # What the table's points become.
 
@@ -146,7 +154,11 @@ class Table:
 
     def cells(self, cells: Iterator[Cells]) -> List[Tuple[str, Any]]:
         """The next columns of an answer as the table's columns."""
-        return [(one.name, one.restored(next(cells))) for one in self.columns.values()]
+        return [(one.name, self.restored(one, next(cells))) for one in self.columns.values()]
+
+    def restored(self, column: Values, cells: Cells) -> Any:
+        """Cells of an answer as the column's frames have them."""
+        return stand_ins.restored(column, cells, self.stand_in(column.name))
 
     def period_cells(self, cells: Iterator[Cells], kind: Kind) -> List[Tuple[Any, Any]]:
         """The next two columns of an answer as the period, of points of that kind."""
@@ -154,32 +166,12 @@ class Table:
         return intervals.columns_of(self.period, points.series_of(start, kind), self.form.restored_ends(end, kind))
 
 
-def refuse_value(column: Values, value: Any) -> None:
-    """Raises Refused where the value is of another type than those of the column."""
-    wanted, remedy = "texts", "str(..) makes one"
-    is_right = isinstance(value, str)
-    if column.digits is not None:
-        wanted, remedy = f"numbers of {column.digits} decimals", "decimal.Decimal(..) makes one of a text"
-        is_right = checks.is_whole(value) or isinstance(value, (float, np.floating, Decimal))
-    elif values.is_bool(column.dtype):
-        wanted, remedy = "True and False", "bool(..) makes one of a number"
-        is_right = isinstance(value, (bool, np.bool_))
-    elif column.kind == "int":
-        wanted, remedy = "whole numbers", f"decimals={{{column.name!r}: 2}}, where the table is made, takes others"
-        is_right = checks.is_whole(value)
-    if not is_right:
-        raise Refused("WrongKind", f"{checks.shown(value)}: the column has {wanted}; {remedy}", column.name)
-
-
-def series_of(column: Values, value: Any) -> Any:
-    """A Series of the value as one of the column's frames."""
-    if column.digits is None:
-        return pd.Series([value], dtype="int64" if column.kind == "int" else object, name=column.name)
-    if column.dtype == object:
-        return pd.Series([Decimal(int(value)) if checks.is_whole(value) else value], dtype=object, name=column.name)
-    if isinstance(value, Decimal) and values.whole_of(value, column.digits) is None:
-        raise Refused("BadNumber", f"{value} is no number of {column.digits} decimals; quantize() makes it one")
-    return pd.Series([float(value)], dtype=column.dtype, name=column.name)
+def side_of(frame: Any, names: Sequence[Any], options: Options) -> Side:
+    """A frame's rows with the columns of these names, of a store's table with these options. Raises Refused."""
+    found = [column_of(frame, name) for name in names]
+    side = sides.side_of(frame, [], options.period, options.form, {})
+    given = [(options.decimals.get(name), options.missing.get(name)) for name in map(same, names)]
+    return replace(side, columns=[stand_ins.values_of(one, *told) for one, told in zip(found, given)])
 
 
 def coded(column: Values, cells: Cells) -> Values:
@@ -216,4 +208,14 @@ def table_of(name: str, side: Side, key: Sequence[Any], options: Options) -> Tab
     for column in key:
         if column not in names:
             raise Refused("NoColumn", f"key= is of columns of the table: {told_of(names)}", column)
-    return Table(name, dict(zip(names, columns)), list(key), options, dict(zip(names, naming.of_store(names))))
+    made = Table(name, dict(zip(names, columns)), list(key), options, dict(zip(names, naming.of_store(names))))
+    refuse_stand_ins(made)
+    return made
+
+
+def refuse_stand_ins(table: Table) -> None:
+    """Raises Refused where missing= has no column of the table, one of its key, or a value that a column can't have."""
+    for name in table.options.missing:
+        table.stand_in(name)
+        if name in table.key:
+            raise Refused("BadCommand", "missing= has a column of the key, which has a value in each row", name)

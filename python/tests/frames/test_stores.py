@@ -450,7 +450,7 @@ class Changes(Case):
             (lambda: made.table("u", frame(), last_day="no"), "last_day"),
             (lambda: made.table("u", frame(), open_end=(True, False)), "open_end"),
             (lambda: made.table("u", frame(), decimals=2), "decimals"),
-            (lambda: made.table("u", frame(), period="ft"), "period"),
+            (lambda: made.table("u", frame(), period=("f",)), "period"),
             (lambda: made.table("u", frame(), key={"k": 1}), "key"),
             (lambda: made.table(5, frame()), "5"), (lambda: made.rows(["t"]), "['t']"),
         ):

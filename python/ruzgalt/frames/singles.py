@@ -1,0 +1,56 @@
+"""Single values, of changes and of options: looked at as those of a column's frames."""
+from __future__ import annotations
+
+from decimal import Decimal
+from typing import Any, Union
+
+import numpy as np
+import pandas as pd
+
+from ruzgalt.frames import checks, values
+from ruzgalt.frames.errors import Refused
+from ruzgalt.frames.values import Values
+
+# As a store has it: the number, in a column's smaller units, or the text.
+Cell = Union[int, str]
+
+
+def cell_of(column: Values, value: Any) -> Cell:
+    """The value as one of the column, which has no cells. Raises Refused."""
+    refuse_value(column, value)
+    try:
+        told = values.values_of(series_of(column, value), column.digits)
+    except Refused as error:
+        raise Refused(error.name, error.reason, column.name) from None
+    except OverflowError:
+        bounds = f"numbers are of 64 bits, from {values.LEAST} to {values.GREATEST}"
+        raise Refused("BadNumber", f"{checks.shown(value)}: {bounds}", column.name) from None
+    return int(told.codes[0]) if told.kind == "int" else told.texts.cells[0]
+
+
+def refuse_value(column: Values, value: Any) -> None:
+    """Raises Refused where the value is of another type than those of the column."""
+    wanted, remedy = "texts", "str(..) makes one"
+    is_right = isinstance(value, str)
+    if column.digits is not None:
+        wanted, remedy = f"numbers of {column.digits} decimals", "decimal.Decimal(..) makes one of a text"
+        is_right = checks.is_whole(value) or isinstance(value, (float, np.floating, Decimal))
+    elif values.is_bool(column.dtype):
+        wanted, remedy = "True and False", "bool(..) makes one of a number"
+        is_right = isinstance(value, (bool, np.bool_))
+    elif column.kind == "int":
+        wanted, remedy = "whole numbers", f"decimals={{{column.name!r}: 2}}, where the table is made, takes others"
+        is_right = checks.is_whole(value)
+    if not is_right:
+        raise Refused("WrongKind", f"{checks.shown(value)}: the column has {wanted}; {remedy}", column.name)
+
+
+def series_of(column: Values, value: Any) -> Any:
+    """A Series of the value as one of the column's frames."""
+    if column.digits is None:
+        return pd.Series([value], dtype="int64" if column.kind == "int" else object, name=column.name)
+    if column.dtype == object:
+        return pd.Series([Decimal(int(value)) if checks.is_whole(value) else value], dtype=object, name=column.name)
+    if isinstance(value, Decimal) and values.whole_of(value, column.digits) is None:
+        raise Refused("BadNumber", f"{value} is no number of {column.digits} decimals; quantize() makes it one")
+    return pd.Series([float(value)], dtype=column.dtype, name=column.name)
