@@ -19,7 +19,8 @@ A module stands on those above it:
     points, values          columns as seconds, numbers and texts, and back
     missing                 rows that may be none, whose cells are missing
     sides, script           rows on their way; a script in pieces
-    running, output         a run; its answers as columns
+    worker, running         where a task of Dask runs; a run of the program
+    output                  its answers as columns
     ask, split              a question's run; rows past the limits in parts
     options, answer         what may be given to a call; the columns of an answer, and their names
     measures                what an aggregate tells: one function of rows, or several

@@ -53,11 +53,17 @@ class Refused(ValueError):
 class Stopped(RuntimeError):
     """The program ended without all answers, or there is none: killed, out of memory, not found.
 
+    Of a task of Dask it says on which worker and host that was.
+
     Examples
     --------
     >>> issubclass(ruzgalt.Stopped, RuntimeError)
     True
     """
+
+
+class OutOfMemory(Stopped):
+    """The program ended for want of memory: with fewer rows it may not. Callers see a Stopped."""
 
 
 class Doubt(UserWarning):

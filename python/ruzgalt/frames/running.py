@@ -7,17 +7,20 @@ import shutil
 import signal
 import subprocess
 import tempfile
-from typing import Iterable, Iterator, List
+from typing import Iterable, Iterator, List, Optional
 
 import numpy as np
 
 from ruzgalt import which
+from ruzgalt.frames import worker
 from ruzgalt.frames.arrays import Bytes
-from ruzgalt.frames.errors import Refused, Stopped
+from ruzgalt.frames.errors import OutOfMemory, Refused, Stopped
 from ruzgalt.frames.script import LIMIT
 
 # What a write to a file takes at once: less than 2 GiB.
 SLICE = 1 << 26
+# How the program ends, and what it says then, where memory is refused.
+NO_ANSWER, OUT_OF_MEMORY = 3, "out of memory"
 
 
 def refuse_unbuilt(command: str) -> None:
@@ -39,6 +42,13 @@ def ending_with_us(words: List[str]) -> List[str]:
         return words
     test = '[ "$PPID" = "$1" ] || exit 3; shift; exec "$@"'
     return ["setpriv", "--pdeathsig", "KILL", "sh", "-c", test, "sh", str(os.getpid()), *words]
+
+
+def within(words: List[str], memory: Optional[int]) -> List[str]:
+    """A command that the system gives so many bytes of addresses at most, and that refuses then what it can't do."""
+    if memory is None:
+        return words
+    return ["sh", "-c", 'ulimit -v "$1" && shift && exec "$@"', "sh", str(memory // 1024), *words]
 
 
 def memory_file(name: str) -> int:
@@ -80,15 +90,22 @@ def slices(pieces: Iterable[bytes]) -> Iterator[memoryview]:
 
 
 def run(given: int, told: int, workers: int) -> None:
-    command = which.program()
+    command, place = which.program(), worker.place()
     refuse_unbuilt(command)
     if shutil.which(command) is None:
-        raise Stopped(f"{command}: no such program; `make install` makes one, and the variable DIPQ names another")
-    words = ending_with_us([*which.words_of(command), "--workers", str(workers)])
+        missing = f"{command}{place}: no such program"
+        raise Stopped(f"{missing}; `make install` makes one, and the variable DIPQ names another")
+    asked = within([*which.words_of(command), "--workers", str(workers)], worker.memory())
     try:
-        ran = subprocess.run(words, stdin=given, stdout=told, stderr=subprocess.PIPE)
+        ran = subprocess.run(ending_with_us(asked), stdin=given, stdout=told, stderr=subprocess.PIPE)
     except OSError as error:
-        raise Stopped(f"{command}: {error.strerror}") from None
+        raise Stopped(f"{command}{place}: {error.strerror}") from None
     if ran.returncode not in (0, 1):
-        name = signal.Signals(-ran.returncode).name if ran.returncode < 0 else f"status {ran.returncode}"
-        raise Stopped(f"{command}: {name}: {ran.stderr.decode(errors='replace').strip()}")
+        raise ended(command + place, ran.returncode, ran.stderr.decode(errors="replace").strip())
+
+
+def ended(command: str, status: int, said: str) -> Stopped:
+    """Of a run that didn't end well: for want of memory it says so, or the system kills it."""
+    name = signal.Signals(-status).name if status < 0 else f"status {status}"
+    is_memory = name == "SIGKILL" or (status == NO_ANSWER and said.endswith(OUT_OF_MEMORY))
+    return (OutOfMemory if is_memory else Stopped)(": ".join(filter(None, (command, name, said))))

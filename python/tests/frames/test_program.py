@@ -99,6 +99,26 @@ class Program(unittest.TestCase):
         self.command("echo 'dipq: out of memory' >&2; exit 3")
         self.says("status 3: dipq: out of memory")
 
+    def test_a_program_that_the_system_killed_once_is_asked_again(self):
+        once, real = self.folder / "once", which.program()
+        for ended in ("kill -9 $$", "echo 'dipq: out of memory' >&2; exit 3"):
+            with self.subTest(ended):
+                once.touch()
+                self.command(f'if [ -e {once} ]; then rm {once}; {ended}; fi; exec {real} "$@"')
+                self.assertEqual(len(ruzgalt.join(FRAME, FRAME, on="k")), 1)
+                self.assertFalse(once.exists())
+
+    def test_a_program_that_another_signal_ends_is_asked_once(self):
+        runs = self.folder / "runs"
+        fault = "echo 'dipq: read fault' >&2; exit 3"
+        for ended, wanted in (("kill -11 $$", "SIGSEGV"), (fault, "status 3: dipq: read fault")):
+            runs.write_text("")
+            self.command(f"echo run >>{runs}; {ended}")
+            with self.assertRaises(ruzgalt.Stopped) as caught:
+                ruzgalt.join(FRAME, FRAME, on="k")
+            self.assertIn(wanted, str(caught.exception))
+            self.assertEqual(runs.read_text(), "run\n")
+
     def test_answers_that_end_too_early_are_told(self):
         self.command("echo ok,1; echo ok,2")
         self.says("too early")

@@ -1,4 +1,5 @@
 """Rows past the limits: what goes in parts is answered as the whole is, and by how many runs."""
+import itertools
 import unittest
 from unittest import mock
 
@@ -7,6 +8,7 @@ import pandas as pd
 
 import ruzgalt
 from ruzgalt.frames import running, split
+from ruzgalt.frames.errors import OutOfMemory
 
 DAY = np.timedelta64(1, "D")
 
@@ -27,6 +29,18 @@ def days_of(first, last, count):
 def counted():
     """The program's runs, as a context."""
     return mock.patch.object(running, "run", side_effect=running.run)
+
+
+def ended_by(is_ended):
+    """Runs of which memory ends some, by their numbers from 1 on, as a context."""
+    numbers = itertools.count(1)
+
+    def run(*given):
+        if is_ended(next(numbers)):
+            raise OutOfMemory("dipq: SIGKILL")
+        running_run(*given)
+    running_run = running.run
+    return mock.patch.object(running, "run", side_effect=run)
 
 
 QUESTIONS = {
@@ -95,6 +109,30 @@ class Split(unittest.TestCase):
         with mock.patch.object(split.script, "ROOM", 400_000), counted() as runs:
             pd.testing.assert_frame_equal(ruzgalt.join(wide, wide, on="k"), whole)
         self.assertGreater(runs.call_count, 3)
+
+    def test_runs_that_memory_ends_are_parted_and_tried_again(self):
+        same = days_of("2024-01-01", "2024-03-01", 60)
+        left, right = (pd.concat([same, frame(120, seed, values=3, longest=400)]) for seed in (13, 14))
+        for name, asked in QUESTIONS.items():
+            whole = asked(left, right)
+            for what, is_ended in (("first", lambda run: run == 1), ("some", lambda run: run in (1, 2, 5))):
+                with self.subTest(name, ended=what), mock.patch.object(split, "FEW", 40), ended_by(is_ended) as runs:
+                    pd.testing.assert_frame_equal(asked(left, right), whole)
+                    self.assertGreater(runs.call_count, 2)
+
+    def test_few_rows_are_tried_again_as_they_are(self):
+        left = frame(50, 15)
+        whole = ruzgalt.join(left, left, on="k")
+        with ended_by(lambda run: run <= split.TRIES) as runs:
+            pd.testing.assert_frame_equal(ruzgalt.join(left, left, on="k"), whole)
+        self.assertEqual(runs.call_count, split.TRIES + 1)
+
+    def test_what_memory_ends_again_and_again_is_told(self):
+        for name, asked in QUESTIONS.items():
+            with self.subTest(name), ended_by(lambda run: True) as runs, self.assertRaises(ruzgalt.Stopped) as caught:
+                asked(frame(3_000, 16), frame(3_000, 17))
+            self.assertEqual(runs.call_count, split.TRIES + 1)
+            self.assertIn("SIGKILL; tried 4 times more, with fewer rows: fewer rows in a call", str(caught.exception))
 
 
 if __name__ == "__main__":
