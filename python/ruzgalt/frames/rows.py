@@ -125,7 +125,8 @@ def side_of(frame: Any, options: Options) -> sides.Side:
 def held(frame: Any, is_spread: bool, span: Span, options: Options) -> Any:
     """The rows that share a second with the span."""
     if is_spread:
-        return frame.map_partitions(held_part, span, options, meta=frame._meta)
+        from ruzgalt.frames import spread
+        return spread.parted(frame, held_part, span, options)
     doubts.of_ends(side_of(frame, options), [], options.period[-1], options.last_day)
     return held_part(frame, span, options)
 

@@ -3,7 +3,7 @@ goes on over a cut is closed up. Periods are seconds here, and numbers are int64
 from __future__ import annotations
 
 from dataclasses import dataclass, replace
-from typing import Any, List, Optional, Sequence, Tuple
+from typing import Any, Callable, List, Optional, Sequence, Tuple
 
 import dask
 import dask.dataframe as dd
@@ -20,6 +20,7 @@ from ruzgalt.frames.options import Options
 from ruzgalt.frames.sides import Side
 from ruzgalt.frames.spread import PART, by_part, with_objects
 from ruzgalt.frames.values import Values
+from ruzgalt.frames.worker import sent
 
 # Starts of a partition that are looked at for where to cut.
 QUANTILES = np.linspace(0, 1, 101)
@@ -48,18 +49,23 @@ def agg(frame: Any, measures: Measures, options: Options) -> Any:
     cuts, kind = cuts_of(frame, asked, options.parts or frame.npartitions)
     names = ["start", "end", *amount_names(asked.side_of(frame._meta)), PART]
     slim = pd.DataFrame({name: NO_INTS for name in names})
-    sliced = frame.map_partitions(slices, asked, cuts, meta=slim)
+    sliced = frame.map_partitions(sent(slices, asked, cuts), meta=slim)
     spread = by_part(sliced, len(cuts) + 1)
-    found = [dask.delayed(answered)(part, asked) for part in spread.to_delayed()]
-    plan = dask.delayed(plan_of)([dask.delayed(edges_of)(one) for one in found])
+    found = [delayed(answered, asked)(part) for part in spread.to_delayed()]
+    plan = delayed(plan_of)([delayed(edges_of)(one) for one in found])
     empty = replace(asked.side_of(frame._meta), kind=kind)
-    made = [dask.delayed(fitted)(one, plan, place, (asked, empty)) for place, one in enumerate(found)]
+    made = [delayed(fitted, place, (asked, empty))(one, plan) for place, one in enumerate(found)]
     return dd.from_delayed(made, meta=meta, verify_meta=False)
+
+
+def delayed(function: Callable[..., Any], *given: Any) -> Any:
+    """The function as Dask asks it of one partition, with what is given behind."""
+    return dask.delayed(sent(function, *given))
 
 
 def cuts_of(frame: Any, asked: Question, parts: int) -> Tuple[Ints, Kind]:
     """Points that part the rows into slices of about as many starts, and the kind of the frame's points."""
-    told = dask.compute(*[dask.delayed(sample)(part, asked) for part in frame.to_delayed()])
+    told = dask.compute(*[delayed(sample, asked)(part) for part in frame.to_delayed()])
     kind, starts = kinds.joint_kind(*(one for _, one in told)), np.concatenate([starts for starts, _ in told])
     if not len(starts) or parts < 2:
         return NO_INTS, kind

@@ -1,4 +1,4 @@
-"""join, anti and agg of frames of Dask: rows go to partitions by their values, and each is answered as one of pandas.
+"""Questions to frames of Dask: rows go to partitions by their values, and each is answered as one of pandas.
 
 Which partition a value goes to is told by values.hashes, and not by Dask's own hash: by that, -1 of an int32 and -1 of
 an int64 go to different ones, and never meet. A row goes there as set_index brings it to the place that its partition's
@@ -21,6 +21,7 @@ from ruzgalt.frames.measures import Measures
 from ruzgalt.frames.named import column_of, names_of, with_levels
 from ruzgalt.frames.options import Names, Options, compared
 from ruzgalt.frames.pairs import with_labels_twice
+from ruzgalt.frames.worker import sent
 
 # Columns of ours while rows are sent, and one that Dask itself adds meanwhile.
 PART, LABEL, OF_DASK = "_ruzgalt_part", "_ruzgalt_label", "_partitions"
@@ -50,9 +51,9 @@ def paired(asked: Pairs, left: Any, right: Any, on: Names, options: Options) -> 
     doubts.of_decimals(options.decimals, left, right)
     parts = options.parts or max(left.npartitions, right.npartitions)
     meta = asked(left._meta, right._meta, on, options)
-    sent = [by_value(frame, own, options.decimals, parts) for frame, own in zip((left, right), names)]
+    rows = [by_value(frame, own, options.decimals, parts) for frame, own in zip((left, right), names)]
     words = {"meta": meta, "align_dataframes": False, "transform_divisions": False}
-    return dd.map_partitions(asked, *sent, on, options, **words)
+    return dd.map_partitions(sent(asked, on, options), *rows, **words)
 
 
 def as_spread(frame: Any) -> Any:
@@ -63,12 +64,18 @@ def as_spread(frame: Any) -> Any:
 
 
 @with_objects
-def agg(frame: Any, asked: Measures, options: Options) -> Any:
+def agg(frame: Any, measures: Measures, options: Options) -> Any:
     """Of groups: those in a partition are in order, and partitions are in none."""
     doubts.of_decimals(options.decimals, frame)
-    meta = groups.agg_part(frame._meta, asked, options)
-    sent = by_value(frame, options.by or (), options.decimals, options.parts or frame.npartitions)
-    return sent.map_partitions(groups.agg_part, asked, options, meta=meta, transform_divisions=False)
+    meta = groups.agg_part(frame._meta, measures, options)
+    rows = by_value(frame, options.by or (), options.decimals, options.parts or frame.npartitions)
+    return rows.map_partitions(sent(groups.agg_part, measures, options), meta=meta, transform_divisions=False)
+
+
+@with_objects
+def parted(frame: Any, asked: Callable[..., Any], *given: Any) -> Any:
+    """Of each partition some of its rows."""
+    return frame.map_partitions(sent(asked, *given), meta=frame._meta)
 
 
 def by_value(frame: Any, names: Sequence[Any], decimals: Mapping[Any, int], parts: int) -> Any:
@@ -76,10 +83,11 @@ def by_value(frame: Any, names: Sequence[Any], decimals: Mapping[Any, int], part
     refuse_names(frame)
     labels, meta = label_column(frame._meta), frame._meta
     tagged = frame.map_partitions(
-        with_part, list(names), dict(decimals), parts, meta=meta.assign(**{LABEL: labels, PART: np.empty(0, np.int64)}),
+        sent(with_part, list(names), dict(decimals), parts),
+        meta=meta.assign(**{LABEL: labels, PART: np.empty(0, np.int64)}),
     )
     # The divisions were those of the partitions' numbers.
-    return by_part(tagged, parts).map_partitions(with_labels, meta.index.name, meta=meta).clear_divisions()
+    return by_part(tagged, parts).map_partitions(sent(with_labels, meta.index.name), meta=meta).clear_divisions()
 
 
 def by_part(tagged: Any, parts: int) -> Any:

@@ -6,15 +6,17 @@ import sys
 import tempfile
 from pathlib import Path
 
+import ruzgalt
 from processes import children, wait_for
 
 COMMON = ["--no-dashboard"]
 HERE = Path(__file__).resolve().parent
+PACKAGE = Path(ruzgalt.__file__).resolve().parents[1]
 
 
 def environment():
-    """In which a worker finds the modules of tests, too."""
-    path = [str(HERE), *filter(None, [os.environ.get("PYTHONPATH")])]
+    """In which a worker finds the package, and the modules of tests, too."""
+    path = [str(HERE), str(PACKAGE), *filter(None, [os.environ.get("PYTHONPATH")])]
     return {**os.environ, "PYTHONPATH": os.pathsep.join(path)}
 
 
@@ -43,16 +45,19 @@ class Cluster:
             process.wait()
         self.folder.cleanup()
 
-    def start(self, module, *words):
+    def start(self, module, *words, **variables):
         log = Path(self.folder.name) / f"{module}-{len(self.processes)}.log"
         with log.open("wb") as said:
             words = [sys.executable, "-m", f"distributed.cli.{module}", *COMMON, *words]
-            self.processes.append(subprocess.Popen(words, stdout=said, stderr=said, env=environment()))
+            env = {**environment(), **variables}
+            self.processes.append(subprocess.Popen(words, stdout=said, stderr=said, cwd=self.folder.name, env=env))
         return self.processes[-1]
 
-    def add_worker(self):
-        words = ["--nthreads", "1", "--no-nanny", "--memory-limit", "1GB", "--local-directory", self.folder.name]
-        self.workers.append(self.start("dask_worker", "--scheduler-file", self.file, *words))
+    def add_worker(self, *words, **variables):
+        """A worker with these words more, and variables of its environment."""
+        usual = ["--nthreads", "1", "--no-nanny", "--memory-limit", "1GB", "--local-directory", self.folder.name]
+        told = ["--scheduler-file", self.file, *usual, *words]
+        self.workers.append(self.start("dask_worker", *told, **variables))
 
     def kill(self, process):
         """Kills a worker at once. What it ran at that time."""
