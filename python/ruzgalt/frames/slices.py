@@ -18,7 +18,7 @@ from ruzgalt.frames.kinds import Kind
 from ruzgalt.frames.measures import Measures, amounts_of, columns_of, measured
 from ruzgalt.frames.options import Options
 from ruzgalt.frames.sides import Side
-from ruzgalt.frames.spread import PART, by_part, with_objects
+from ruzgalt.frames.spread import PART, by_part, keeping_objects
 from ruzgalt.frames.values import Values
 from ruzgalt.frames.worker import sent
 
@@ -40,7 +40,6 @@ class Question:
         return groups.agg_part(frame, self.measures, self.options)
 
 
-@with_objects
 def agg(frame: Any, measures: Measures, options: Options) -> Any:
     """Partitions in the order of time. The frame is read at once, for the cuts."""
     doubts.of_decimals(options.decimals, frame)
@@ -49,13 +48,13 @@ def agg(frame: Any, measures: Measures, options: Options) -> Any:
     cuts, kind = cuts_of(frame, asked, options.parts or frame.npartitions)
     names = ["start", "end", *amount_names(asked.side_of(frame._meta)), PART]
     slim = pd.DataFrame({name: NO_INTS for name in names})
-    sliced = frame.map_partitions(sent(slices, asked, cuts), meta=slim)
-    spread = by_part(sliced, len(cuts) + 1)
-    found = [delayed(answered, asked)(part) for part in spread.to_delayed()]
-    plan = delayed(plan_of)([delayed(edges_of)(one) for one in found])
     empty = replace(asked.side_of(frame._meta), kind=kind)
-    made = [delayed(fitted, place, (asked, empty))(one, plan) for place, one in enumerate(found)]
-    return dd.from_delayed(made, meta=meta, verify_meta=False)
+    with keeping_objects(frame._meta, meta):
+        spread = by_part(frame.map_partitions(sent(slices, asked, cuts), meta=slim), len(cuts) + 1)
+        found = [delayed(answered, asked)(part) for part in spread.to_delayed()]
+        plan = delayed(plan_of)([delayed(edges_of)(one) for one in found])
+        made = [delayed(fitted, place, (asked, empty))(one, plan) for place, one in enumerate(found)]
+        return dd.from_delayed(made, meta=meta, verify_meta=False)
 
 
 def delayed(function: Callable[..., Any], *given: Any) -> Any:

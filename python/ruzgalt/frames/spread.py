@@ -7,8 +7,8 @@ number has among divisions that are given.
 from __future__ import annotations
 
 import inspect
-from functools import wraps
-from typing import Any, Callable, List, Mapping, Sequence
+from contextlib import contextmanager
+from typing import Any, Callable, Iterator, List, Mapping, Sequence
 
 import dask
 import dask.dataframe as dd
@@ -32,50 +32,68 @@ HOW = {"shuffle_method" if "shuffle_method" in WORDS else "shuffle": "tasks"}
 Pairs = Callable[[Any, Any, Names, Options], Any]
 
 
-def with_objects(call: Callable[..., Any]) -> Callable[..., Any]:
-    """The call, in which objects stay what they are: where pyarrow is, Dask makes texts of them, as of dates."""
-    @wraps(call)
-    def asked(*given: Any) -> Any:
-        with dask.config.set({"dataframe.convert-string": False}):
-            return call(*given)
-    return asked
+@contextmanager
+def keeping_objects(*metas: Any) -> Iterator[None]:
+    """While a graph is made of frames with these columns, in which objects are to stay what they are.
+
+    Where pyarrow is, Dask without its query planner makes texts of objects, as of dates, in each frame that it makes;
+    against it there is a setting alone, which all threads have in common. So this is set only where a frame has such
+    columns, and only for as long as the graph is made. With its planner Dask does so only in from_pandas.
+    """
+    if all(map(stays, metas)):
+        yield
+        return
+    with dask.config.set({"dataframe.convert-string": False}):
+        yield
 
 
-@with_objects
+def stays(meta: Any) -> bool:
+    """Whether Dask lets an empty frame be as it is."""
+    made = as_one(meta)._meta
+    return bool(made.dtypes.equals(meta.dtypes) and made.index.dtype == meta.index.dtype)
+
+
+def as_one(frame: Any) -> Any:
+    """A frame of one partition. By from_pandas it may have other dtypes."""
+    return dd.from_delayed([dask.delayed(frame)], meta=frame.iloc[:0], verify_meta=False)
+
+
 def paired(asked: Pairs, left: Any, right: Any, on: Names, options: Options) -> Any:
     """The answer of each partition; one of the frames may be of pandas."""
     names = compared(on, options)
     if not names[0]:
         raise Refused("BadCommand", "of frames of Dask without compared columns each row may meet each: on= parts them")
-    left, right = map(as_spread, (left, right))
-    doubts.of_decimals(options.decimals, left, right)
-    parts = options.parts or max(left.npartitions, right.npartitions)
-    meta = asked(left._meta, right._meta, on, options)
-    rows = [by_value(frame, own, options.decimals, parts) for frame, own in zip((left, right), names)]
-    words = {"meta": meta, "align_dataframes": False, "transform_divisions": False}
-    return dd.map_partitions(sent(asked, on, options), *rows, **words)
+    frames = [with_labels_flat(frame) for frame in (left, right)]
+    doubts.of_decimals(options.decimals, *frames)
+    metas = [frame._meta if isinstance(frame, dd.DataFrame) else frame.iloc[:0] for frame in frames]
+    meta = asked(metas[0], metas[1], on, options)
+    with keeping_objects(meta, *metas):
+        spread = [frame if isinstance(frame, dd.DataFrame) else as_one(frame) for frame in frames]
+        parts = options.parts or max(frame.npartitions for frame in spread)
+        rows = [by_value(frame, own, options.decimals, parts) for frame, own in zip(spread, names)]
+        words = {"meta": meta, "align_dataframes": False, "transform_divisions": False}
+        return dd.map_partitions(sent(asked, on, options), *rows, **words)
 
 
-def as_spread(frame: Any) -> Any:
-    """A frame of Dask; of pandas with labels of several levels, which Dask hasn't, these are tuples."""
-    if isinstance(frame, dd.DataFrame):
-        return frame
-    return dd.from_pandas(with_labels_twice(frame).set_axis(frame.index.to_flat_index()), npartitions=1, sort=False)
+def with_labels_flat(frame: Any) -> Any:
+    """Labels of several levels are tuples, since Dask hasn't these."""
+    is_spread = isinstance(frame, dd.DataFrame)
+    return frame if is_spread else with_labels_twice(frame).set_axis(frame.index.to_flat_index())
 
 
-@with_objects
 def agg(frame: Any, measures: Measures, options: Options) -> Any:
     """Of groups: those in a partition are in order, and partitions are in none."""
     doubts.of_decimals(options.decimals, frame)
     meta = groups.agg_part(frame._meta, measures, options)
-    rows = by_value(frame, options.by or (), options.decimals, options.parts or frame.npartitions)
-    return rows.map_partitions(sent(groups.agg_part, measures, options), meta=meta, transform_divisions=False)
+    with keeping_objects(meta, frame._meta):
+        rows = by_value(frame, options.by or (), options.decimals, options.parts or frame.npartitions)
+        return rows.map_partitions(sent(groups.agg_part, measures, options), meta=meta, transform_divisions=False)
 
 
-@with_objects
 def parted(frame: Any, asked: Callable[..., Any], *given: Any) -> Any:
     """Of each partition some of its rows."""
-    return frame.map_partitions(sent(asked, *given), meta=frame._meta)
+    with keeping_objects(frame._meta):
+        return frame.map_partitions(sent(asked, *given), meta=frame._meta)
 
 
 def by_value(frame: Any, names: Sequence[Any], decimals: Mapping[Any, int], parts: int) -> Any:

@@ -1,7 +1,11 @@
 """Random frames by Dask, of one to seven partitions, beside one run of the whole."""
+import datetime
+import importlib.util
 import os
+import tempfile
 import unittest
 from random import Random
+from unittest import mock
 
 import numpy as np
 import pandas as pd
@@ -233,6 +237,58 @@ class Spread(unittest.TestCase):
             self.assertFalse(asked(frame, frame, on="k").known_divisions)
         self.assertFalse(ruzgalt.agg(frame, "count", by="k").known_divisions)
         self.assertFalse(ruzgalt.agg(frame, "count").known_divisions)
+
+    def test_no_setting_of_dask_is_changed_while_rows_are_read(self):
+        """Nor at all, where no column has objects."""
+        days = day_of(column(NUMBERS, "int64"))
+        for cells, kinds in ((days, {}), (days.assign(k=TEXTS), {"k": object})):
+            seen, word = [], "dataframe.convert-string"
+
+            def read(cells=cells, seen=seen):
+                seen.append(dask.config.get(word, None))
+                return cells
+
+            with dask.config.set({word: False}):
+                frame = dd.from_delayed([dask.delayed(read)()], meta=cells.iloc[:0].astype(kinds), verify_meta=False)
+            with mock.patch.object(dask.config, "set", wraps=dask.config.set) as changed:
+                ruzgalt.agg(frame, "count").compute(scheduler="sync")
+                ruzgalt.join(frame, cells, on="k").compute(scheduler="sync")
+            self.assertEqual(set(seen), {dask.config.get(word, None)})
+            if not kinds:
+                told = [name for call in changed.call_args_list for given in call.args for name in given]
+                self.assertNotIn(word, told)
+
+    def test_objects_of_a_frame_of_pandas_stay(self):
+        days = day_of(column(TEXTS, object))
+        dates = days.assign(**{"from": days["from"].dt.date, "to": days["to"].dt.date})
+        lazy = ruzgalt.join(dd.from_pandas(days[["from", "to", "k"]], npartitions=2), dates, on="k", points_as="date")
+        found = lazy.compute(scheduler="sync")
+        self.assertEqual((len(found), set(map(type, found["from"]))), (100, {datetime.date}))
+
+    def test_an_answer_is_a_frame_of_dask_as_others_are(self):
+        one = day_of(column(NUMBERS, "int64"))
+        spread = dd.from_pandas(one, npartitions=3)
+        for asked in (
+            lambda frame: ruzgalt.join(frame, one, on="k"), lambda frame: ruzgalt.agg(frame, "count", by="k"),
+            lambda frame: ruzgalt.agg(frame, "count"), lambda frame: ruzgalt.anti(frame, one.iloc[50:], on="k"),
+        ):
+            whole, lazy = asked(one), asked(spread)
+            by = [name for name in ("k", "from") if name in whole]
+            with dask.config.set(scheduler="sync"):
+                self.assertEqual(len(lazy), len(whole))
+                self.assertEqual(len(lazy.head(2, npartitions=-1)), min(2, len(whole)))
+                kept = lazy.persist().compute().sort_values(by)
+                pd.testing.assert_frame_equal(kept.reset_index(drop=True), whole.sort_values(by).reset_index(drop=True))
+
+    @unittest.skipUnless(importlib.util.find_spec("pyarrow"), "pyarrow isn't here: pip install pyarrow")
+    def test_an_answer_is_written_as_parquet(self):
+        one = day_of(column(TEXTS, object))
+        whole = ruzgalt.join(one, one, on="k")
+        lazy = ruzgalt.join(dd.from_pandas(one, npartitions=3), one, on="k")
+        with tempfile.TemporaryDirectory() as folder, dask.config.set(scheduler="sync"):
+            lazy.to_parquet(folder)
+            found = dd.read_parquet(folder).compute().sort_values("k").reset_index(drop=True)
+        pd.testing.assert_frame_equal(found, whole.sort_values("k").reset_index(drop=True), check_dtype=False)
 
     def test_rows_over_many_slices_are_closed_up(self):
         starts = pd.date_range("2024-01-01", periods=40)
