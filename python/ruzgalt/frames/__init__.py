@@ -26,7 +26,8 @@ A module stands on those above it:
     measures                what an aggregate tells: one function of rows, or several
     doubts                  what may not be meant
     pairs, groups, division join and anti; agg; dip
-    spread, slices          the same of Dask: by value; by time
+    spread, clipping        the same of Dask, by value; rows for slices of time
+    slices                  by time
     calls                   pandas or Dask
     instants, rows          single points; at and during
     tables                  a table of a store

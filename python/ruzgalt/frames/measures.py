@@ -8,7 +8,7 @@ from __future__ import annotations
 from dataclasses import dataclass, replace
 from decimal import Decimal
 from fractions import Fraction
-from typing import Any, Dict, List, Mapping, Sequence, Tuple
+from typing import Any, Callable, Dict, List, Mapping, Sequence, Tuple
 
 import numpy as np
 
@@ -22,6 +22,8 @@ from ruzgalt.frames.sides import Side
 from ruzgalt.frames.values import Values
 
 FUNCTIONS = ("count", "sum", "min", "max", "mean")
+# A function of the program, and the column whose numbers come together, but of a count.
+Ask = Tuple[Any, ...]
 
 
 @dataclass(frozen=True)
@@ -43,7 +45,7 @@ class Measure:
         return (self.column,) if self.function != "count" else ()
 
     @property
-    def asked(self) -> Sequence[Tuple[Any, ...]]:
+    def asks(self) -> Sequence[Ask]:
         """What the program is asked for it."""
         functions = ("sum", "count") if self.function == "mean" else (self.function,)
         return [(one, *(self.amount if one != "count" else ())) for one in functions]
@@ -94,16 +96,26 @@ def refuse_texts(measures: Measures, columns: Mapping[Any, Values]) -> None:
                 raise Refused("WrongKind", told, columns[name].name)
 
 
+def asks_of(measures: Measures) -> List[Ask]:
+    """What the program is asked for them, each once."""
+    return list(dict.fromkeys(asked for one in measures for asked in one.asks))
+
+
 def measured(side: Side, columns: Mapping[Any, Values], measures: Measures, workers: int) -> Found:
     """Start, end, group and values of the measures, by group and start; the side has the groups' numbers alone."""
-    found: Dict[Tuple[Any, ...], Found] = {}
-    for asked in (asked for one in measures for asked in one.asked):
-        if asked not in found:
-            amounts = [columns[name] for name in asked[1:]]
-            found[asked] = split.agg(replace(side, columns=[*side.columns, *amounts]), asked[0], workers)
+    def answer(asked: Ask) -> Found:
+        amounts = [columns[name] for name in asked[1:]]
+        return split.agg(replace(side, columns=[*side.columns, *amounts]), asked[0], workers)
+
+    return measured_by(answer, measures)
+
+
+def measured_by(answer: Callable[[Ask], Found], measures: Measures) -> Found:
+    """The same of the program's answers."""
+    found: Dict[Ask, Found] = {asked: answer(asked) for asked in asks_of(measures)}
     start, end, group, *told = cut_at_all(list(found.values()))
     there = dict(zip(found, told))
-    values = [value_of(*(there[asked] for asked in one.asked)) for one in measures]
+    values = [value_of(*(there[asked] for asked in one.asks)) for one in measures]
     return (start, end, group, *values) if len(found) == 1 else closed_up((start, end, group, *values))
 
 

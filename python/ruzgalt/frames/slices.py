@@ -1,4 +1,4 @@
-"""agg of all rows of a frame of Dask: time is cut into slices, in each of which rows are clipped and answered, and what
+"""agg of all rows of a frame of Dask: time is cut into slices, each of which has rows as clipping makes them, and what
 goes on over a cut is closed up. Periods are seconds here, and numbers are int64."""
 from __future__ import annotations
 
@@ -10,19 +10,19 @@ import dask.dataframe as dd
 import numpy as np
 import pandas as pd
 
-from ruzgalt.frames import doubts, groups, kinds, pairs, points
+from ruzgalt.frames import clipping, doubts, groups, kinds, pairs, split
 from ruzgalt.frames.answer import Columns
 from ruzgalt.frames.arrays import NO_INTS, Ints
 from ruzgalt.frames.ask import Found
 from ruzgalt.frames.kinds import Kind
-from ruzgalt.frames.measures import Measures, amounts_of, columns_of, measured
+from ruzgalt.frames.measures import Ask, Measures, asks_of, columns_of, measured_by
 from ruzgalt.frames.options import Options
 from ruzgalt.frames.sides import Side
 from ruzgalt.frames.spread import PART, by_part, keeping_objects
 from ruzgalt.frames.values import Values
 from ruzgalt.frames.worker import sent
 
-# Starts of a partition that are looked at for where to cut.
+# Starts and ends of a partition that are looked at for where to cut.
 QUANTILES = np.linspace(0, 1, 101)
 
 
@@ -32,6 +32,15 @@ class Question:
 
     measures: Measures
     options: Options
+
+    @property
+    def asks(self) -> List[Ask]:
+        return asks_of(self.measures)
+
+    @property
+    def names(self) -> List[str]:
+        """Of the columns of pieces of rows."""
+        return ["start", "end", PART, *(f"amount{place}" for place, _ in enumerate(self.asks))]
 
     def side_of(self, frame: Any) -> Side:
         return groups.side_of(frame, self.measures, self.options)
@@ -46,12 +55,11 @@ def agg(frame: Any, measures: Measures, options: Options) -> Any:
     asked = Question(measures, options)
     meta = asked.agg(frame._meta)
     cuts, kind = cuts_of(frame, asked, options.parts or frame.npartitions)
-    names = ["start", "end", *amount_names(asked.side_of(frame._meta)), PART]
-    slim = pd.DataFrame({name: NO_INTS for name in names})
     empty = replace(asked.side_of(frame._meta), kind=kind)
     with keeping_objects(frame._meta, meta):
-        spread = by_part(frame.map_partitions(sent(slices, asked, cuts), meta=slim), len(cuts) + 1)
-        found = [delayed(answered, asked)(part) for part in spread.to_delayed()]
+        slim = pd.DataFrame({name: NO_INTS for name in asked.names})
+        sliced = by_part(frame.map_partitions(sent(pieces, asked, cuts), meta=slim), len(cuts) + 1)
+        found = [delayed(answered, asked)(part) for part in sliced.to_delayed()]
         plan = delayed(plan_of)([delayed(edges_of)(one) for one in found])
         made = [delayed(fitted, place, (asked, empty))(one, plan) for place, one in enumerate(found)]
         return dd.from_delayed(made, meta=meta, verify_meta=False)
@@ -63,44 +71,48 @@ def delayed(function: Callable[..., Any], *given: Any) -> Any:
 
 
 def cuts_of(frame: Any, asked: Question, parts: int) -> Tuple[Ints, Kind]:
-    """Points that part the rows into slices of about as many starts, and the kind of the frame's points."""
+    """Points that part the rows into slices of about as many starts and ends, and the kind of the frame's points."""
     told = dask.compute(*[delayed(sample, asked)(part) for part in frame.to_delayed()])
-    kind, starts = kinds.joint_kind(*(one for _, one in told)), np.concatenate([starts for starts, _ in told])
-    if not len(starts) or parts < 2:
+    kind, times = kinds.joint_kind(*(one for _, one in told)), np.concatenate([times for times, _ in told])
+    if not len(times) or parts < 2:
         return NO_INTS, kind
-    return np.unique(np.quantile(starts, np.arange(1, parts) / parts).astype(np.int64)), kind
+    return np.unique(np.quantile(times, np.arange(1, parts) / parts).astype(np.int64)), kind
 
 
 def sample(frame: Any, asked: Question) -> Tuple[Any, Kind]:
+    """Some of the starts and ends, but of neither the first start nor the last end, as that of all that go on."""
     side = asked.side_of(frame)
-    return np.quantile(side.start, QUANTILES) if len(side) else np.empty(0), side.kind
+    if not len(side):
+        return np.empty(0), side.kind
+    times = [side.start[side.start > side.start.min()], side.end[side.end < side.end.max()]]
+    found = np.concatenate(times)
+    return np.quantile(found, QUANTILES) if len(found) else np.empty(0), side.kind
 
 
-def slices(frame: Any, asked: Question, cuts: Ints) -> Any:
-    """Each row once for each slice of time in which it holds, clipped there."""
+def pieces(frame: Any, asked: Question, cuts: Ints) -> Any:
+    """A partition's rows, as the slices need them."""
     side = asked.side_of(frame)
-    first, last = np.searchsorted(cuts, side.start, "right"), np.searchsorted(cuts, side.end, "left")
-    count = last - first + 1
-    rows = np.repeat(np.arange(len(side)), count)
-    part = np.arange(len(rows)) - np.repeat(np.cumsum(count) - count, count) + first[rows]
-    lows, highs = np.concatenate([[points.FIRST], cuts]), np.concatenate([cuts, [points.LAST]])
-    cells = {"start": np.maximum(side.start[rows], lows[part]), "end": np.minimum(side.end[rows], highs[part])}
-    cells.update((name, column.codes[rows]) for name, column in zip(amount_names(side), side.columns))
-    return pd.DataFrame({**cells, PART: part.astype(np.int64)})
+    amounts = groups.amounts_in(side, asked.measures)
+    numbers = [amounts[ask[1]].codes if ask[1:] else np.ones(len(side), np.int64) for ask in asked.asks]
+    functions = [together(ask) for ask in asked.asks]
+    return pd.DataFrame(dict(zip(asked.names, clipping.pieces_of(side, list(zip(functions, numbers)), cuts))))
 
 
-def amount_names(side: Side) -> List[str]:
-    """As the numbers that come together are called meanwhile."""
-    return [f"amount{place}" for place, _ in enumerate(side.columns)]
+def together(ask: Ask) -> str:
+    """What makes one answer of several: counts are added."""
+    return "sum" if ask[0] == "count" else str(ask[0])
 
 
 def answered(frame: Any, asked: Question) -> Found:
     """Start, end and values within a slice."""
-    names = amounts_of(asked.measures)
-    amounts = {name: Values(None, "int", frame[f"amount{place}"].to_numpy()) for place, name in enumerate(names)}
-    columns = [Values(None, "int", np.zeros(len(frame), np.int64))]
-    side = Side(frame["start"].to_numpy(), frame["end"].to_numpy(), columns, places=np.arange(len(frame)))
-    start, end, _, *values = measured(side, amounts, asked.measures, asked.options.workers)
+    side = Side(frame["start"].to_numpy(), frame["end"].to_numpy(), places=np.arange(len(frame)))
+    group = Values(None, "int", np.zeros(len(frame), np.int64))
+
+    def answer(ask: Ask) -> Found:
+        amount = Values(None, "int", frame[f"amount{asked.asks.index(ask)}"].to_numpy())
+        return split.agg(replace(side, columns=[group, amount]), together(ask), asked.options.workers)
+
+    start, end, _, *values = measured_by(answer, asked.measures)
     return (start, end, *values)
 
 
