@@ -200,7 +200,8 @@ lookup-better P Q one other best (inr (e, q)) h k = rw e k
 -- and that it leads somewhere, where it leads there as the first or was chosen before it
 pub lookup-leads : (indexes : List Index) (one other best : Option Lookup)
     → (best ≡ one) ⊎ ((best ≡ other) × IsSome (led_to indexes other))
-    → IfSome one (λ lookup. IsSome (bucket_at indexes lookup)) → IfSome best (λ lookup. IsSome (bucket_at indexes lookup))
+    → IfSome one (λ lookup. IsSome (bucket_at indexes lookup)) → IfSome best
+    (λ lookup. IsSome (bucket_at indexes lookup))
 lookup-leads indexes one other best (inl e) h = rw e h
 lookup-leads indexes one None best (inr (e, q)) h = rw e tt
 lookup-leads indexes one (Some other) best (inr (e, q)) h = rw e q
@@ -225,7 +226,8 @@ lookup-shortest indexes schema conds i pair one best inside e no_more there befo
     take_more conds i pair inside ∙ ap (λ u. take i conds ++ u ∷ []) (sym e) in
     rw grown (All-push (Shortest best) (take i conds) pair
     (All-weaker (Shortest one) (Shortest best)
-    (λ p h. AreNoMore-chain (led_to indexes best) (led_to indexes one) (led_to indexes (lookup_of schema p)) no_more h)
+    (λ p h. AreNoMore-chain (led_to indexes best) (led_to indexes one)
+    (led_to indexes (lookup_of schema p)) no_more h)
     (take i conds) before) there)
 
 -- the index that is found

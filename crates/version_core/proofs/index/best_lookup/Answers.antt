@@ -56,6 +56,7 @@ returns-clause-shortest c =
     let indexes = c.args.indexes.now in
     let schema = c.args.seeker.now.schema.now in
     let conds = conds_of c.args.seeker.now.change.now in
-    let done : length conds ≤ c.loop-i.i = subst (λ l. length l ≤ c.loop-i.i) c.conds-conds.ensures c.loop-i-test.false in
+    let done : length conds ≤ c.loop-i.i = subst
+    (λ l. length l ≤ c.loop-i.i) c.conds-conds.ensures c.loop-i-test.false in
     subst (All (λ pair. AreNoMore (led_to indexes c.loop-i.best) (led_to indexes (lookup_of schema pair))))
     (take_all c.loop-i.i conds done) c.loop-i.invariant.shortest

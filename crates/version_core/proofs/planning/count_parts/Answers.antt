@@ -76,7 +76,8 @@ loop-place-preserved c =
           found test refl refl in
           let kept = w.count-is in
           record {
-            counted = kept ∙ counted ∙ ap (λ l. length (parts_at c.args.seeker.now.change.now c.args.seeker.now.schema.now vs l)) same;
+            counted = kept ∙ counted ∙ ap (λ l. length
+                (parts_at c.args.seeker.now.change.now c.args.seeker.now.schema.now vs l)) same;
             few = omega (arith, few, kept);
           }
     ]

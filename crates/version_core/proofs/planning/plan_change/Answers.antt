@@ -68,7 +68,8 @@ loop-block-preserved-in-Continue-1 c =
       is_finite = tt;
       inside = (block-inside vs left block rest steps.1.0 c.loop-block.invariant.inside).1;
       made = made;
-      taken = block-taken (passes vs (is_taken c.args.seeker.now.change.now c.args.seeker.now.schema.now)) c.args.places.now left block rest
+      taken = block-taken (passes vs
+          (is_taken c.args.seeker.now.change.now c.args.seeker.now.schema.now)) c.args.places.now left block rest
           c.loop-block.plan.taken.items c.plan_block.new.plan.taken.items steps.1.0 grown c.loop-block.invariant.taken;
     }
 
@@ -88,7 +89,8 @@ loop-block-preserved c =
       is_finite = tt;
       inside = (block-inside vs left block rest steps.1.0 c.loop-block.invariant.inside).1;
       made = c.loop-block.invariant.made;
-      taken = block-taken (passes vs (is_taken c.args.seeker.now.change.now c.args.seeker.now.schema.now)) c.args.places.now left block rest
+      taken = block-taken (passes vs
+          (is_taken c.args.seeker.now.change.now c.args.seeker.now.schema.now)) c.args.places.now left block rest
           taken taken steps.1.0 (sym (append-nil taken) ∙ ap (λ l. taken ++ l) (sym none))
           c.loop-block.invariant.taken;
     }

@@ -13,6 +13,7 @@ invariant-loop-block l = record {
   is_finite : goal.iterator-loop-block.is_finite l.block-iterator;
   inside : All (λ place. place < length l.versions) (chunks_rest l.block-iterator);
   made : l.plan.parts ≡ parts_at l.seeker.change.now l.seeker.schema.now l.versions l.plan.taken.items;
-  taken : l.plan.taken.items ++ filter (passes l.versions (is_taken l.seeker.change.now l.seeker.schema.now)) (chunks_rest l.block-iterator)
+  taken : l.plan.taken.items ++ filter (passes l.versions (is_taken l.seeker.change.now l.seeker.schema.now))
+  (chunks_rest l.block-iterator)
       ≡ filter (passes l.versions (is_taken l.seeker.change.now l.seeker.schema.now)) l.places;
 }

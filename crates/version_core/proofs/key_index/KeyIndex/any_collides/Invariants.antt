@@ -7,5 +7,6 @@ use Rattle.version_core.proofs.key_index.KeyIndex.any_collides.Given as goal
 -- no version of an entry so far collides
 abbrev pub invariant-loop-entry : goal.invariant-loop-entry
 invariant-loop-entry l =
-    AreLeft (λ e. passes l.versions (collides_left l.seeker.change.now l.seeker.schema.now l.self.columns.items (lent_draft l.new)) e.place)
+    AreLeft (λ e. passes l.versions
+    (collides_left l.seeker.change.now l.seeker.schema.now l.self.columns.items (lent_draft l.new)) e.place)
     l.initial.entry-iterator.iter l.entry-iterator.iter

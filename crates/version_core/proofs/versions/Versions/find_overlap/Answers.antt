@@ -18,7 +18,8 @@ returns-then-among_new c =
     (sym (sym c.in_ok-among_new-in-Some.ensures ∙ c.if-among_new.true))
     ∙ pairs-added (collide c.args.key.now)
     (rows_left c.args.seeker.now.change.now c.args.seeker.now.schema.now (current c.args.self.now)) c.args.new.now
-    (left-apart c.args.seeker.now.change.now c.args.seeker.now.schema.now c.args.key.now (current c.args.self.now) c.requires.unbroken)
+    (left-apart c.args.seeker.now.change.now c.args.seeker.now.schema.now c.args.key.now
+    (current c.args.self.now) c.requires.unbroken)
 
 pub returns-else-among_new : goal.returns-else-among_new
 returns-else-among_new c =
@@ -28,7 +29,8 @@ returns-else-among_new c =
     (sym (sym c.in_ok-among_new-in-Some.ensures ∙ c.if-among_new.false))
     ∙ pairs-added (collide c.args.key.now)
     (rows_left c.args.seeker.now.change.now c.args.seeker.now.schema.now (current c.args.self.now)) c.args.new.now
-    (left-apart c.args.seeker.now.change.now c.args.seeker.now.schema.now c.args.key.now (current c.args.self.now) c.requires.unbroken)
+    (left-apart c.args.seeker.now.change.now c.args.seeker.now.schema.now c.args.key.now
+    (current c.args.self.now) c.requires.unbroken)
 
 pub collide_among_all-requires : goal.collide_among_all-requires
 collide_among_all-requires c = rw c.as_slice.ensures c.self.invariant.found.all

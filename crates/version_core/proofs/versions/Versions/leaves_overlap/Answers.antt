@@ -15,7 +15,8 @@ find_overlap-requires c =
     let rows = map unnumbered (current c.args.self.now) in
     record {
       unbroken = ap (λ key. have_collision key rows) c.requires.key
-          ∙ sym (keyed-breaks (key_of c.args.seeker.now.schema.now) rows (c.may_overlap.ensures.keyed c.if-may_overlap.true))
+          ∙ sym (keyed-breaks (key_of c.args.seeker.now.schema.now) rows
+          (c.may_overlap.ensures.keyed c.if-may_overlap.true))
           ∙ c.requires.unbroken;
     }
 
