@@ -67,8 +67,14 @@ pub fn items_of_sides<R: Threads + Sync>(
     ensures right { IfOk result (λ both.
         AreItemsByClass right.now classes.right.items both.1.items) }
 {
-    let lefts = classes.left_places.as_slice();
-    let rights = classes.right_places.as_slice();
+    // The classes by row are given back before memory is taken for items.
+    let Classes {
+        left_places,
+        right_places,
+        ..
+    } = classes;
+    let lefts = left_places.as_slice();
+    let rights = right_places.as_slice();
     if workers < 2 || lefts.len().min(rights.len()) < ROWS_FOR_THREAD {
         let lefts = items_at(alloc, left, lefts)?;
         let rights = items_at(alloc, right, rights)?;
