@@ -14,6 +14,6 @@ invariant-loop-block l = record {
   inside : All (λ place. place < length l.versions) (chunks_rest l.block-iterator);
   made : l.plan.parts ≡ parts_at l.seeker.change.now l.seeker.schema.now l.versions l.plan.taken.items;
   taken : l.plan.taken.items ++ filter (passes l.versions (is_taken l.seeker.change.now l.seeker.schema.now))
-  (chunks_rest l.block-iterator)
+      (chunks_rest l.block-iterator)
       ≡ filter (passes l.versions (is_taken l.seeker.change.now l.seeker.schema.now)) l.places;
 }
