@@ -36,7 +36,8 @@ last-both xs (y ∷ ys) = by xs y ys
     by (x ∷ z ∷ xs) y ys = by (z ∷ xs) y ys
 
 -- that of lists of records, one behind the other
-pub last-joined : {X : Type 0} (xs ys : List (List X)) → last (joined (xs ++ ys)) ≡ option_or (last (joined ys)) (last (joined xs))
+pub last-joined : {X : Type 0} (xs ys : List (List X))
+    → last (joined (xs ++ ys)) ≡ option_or (last (joined ys)) (last (joined xs))
 last-joined xs ys = ap last (joined-append xs ys) ∙ last-both (joined xs) (joined ys)
 
 -- that of batches up to one more

@@ -13,4 +13,5 @@ loop-batch-preserved c =
     ∙ option_map-or text c.last_field.result c.loop-batch.last
     ∙ ap (λ (o : Option (List ℕ)). option_or o (option_map text c.loop-batch.last)) c.last_field.ensures
     ∙ ap (λ (o : Option (List ℕ)). option_or (last (joined c.batch-item.result)) o) c.loop-batch.invariant
-    ∙ sym (last-more c.args.batches.now c.loop-batch.batch-index c.batch-item.result c.loop-batch-test.true c.batch-item.is)
+    ∙ sym (last-more c.args.batches.now c.loop-batch.batch-index c.batch-item.result c.loop-batch-test.true
+    c.batch-item.is)
