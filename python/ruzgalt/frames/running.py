@@ -23,11 +23,11 @@ SLICE = 1 << 26
 NO_ANSWER, OUT_OF_MEMORY = 3, "out of memory"
 
 
-def refuse_unbuilt(command: str) -> None:
+def refuse_unbuilt(command: str, place: str) -> None:
     """A clone's ./dipq would build the program first, in silence and for many minutes."""
     if which.is_of_clone(command) and not which.is_built():
         why = "the program isn't built yet, or from other sources than those that are here"
-        raise Stopped(f"{command}: {why}; `{command} </dev/null` does it, in many minutes")
+        raise Stopped(f"{command}{place}: {why}; `{command} </dev/null` does it, in many minutes")
 
 
 def ending_with_us(words: List[str]) -> List[str]:
@@ -45,10 +45,10 @@ def ending_with_us(words: List[str]) -> List[str]:
 
 
 def within(words: List[str], memory: Optional[int]) -> List[str]:
-    """A command that the system gives so many bytes of addresses at most, and that refuses then what it can't do."""
+    """A command that the system gives so many bytes of addresses at most; fewer where it has fewer already."""
     if memory is None:
         return words
-    return ["sh", "-c", 'ulimit -v "$1" && shift && exec "$@"', "sh", str(memory // 1024), *words]
+    return ["sh", "-c", 'ulimit -v "$1" 2>/dev/null; shift; exec "$@"', "sh", str(memory // 1024), *words]
 
 
 def memory_file(name: str) -> int:
@@ -91,7 +91,7 @@ def slices(pieces: Iterable[bytes]) -> Iterator[memoryview]:
 
 def run(given: int, told: int, workers: int) -> None:
     command, place = which.program(), worker.place()
-    refuse_unbuilt(command)
+    refuse_unbuilt(command, place)
     if shutil.which(command) is None:
         missing = f"{command}{place}: no such program"
         raise Stopped(f"{missing}; `make install` makes one, and the variable DIPQ names another")
