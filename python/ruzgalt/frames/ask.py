@@ -1,9 +1,10 @@
 """What the program answers of rows: a run for each call."""
 from __future__ import annotations
 
+from dataclasses import replace
 from typing import List, Optional, Sequence, Tuple
 
-from ruzgalt.frames import running, script
+from ruzgalt.frames import classes, running, script
 from ruzgalt.frames.arrays import NO_INTS, Cells, Ints
 from ruzgalt.frames.errors import Refused, Stopped
 from ruzgalt.frames.output import Output
@@ -60,7 +61,7 @@ def loads(sides: Sequence[Side]) -> List[Command]:
     made = []
     for table, side in zip("lr", sides):
         names = [f"c{place}" for place in range(len(side.columns))]
-        made += [script.make(table, names, side.columns), script.load(table, side)]
+        made += [script.make(table, names, side.columns), script.sent(table, side)]
     return made
 
 
@@ -98,5 +99,8 @@ def agg(side: Side, function: str, workers: int) -> Found:
     """Start, end, group and value; of a side of a group's number, and but for `count` the numbers to come together."""
     amount = ["c1"] if function != "count" else []
     asked = script.command("agg", "l", function, *amount, "by", "c0")
-    group, start, end, value = answered([*loads([side]), asked], workers).block("ippi")
-    return start, end, group, value
+    first = classes.first_of(int(side.columns[0].codes.max(initial=0)) + 1)
+    groups = replace(side.columns[0], codes=side.columns[0].codes + first)
+    sent = replace(side, columns=[groups, *side.columns[1:]])
+    group, start, end, value = answered([*loads([sent]), asked], workers).block("ippi")
+    return start, end, group - first, value

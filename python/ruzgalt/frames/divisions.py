@@ -7,7 +7,7 @@ from typing import Any, List, Tuple
 import numpy as np
 import pandas as pd
 
-from ruzgalt.frames import checks, division, groups, instants, script, values
+from ruzgalt.frames import checks, classes, division, instants, script, values
 from ruzgalt.frames.arrays import NO_INTS, Ints
 from ruzgalt.frames.division import Division
 from ruzgalt.frames.errors import Refused, refuse
@@ -104,6 +104,6 @@ def lists_of(parts: Any) -> List[Ints]:
     refuse(ids < 0, row_id, "BadNumber", "ids are numbers from 1 on")
     if pd.api.types.is_float_dtype(part.dtype):
         raise Refused("WrongKind", f"{part.dtype}: parts are texts or whole numbers; .astype('Int64')", "part")
-    ranks = groups.ranks(values.values_of(part))
+    ranks, _ = classes.numbered([values.values_of(part)], sort=True)
     order = np.argsort(ranks, kind="stable")
     return np.split(ids[order], np.flatnonzero(np.diff(ranks[order])) + 1)

@@ -109,7 +109,8 @@ def of_ends(side: Side, key: Sequence[Values], name: Any, is_last_day: bool) -> 
     if side.kind.is_long or side.has_intervals:
         return
     walls = walls_of(side.end, side)
-    of_last_minutes(walls, name)
+    if side.has_times:
+        of_last_minutes(walls, name)
     of_far_ends(walls, name)
     rows = some_rows(key, len(side))
     start, end = walls_of(side.start[rows], side), walls_of(side.end[rows], side)
@@ -129,6 +130,8 @@ def of_ends(side: Side, key: Sequence[Values], name: Any, is_last_day: bool) -> 
 
 def walls_of(seconds: Ints, side: Side) -> Ints:
     """What clocks show in the side's zone; no end stays no end."""
+    if side.kind.zone is None:
+        return seconds
     walls, known = seconds.copy(), seconds != points.NO_END
     walls[known] = zones.walls_of(seconds[known], side.kind.zone)
     return walls

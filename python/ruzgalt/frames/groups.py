@@ -6,7 +6,7 @@ from typing import Any, List, Mapping, Sequence, Tuple
 
 import numpy as np
 
-from ruzgalt.frames import doubts, measures, sides
+from ruzgalt.frames import classes, doubts, measures, sides
 from ruzgalt.frames.answer import Column, Columns
 from ruzgalt.frames.arrays import Ints
 from ruzgalt.frames.errors import refuse
@@ -70,26 +70,14 @@ def side_of(frame: Any, asked: Measures, options: Options) -> Side:
 
 
 def group_codes(side: Side, count: int) -> Tuple[Values, Ints]:
-    """The rank of each row's group, by its first so many values from the left, and a row of each group."""
+    """The rank of each row's group, by its first so many values from the left, and the first row of each group."""
     if not count:
         return Values(None, "int", np.zeros(len(side), np.int64)), np.zeros(1, np.int64)
-    keys = [ranks(column) for column in side.columns[:count]]
-    order = np.lexsort(keys[::-1])
-    is_new = np.zeros(len(side), bool)
-    for key in keys:
-        is_new[1:] |= key[order][1:] != key[order][:-1]
-    codes = np.empty(len(side), np.int64)
-    codes[order] = np.cumsum(is_new)
-    is_new[:1] = True
-    return Values(None, "int", codes), order[is_new]
-
-
-def ranks(column: Values) -> Ints:
-    """Numbers in the order of the values: numbers by value, texts by their bytes, which is that of their characters."""
-    if column.kind == "int":
-        return column.codes
-    cells = column.texts.cells
-    table = sorted(range(len(cells)), key=cells.__getitem__)
-    rank = np.empty(len(table), np.int64)
-    rank[table] = np.arange(len(table))
-    return rank[column.codes]
+    numbers, bound = classes.together(([column] for column in side.columns[:count]), sort=True)
+    is_there = np.zeros(bound, bool)
+    is_there[numbers] = True
+    codes = (np.cumsum(is_there) - 1)[numbers]
+    firsts = np.empty(int(is_there.sum()), np.int64)
+    # Of equal places the last one stands.
+    firsts[codes[::-1]] = np.arange(len(side))[::-1]
+    return Values(None, "int", codes), firsts

@@ -7,12 +7,34 @@ from typing import Callable, Dict, Iterator, List, Sequence, Tuple
 import numpy as np
 
 from ruzgalt.frames import points
-from ruzgalt.frames.arrays import NO_INTS, Bytes, Cells, Ints, Marks, joined, of_objects
+from ruzgalt.frames.arrays import NO_INTS, Bytes, Cells, Hashes, Ints, Marks, joined, of_objects
 from ruzgalt.frames.errors import Stopped
+from ruzgalt.frames.zones import DAY
 
 COMMA, LINE, QUOTE, DASH, ZERO, END = b',\n"-0e'
-# So many bytes are looked at, at a time, and so many records.
-CHUNK, RECORDS = 1 << 25, 500_000
+# So many bytes are looked at, at a time, and so many records: a processor's own memory holds them.
+CHUNK, RECORDS = 1 << 20, 50_000
+# Of eight bytes the last so many.
+LAST: Hashes = np.array([0, *((1 << 64) - (1 << 8 * (8 - count)) for count in range(1, 9))], np.uint64)
+# Digits of eight bytes are put together by twos, by fours, and all: which bits are numbers, what they are multiplied
+# with, and how far what comes of it is moved.
+STEPS = [
+    tuple(map(np.uint64, step)) for step in (
+        (0x0F0F0F0F0F0F0F0F, 10 * 2**8 + 1, 8), (0x00FF00FF00FF00FF, 100 * 2**16 + 1, 16),
+        (0x0000FFFF0000FFFF, 10_000 * 2**32 + 1, 32),
+    )
+]
+# The digits of the first two bytes of eight, of the first four, of the fifth and the sixth, of the last two.
+TWO, FOUR, THIRD, FOURTH = map(np.uint64, (0x0F0F, 0x0F0F0F0F, 0x0F0F << 32, 0x0F0F << 48))
+BYTE = np.uint64(8)
+
+
+def marks_of(data: Bytes) -> Ints:
+    """Where fields end."""
+    found = (data == COMMA) | (data == LINE)
+    if (data == QUOTE).any():
+        found &= outside(data, False)[0]
+    return np.flatnonzero(found)
 
 
 def outside(data: Bytes, was_inside: bool) -> Tuple[Marks, bool]:
@@ -76,9 +98,8 @@ class Output:
 
     def part(self, begin: int, many: int, kinds: str) -> List[Cells]:
         low, high = int(self.starts[begin]), int(self.ends[begin + many - 1]) + 1
-        data = self.data[low:high]
-        marks = np.flatnonzero(((data == COMMA) | (data == LINE)) & outside(data, False)[0])
-        is_even = len(marks) % many == 0 and (data[marks.reshape(many, -1)[:, -1]] == LINE).all()
+        marks = marks_of(self.data[low:high]) + low
+        is_even = len(marks) % many == 0 and (self.data[marks.reshape(many, -1)[:, -1]] == LINE).all()
         if not is_even:
             raise Stopped("records of one list of the answers have different numbers of fields")
         marks = marks.reshape(many, -1)
@@ -86,23 +107,37 @@ class Output:
             raise Stopped("records of a list of the answers have too few fields")
         fields = [(kind, marks[:, place] + 1, marks[:, place + 1]) for place, kind in enumerate(kinds)]
         with reading():
-            return [READERS[kind](data, start, stop) for kind, start, stop in fields if kind in READERS]
+            return [READERS[kind](self.data, start, stop) for kind, start, stop in fields if kind in READERS]
+
+
+def eights(data: Bytes) -> Hashes:
+    """The eight bytes from each place on, as a number of which the first is the least digit."""
+    words: Hashes = np.ndarray((len(data) - 7,), "<u8", data, strides=(1,))
+    return words
 
 
 def ints(data: Bytes, start: Ints, stop: Ints) -> Cells:
     """int64, or objects where a number is none of these."""
     is_negative = data[start] == DASH
     first = start + is_negative
-    width = int((stop - first).max())
-    if width > 18:
+    if int((stop - first).max()) > 18:
         return long_ints(data, start, stop)
-    numbers, power = np.zeros(len(start), np.int64), 1
-    for back in range(1, width + 1):
-        at = stop - back
-        is_digit = at >= first
-        numbers += np.where(is_digit, data[np.where(is_digit, at, 0)].astype(np.int64) - ZERO, 0) * power
-        power *= 10
-    return np.where(is_negative, -numbers, numbers)
+    numbers = digits(data, first, stop).astype(np.int64)
+    return np.where(is_negative, -numbers, numbers) if is_negative.any() else numbers
+
+
+def digits(data: Bytes, start: Ints, stop: Ints) -> Hashes:
+    """The numbers that stand there. What is read begins before them, with the word of their record at least."""
+    count = stop - start
+    if int(count.max()) > 8:
+        cut = np.maximum(start, stop - 8)
+        return digits(data, start, cut) * np.uint64(10**8) + digits(data, cut, stop)
+    if int(stop.min()) < 8:
+        raise IndexError("a number stands before all records")
+    told: Hashes = eights(data)[stop - 8] & LAST[count]
+    for bits, factor, places in STEPS:
+        told = ((told & bits) * factor) >> places
+    return told
 
 
 def long_ints(data: Bytes, start: Ints, stop: Ints) -> Cells:
@@ -118,23 +153,35 @@ def commits(data: Bytes, start: Ints, stop: Ints) -> Cells:
 
 
 def instants(data: Bytes, start: Ints, stop: Ints) -> Cells:
-    days = np.lib.stride_tricks.sliding_window_view(data, 10)[start]
+    """Seconds, of YYYY-MM-DD, and where more stands there of Thh:mm:ss behind it."""
+    words = eights(data)
+    years, days = words[start], words[start + 2]
+    century, year, month, day = pairs(years & FOUR | days << BYTE & THIRD | days & FOURTH).T
+    seconds = points.day_of(100 * century + year, month, day) * DAY
     has_time = stop - start > 10
-    if not has_time.any():
-        return points.read(days, np.empty((0, 9), np.uint8))
-    times = np.zeros((len(start), 9), np.uint8)
-    times[has_time] = np.lib.stride_tricks.sliding_window_view(data, 9)[start[has_time] + 10]
-    return points.read(days, times)
+    if has_time.any():
+        times = words[start[has_time] + 11]
+        hour, _, minute, second = pairs(times & TWO | times << BYTE & THIRD | times & FOURTH).T
+        seconds[has_time] += hour * 3600 + minute * 60 + second
+    return seconds
+
+
+def pairs(words: Hashes) -> Ints:
+    """The four numbers of two digits that stand in eight bytes, a row of each."""
+    told: Ints = (words * STEPS[0][1]).view(np.uint8).reshape(-1, 8)[:, 1::2].astype(np.int64)
+    return told
 
 
 def texts(data: Bytes, start: Ints, stop: Ints) -> Cells:
-    whole = data.tobytes()
-    bounds = zip(start.tolist(), stop.tolist())
-    if (data < 128).all():
+    low = int(start[0])
+    part = data[low:int(stop[-1])]
+    whole = part.tobytes()
+    bounds = zip((start - low).tolist(), (stop - low).tolist())
+    if (part < 128).all():
         text = whole.decode("ascii")
-        cells = of_objects([text[low:high] for low, high in bounds])
+        cells = of_objects([text[first:behind] for first, behind in bounds])
     else:
-        cells = of_objects([whole[low:high].decode() for low, high in bounds])
+        cells = of_objects([whole[first:behind].decode() for first, behind in bounds])
     for place in np.flatnonzero((data[start] == QUOTE) & (stop > start)):
         cells[place] = cells[place][1:-1].replace('""', '"')
     return cells

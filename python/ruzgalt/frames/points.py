@@ -6,15 +6,17 @@ from __future__ import annotations
 
 import datetime
 from dataclasses import dataclass
+from functools import lru_cache
 from typing import Any, List, Tuple
 
 import numpy as np
 import pandas as pd
 
-from ruzgalt.frames import arrow, zones
-from ruzgalt.frames.arrays import Bytes, Cells, Ints, Marks, of_objects
+from ruzgalt.frames import arrow, printing, zones
+from ruzgalt.frames.arrays import Cells, Ints, Marks, of_objects
 from ruzgalt.frames.errors import Refused, label_at, refuse
 from ruzgalt.frames.kinds import DAYS, NS, OFFSETS, UNITS, Kind
+from ruzgalt.frames.printing import FOURS, Printed
 from ruzgalt.frames.zones import DAY
 
 FIRST, LAST, NO_END = -62_135_596_800, 253_402_300_799, 253_402_214_400
@@ -26,6 +28,8 @@ LENGTHS = {"D": DAY, "S": 1}
 LAST_BUT_ONE = NO_END - DAY
 # The years of points in a time zone, by whether they are of datetime64[ns]: those before and behind are there too.
 ZONED = {False: ("0002", "9998"), True: ("1678", "2261")}
+# What is behind the year of a day, by month and day.
+MONTH_DAYS: Cells = np.array([b"-%02d-%02d" % (month, day) for month in range(1, 13) for day in range(1, 32)], "S6")
 
 
 @dataclass(frozen=True)
@@ -279,43 +283,64 @@ def period_of(seconds: int) -> Any:
     return pd.Period(ordinal=seconds, freq=OFFSETS["S"])
 
 
-def matrix_of(seconds: Ints) -> Bytes:
-    """The points as a script has them, a row of bytes each; zero bytes stand where a text is shorter."""
+def printed(seconds: Ints) -> List[Printed]:
+    """The points as a script has them: their days, and behind these their times, where some aren't midnights."""
     days = seconds // DAY
-    codes, found = pd.factorize(days)
-    matrix: Bytes = table_of(found.astype("M8[D]"), 10)[codes]
     times = seconds - days * DAY
     if not times.any():
-        return matrix
+        return [printed_days(days)]
     codes, found = pd.factorize(times)
-    table = table_of((found + 10 * DAY).astype("M8[s]"), 19)[:, 10:]
-    table[found == 0] = 0
-    return np.hstack([matrix, table[codes]])
+    table = np.where(found == 0, b"", table_of_times(found))
+    return [printed_days(days), Printed(table, codes)]
 
 
-def table_of(points: Cells, width: int) -> Bytes:
-    texts = np.datetime_as_string(points).astype(f"S{width}")
-    return np.frombuffer(texts.tobytes(), np.uint8).reshape(len(texts), width).copy()
+def printed_days(days: Ints) -> Printed:
+    """A day beside the others, 9999-12-31, is far off and frequent."""
+    far = NO_END // DAY
+    is_far = days == far
+    low = int(days.min(initial=far))
+    high = int(days.max(initial=low, where=~is_far))
+    if high - low > len(days):
+        codes, found = pd.factorize(days)
+        return Printed(table_of_days(found), codes)
+    codes = np.where(is_far, high + 1 - low, days - low)
+    return Printed(table_of_days(np.append(np.arange(low, high + 1), far)), codes)
+
+
+def table_of_days(days: Ints) -> Cells:
+    dates = days.astype("M8[D]")
+    months = dates.astype("M8[M]")
+    number = months.astype(np.int64) + 12 * 1970
+    day = (dates - months).astype(np.int64)
+    table = np.empty(len(days), "S4,S6")
+    table["f0"], table["f1"] = FOURS[number // 12], MONTH_DAYS[number % 12 * 31 + day]
+    told: Cells = table.view("S10")
+    return told
+
+
+def table_of_times(times: Ints) -> Cells:
+    """As T08:30:00, of seconds of a day."""
+    told = np.datetime_as_string(times.astype("M8[s]")).astype("S19")
+    return np.frombuffer(told.tobytes(), np.uint8).reshape(-1, 19)[:, 10:].copy().view("S9").ravel()
 
 
 def texts_of(seconds: Ints) -> List[str]:
-    return [bytes(row[row != 0]).decode() for row in matrix_of(np.asarray(seconds, np.int64))]
+    return printing.texts_of(printed(np.asarray(seconds, np.int64)))
 
 
 def text_of(second: int) -> str:
     return texts_of(np.array([second], np.int64))[0]
 
 
-def read(days: Bytes, times: Bytes) -> Ints:
-    """Seconds of rows of the ten digits of a date, and of THH:MM:SS or zero bytes, or of no times."""
-    digit = days.astype(np.int32) - 48
-    year = digit[:, 0] * 1000 + digit[:, 1] * 100 + digit[:, 2] * 10 + digit[:, 3]
-    told = (year * 100 + digit[:, 5] * 10 + digit[:, 6]) * 100 + digit[:, 8] * 10 + digit[:, 9]
-    codes, found = pd.factorize(told)
-    months = ((found // 10_000 - 1970) * 12 + found // 100 % 100 - 1).astype("M8[M]")
-    seconds: Ints = (months.astype("M8[D]").astype(np.int64) + found % 100 - 1)[codes] * DAY
-    if times.size and times.any():
-        one = np.where(times == 0, 0, times.astype(np.int64) - 48)
-        hours, minutes = one[:, 1] * 10 + one[:, 2], one[:, 4] * 10 + one[:, 5]
-        seconds += hours * 3600 + minutes * 60 + one[:, 7] * 10 + one[:, 8]
-    return seconds
+@lru_cache(maxsize=1)
+def first_days() -> Ints:
+    """The number of the first day of each month, from year 0 on."""
+    months = np.arange(-12 * 1970, 12 * (10_000 - 1970)).astype("M8[M]")
+    days: Ints = months.astype("M8[D]").astype(np.int64)
+    return days
+
+
+def day_of(year: Ints, month: Ints, day: Ints) -> Ints:
+    """The number of a day of the calendar."""
+    days: Ints = first_days()[12 * year + month - 1] + day - 1
+    return days

@@ -1,13 +1,12 @@
 """A script in pieces of bytes, a command at a time, as numpy writes it."""
 from __future__ import annotations
 
-from dataclasses import dataclass
-from typing import Any, Iterator, List, Mapping, Optional, Sequence
+from dataclasses import dataclass, replace
+from itertools import chain
+from typing import Any, Iterable, Iterator, List, Mapping, Optional, Sequence, Union
 
-import numpy as np
-
-from ruzgalt.frames import points, values
-from ruzgalt.frames.arrays import Bytes
+from ruzgalt.frames import points, printing, values
+from ruzgalt.frames.printing import Printed
 from ruzgalt.frames.sides import Side
 from ruzgalt.frames.values import Values
 from ruzgalt.script import records
@@ -15,8 +14,6 @@ from ruzgalt.script import records
 LIMIT = 67_108_864
 # What a script has beside its rows takes less than the rest.
 ROOM = LIMIT - 10_000
-# So many rows are written at a time.
-CHUNK = 200_000
 
 
 class Script(bytes):
@@ -53,7 +50,7 @@ class Command:
     """A command's fields, its bytes with those of its block; of a load its rows, of an update of a row its label."""
 
     fields: Sequence[str]
-    pieces: List[bytes]
+    pieces: Iterable[bytes]
     side: Optional[Side] = None
     label: Any = None
 
@@ -75,8 +72,15 @@ def block(fields: Sequence[str], inner: Sequence[Sequence[str]]) -> Command:
 
 
 def load(table: str, side: Side) -> Command:
+    """A load that may be sent again."""
+    made = sent(table, side)
+    return replace(made, pieces=list(made.pieces), side=side)
+
+
+def sent(table: str, side: Side) -> Command:
+    """A load that is sent once, and made meanwhile."""
     fields = ("load", table)
-    return Command(fields, [record(fields), *rows_of(side), b"end\n"], side)
+    return Command(fields, chain([record(fields)], rows_of(side), [b"end\n"]))
 
 
 def make(table: str, names: Sequence[str], columns: Sequence[Values], key: Sequence[str] = ()) -> Command:
@@ -86,33 +90,20 @@ def make(table: str, names: Sequence[str], columns: Sequence[Values], key: Seque
 
 def rows_of(side: Side) -> Iterator[bytes]:
     """The `row` records: by numpy, or with wide texts by Python."""
-    times = [points.matrix_of(side.start), points.matrix_of(side.end)]
-    columns = [values.matrix_of(column) for column in side.columns]
+    columns = [values.printed(column) for column in side.columns]
     narrow = [column for column in columns if column is not None]
     if len(narrow) < len(columns):
-        yield wide_rows(side, times)
+        yield wide_rows(side)
         return
-    for first in range(0, len(side), CHUNK):
-        yield narrow_rows([matrix[first:first + CHUNK] for matrix in (*times, *narrow)])
+    fields: List[Union[bytes, Printed]] = [b"row"]
+    for time in (side.start, side.end):
+        fields += [b",", *points.printed(time)]
+    for column in narrow:
+        fields += [b",", column]
+    yield from printing.rows_of([*fields, b"\n"], len(side))
 
 
-def narrow_rows(fields: List[Bytes]) -> bytes:
-    """Fields as rows of bytes, in which zero bytes stand for nothing."""
-    whole = np.zeros((len(fields[0]), 4 + sum(part.shape[1] + 1 for part in fields)), np.uint8)
-    whole[:, :4] = np.frombuffer(b"row,", np.uint8)
-    column = 4
-    for part in fields:
-        behind = column + part.shape[1]
-        whole[:, column:behind] = part
-        whole[:, behind] = ord(",")
-        column = behind + 1
-    whole[:, -1] = ord("\n")
-    written: bytes = whole[whole != 0].tobytes()
-    return written
-
-
-def wide_rows(side: Side, times: List[Bytes]) -> bytes:
-    whole = [np.ascontiguousarray(matrix) for matrix in times]
-    told = [matrix.view(f"S{matrix.shape[1]}").ravel().astype("U").tolist() for matrix in whole]
-    rows = zip(*told, *map(values.fields_of, side.columns))
+def wide_rows(side: Side) -> bytes:
+    times = [points.texts_of(side.start), points.texts_of(side.end)]
+    rows = zip(*times, *map(values.fields_of, side.columns))
     return "".join(f"row,{','.join(fields)}\n" for fields in rows).encode()

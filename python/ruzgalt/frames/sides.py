@@ -55,10 +55,14 @@ class Side:
         return [self.take(np.arange(first, min(first + size, len(self)))) for first in range(0, len(self), size)]
 
     @cached_property
+    def has_times(self) -> bool:
+        """Whether some row starts or ends at another second than a midnight."""
+        return any((one // zones.DAY * zones.DAY != one).any() for one in (self.start, self.end))
+
+    @cached_property
     def width(self) -> int:
         """At most so many bytes a row has in a script."""
-        has_time = (self.start % zones.DAY).any() or (self.end % zones.DAY).any()
-        return (44 if has_time else 26) + sum(1 + values.widest(column) for column in self.columns)
+        return (44 if self.has_times else 26) + sum(1 + values.widest(column) for column in self.columns)
 
 
 def together(sides: Sequence[Side]) -> Side:

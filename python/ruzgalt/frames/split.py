@@ -12,11 +12,11 @@ from dataclasses import dataclass, replace
 from typing import Any, Callable, Iterator, List, Sequence, Tuple
 
 import numpy as np
-import pandas as pd
 
-from ruzgalt.frames import ask, script, values, worker
+from ruzgalt.frames import ask, script, worker
 from ruzgalt.frames.arrays import NO_INTS, Cells, Ints
 from ruzgalt.frames.ask import Found
+from ruzgalt.frames.classes import with_classes
 from ruzgalt.frames.errors import OutOfMemory, Refused, Stopped
 from ruzgalt.frames.sides import Side, together
 from ruzgalt.frames.values import Values
@@ -61,11 +61,11 @@ def means_of(workers: int) -> Means:
 
 
 def classes_of(sides: Sides) -> List[Ints]:
-    """Numbers from 0 on, the same for rows of equal values; with no columns all are 0."""
+    """The classes of rows, from 0 on; with no columns all are 0."""
     if not sides[0].columns:
         return [np.zeros(len(side), np.int64) for side in sides]
-    codes = pd.factorize(np.concatenate([values.hashes(side.columns) for side in sides]))[0].astype(np.int64)
-    return np.split(codes, np.cumsum([len(side) for side in sides])[:-1])
+    low = min(int(side.columns[0].codes.min(initial=0)) for side in sides)
+    return [side.columns[0].codes - low for side in sides]
 
 
 def parts_of(sides: Sides, classes: Sequence[Ints], cap: int) -> Iterator[List[Side]]:
@@ -134,7 +134,7 @@ def all_of(found: List[Found]) -> Found:
 
 def join(sides: Sides, workers: int) -> Found:
     """Start, end, place of the left row and of the right one, in this order."""
-    return join_by(sides, means_of(workers))
+    return join_by(with_classes(sides), means_of(workers))
 
 
 def join_by(sides: Sides, means: Means) -> Found:
@@ -158,7 +158,7 @@ def join_by(sides: Sides, means: Means) -> Found:
 
 def anti(sides: Sides, workers: int) -> Found:
     """Start, end and place of what is left of the left rows, by place and start."""
-    return anti_by(sides, means_of(workers))
+    return anti_by(with_classes(sides), means_of(workers))
 
 
 def anti_by(sides: Sides, means: Means) -> Found:

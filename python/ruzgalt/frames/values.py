@@ -18,9 +18,10 @@ from typing import Any, Dict, List, Optional, Sequence, Tuple
 import numpy as np
 import pandas as pd
 
-from ruzgalt.frames import arrow
-from ruzgalt.frames.arrays import Bytes, Cells, Ints, of_objects
+from ruzgalt.frames import arrow, printing
+from ruzgalt.frames.arrays import Cells, Ints, of_objects
 from ruzgalt.frames.errors import Refused, refuse
+from ruzgalt.frames.printing import Printed
 from ruzgalt.script import forms
 
 # Texts up to so many bytes are written by numpy, from a table of fixed width.
@@ -55,13 +56,12 @@ class Texts:
         return max(map(len, self.fields), default=0)
 
     @cached_property
-    def matrix(self) -> Optional[Bytes]:
-        """The fields, a row of bytes each, zero bytes where one is shorter; None where they are wide or have any."""
+    def table(self) -> Optional[Cells]:
+        """The fields in one width, with zero bytes behind shorter ones; None where they are wide or have any."""
         fields = self.fields or [b""]
-        width = max(self.width, 1)
-        if width > NARROW or b"\0" in b"".join(fields):
+        if self.width > NARROW or b"\0" in b"".join(fields):
             return None
-        return np.array(fields, f"S{width}").view(np.uint8).reshape(len(fields), width)
+        return np.array(fields, f"S{max(self.width, 1)}")
 
     @cached_property
     def hashes(self) -> Any:
@@ -202,11 +202,13 @@ def texts_of(column: Any) -> Values:
         told = "half of a surrogate pair, which UTF-8 hasn't: read the source again as what it is"
         refuse(wrong, column, "BadUtf8", told)
     codes, found = codes_by_dict(cells) if "\0" in whole else pd.factorize(cells)
+    # A class of texts may have an own rule for which are equal.
+    texts = list(map(str.__str__, found))
     # A character has at most four bytes.
-    if 4 * max(map(len, found), default=0) > forms.TEXT_LIMIT:
-        is_long = np.fromiter((not forms.is_short(text) for text in found), bool, len(found))
+    if 4 * max(map(len, texts), default=0) > forms.TEXT_LIMIT:
+        is_long = np.fromiter((not forms.is_short(text) for text in texts), bool, len(texts))
         refuse(is_long[codes], column, "TooLong", "a text of more than 4,096 bytes: a shorter one, or several columns")
-    return Values(column.name, "text", codes, Texts(list(found)), column.dtype)
+    return Values(column.name, "text", codes, Texts(texts), column.dtype)
 
 
 def no_text(cell: Any, name: Any) -> str:
@@ -230,7 +232,7 @@ def is_missing(cell: Any) -> bool:
 def codes_by_dict(cells: Cells) -> Tuple[Ints, List[str]]:
     """As pandas.factorize, which ends texts at a zero byte, so that it takes "a\\0b" for "a"."""
     numbers: Dict[str, int] = {}
-    codes = [numbers.setdefault(cell, len(numbers)) for cell in cells]
+    codes = [numbers.setdefault(cell, len(numbers)) for cell in map(str.__str__, cells)]
     return np.array(codes, np.int64), list(numbers)
 
 
@@ -292,25 +294,11 @@ def unscaled(cells: Cells, column: Values) -> Any:
     return pd.Series(cells.astype("f8") / 10.0**digits).astype(dtype).array
 
 
-def matrix_of(values: Values) -> Optional[Bytes]:
-    """The fields, a row of bytes each, as of Texts.matrix."""
+def printed(values: Values) -> Optional[Printed]:
+    """The fields, where numpy can write them."""
     if values.kind == "int":
-        return digits_of(values.codes)
-    return None if values.texts.matrix is None else values.texts.matrix[values.codes]
-
-
-def digits_of(numbers: Ints) -> Bytes:
-    is_negative = numbers < 0
-    left = np.where(is_negative, -numbers.astype("u8"), numbers.astype("u8"))
-    width = len(str(int(left.max()))) if len(left) else 1
-    matrix = np.zeros((len(left), width + 1), np.uint8)
-    for place in range(width, 0, -1):
-        rest = left // np.uint64(10)
-        digit = (left - rest * np.uint64(10)).astype(np.uint8) + np.uint8(48)
-        matrix[:, place] = np.where((left == 0) & (place < width), np.uint8(0), digit)
-        left = rest
-    matrix[is_negative, 0] = ord("-")
-    return matrix
+        return printing.of_numbers(values.codes)
+    return None if values.texts.table is None else Printed(values.texts.table, values.codes)
 
 
 def fields_of(values: Values) -> List[str]:

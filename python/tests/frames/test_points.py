@@ -8,7 +8,7 @@ import pandas as pd
 
 import ruzgalt
 from random_frames import period
-from ruzgalt.frames import points, values
+from ruzgalt.frames import output, points, printing, values
 from ruzgalt.frames.kinds import Kind, joint_kind
 
 FIRST, LAST = datetime.datetime(1, 1, 1), datetime.datetime(9999, 12, 31, 23, 59, 59)
@@ -63,9 +63,9 @@ class Points(unittest.TestCase):
         texts = points.texts_of(SECONDS)
         self.assertEqual(texts[0], "0001-01-01")
         self.assertEqual(texts[-2:], ["9999-12-31", "9999-12-31T23:59:59"])
-        rows = [text.encode().ljust(19, b"\0") for text in texts]
-        matrix = np.frombuffer(b"".join(rows), np.uint8).reshape(len(rows), 19)
-        self.assertEqual(points.read(matrix[:, :10], matrix[:, 10:]).tolist(), SECONDS.tolist())
+        told = "".join(f"row,{text}\n" for text in texts) + f"end,{len(texts)}\n"
+        got = output.Output(np.frombuffer(told.encode(), np.uint8)).block("p")
+        self.assertEqual([column.tolist() for column in got], [SECONDS.tolist()])
 
     def test_kinds_of_two_frames(self):
         cases = [
@@ -134,8 +134,8 @@ class Values(unittest.TestCase):
 
     def test_digits_are_those_of_python(self):
         numbers = np.array([0, 1, 9, 10, -1, -10, 2**63 - 1, -2**63, 10**18, -10**17], np.int64)
-        rows = values.digits_of(numbers)
-        self.assertEqual([bytes(row[row != 0]).decode() for row in rows], list(map(str, numbers.tolist())))
+        told = [digits.replace(b"\0", b"").decode() for digits in printing.digits_of(numbers).tolist()]
+        self.assertEqual(told, list(map(str, numbers.tolist())))
 
     def test_decimals_are_exact(self):
         cells = objects(decimal.Decimal("92233720368547758.07"), decimal.Decimal("-0.10"), decimal.Decimal("1E2"))

@@ -102,13 +102,21 @@ class Split(unittest.TestCase):
             ruzgalt.agg(great, "sum", "cents")
         self.assertEqual(caught.exception.name, "Full")
 
-    def test_wide_texts_make_less_rows_of_a_run(self):
+    def test_a_run_has_as_many_rows_as_its_script_has_room_for(self):
+        left, right = frame(200, 12, values=20), frame(200, 13, values=20)
+        for name, asked in QUESTIONS.items():
+            with self.subTest(name):
+                whole = asked(left, right)
+                with mock.patch.object(split.script, "ROOM", 4_000), counted() as runs:
+                    pd.testing.assert_frame_equal(asked(left, right), whole)
+                self.assertGreater(runs.call_count, 1)
+
+    def test_wide_texts_take_no_room(self):
         wide = frame(200, 12, values=20)
         wide["k"] = ["x" * 4000 + str(value) for value in wide["k"]]
-        whole = ruzgalt.join(wide, wide, on="k")
-        with mock.patch.object(split.script, "ROOM", 400_000), counted() as runs:
-            pd.testing.assert_frame_equal(ruzgalt.join(wide, wide, on="k"), whole)
-        self.assertGreater(runs.call_count, 3)
+        with mock.patch.object(split.script, "ROOM", 20_000), counted() as runs:
+            self.assertGreater(len(ruzgalt.join(wide, wide, on="k")), 200)
+        self.assertEqual(runs.call_count, 1)
 
     def test_runs_that_memory_ends_are_parted_and_tried_again(self):
         same = days_of("2024-01-01", "2024-03-01", 60)

@@ -8,7 +8,7 @@ import pandas as pd
 
 import test_random_frames
 import test_random_stores
-from ruzgalt.frames import instants, kinds, output, points, split, values
+from ruzgalt.frames import classes, instants, kinds, output, points, split, values
 from ruzgalt.script import naming
 
 # So many seeds are tried until a wrong body is noticed.
@@ -53,8 +53,19 @@ def unmoved(start, end, form):
     return np.array([instants.second_of(start), ends], np.int64)
 
 
-def classes(sides):
-    return [np.arange(len(side)) for side in sides]
+def apart(columns, sort=False):
+    """Each row in a class of its own."""
+    count = sum(len(one.codes) for one in next(iter(columns)))
+    return np.arange(count), count
+
+
+def by_side(column, sort):
+    """The texts of each side numbered for themselves."""
+    return np.concatenate([one.codes for one in column]), 10**6
+
+
+def first_alone(one, other, sort):
+    return one
 
 
 FRAMES, STORES = test_random_frames.RandomFrames, test_random_stores.RandomStores
@@ -67,7 +78,9 @@ WRONG = [
     ("a missing end as a start", points, "NO_END", points.LAST, FRAMES),
     ("points as the left frame's", kinds, "joint_kind", lambda *kinds: kinds[0], FRAMES),
     ("last days as the days behind", points.Form, "ends_of", next_days, FRAMES),
-    ("each row in a class of its own", split, "classes_of", classes, FRAMES),
+    ("each row in a class of its own", classes, "together", apart, FRAMES),
+    ("texts numbered side by side", classes, "numbered", by_side, FRAMES),
+    ("the first of several columns alone", classes, "crossed", first_alone, FRAMES),
     ("quotes that stay", output, "READERS", {**output.READERS, "t": quoted}, STORES),
     ("names of tables that stay", naming, "apart", list, STORES),
     ("ends of changes as they are given", instants, "portion", unmoved, STORES),
