@@ -106,7 +106,7 @@ def loading(table: Table, frame: Any) -> Change:
 
 def changing(word: str, table: Table, portion: Ints, fields: Sequence[str]) -> Change:
     """An update, or a delete."""
-    told = script.command(word, table.name, *points.texts_of(portion), *fields)
+    told = script.command(word, table.name, *map(points.text_of, portion), *fields)
     return Change(table.name, [told], portion=portion)
 
 

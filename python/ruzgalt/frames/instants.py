@@ -45,6 +45,8 @@ def datetime_of(point: Any) -> datetime.datetime:
 
 def second_of(point: Any) -> int:
     """The point's second. Raises Refused (BadPoint, WrongKind)."""
+    if isinstance(point, str) and forms.read_point(point):
+        return points.FIRST + forms.seconds(point)
     column = column_of(point)
     try:
         return int(points.seconds_of(column)[0][0])
@@ -97,6 +99,8 @@ def portion(start: Any, end: Any, form: Form) -> Ints:
         raise Refused("BadPoint", f"{start!r}: a start has no time where ends are last days")
     if end is None:
         return np.array([first, points.NO_END], np.int64)
+    if not form.has_last_days:
+        return np.array([first, second_of(end)], np.int64)
     try:
         return np.array([first, form.ends_of(column_of(end))[0][0]], np.int64)
     except Refused as error:

@@ -43,7 +43,8 @@ def rows_behind(table: Table, command: Command, there: Sequence[Cells]) -> List[
     names = [f"the store's row of id {one}" for one in ids]
     if command.word == "load":
         return [*rows_of(keys, start, end, names), *loaded(table, command.side)]
-    portion, is_hit = hits(table, command, there)
+    portion = np.array([instants.second_of(text) for text in command.fields[2:4]], np.int64)
+    is_hit = hits(table, command, there, portion)
     kept = rows_of([key[~is_hit] for key in keys], start[~is_hit], end[~is_hit], of_objects(names)[~is_hit].tolist())
     return [*kept, *updated(table, command, portion, [cells[is_hit] for cells in there])]
 
@@ -68,13 +69,12 @@ def cells_of(column: Values) -> Cells:
     return column.codes if column.kind == "int" else of_objects(column.texts.cells)[column.codes]
 
 
-def hits(table: Table, command: Command, there: Sequence[Cells]) -> Tuple[Ints, Marks]:
-    """The portion of an update, and which of the rows it acts on."""
-    portion = np.array([instants.second_of(text) for text in command.fields[2:4]], np.int64)
+def hits(table: Table, command: Command, there: Sequence[Cells], portion: Ints) -> Marks:
+    """On which of the rows an update or a delete of a portion acts."""
     is_hit: Marks = (there[1] < portion[1]) & (portion[0] < there[2])
     for place, value in pairs(table, command, fields.where_places(command.fields)).items():
         is_hit &= there[3 + place] == value
-    return portion, is_hit
+    return is_hit
 
 
 def pairs(table: Table, command: Command, places: range) -> Dict[int, Any]:

@@ -15,7 +15,7 @@ from ruzgalt.checking import refusals
 from ruzgalt.errors import Misfit
 from ruzgalt.frames import ask, checks, kinds, points, running, script
 from ruzgalt.frames.arrays import NO_INTS, Cells
-from ruzgalt.frames.book import Book
+from ruzgalt.frames.book import LOG, Book, counts_of
 from ruzgalt.frames.errors import Refused, Stopped, doubt
 from ruzgalt.frames.named import same
 from ruzgalt.frames.options import OF_TABLE, options_of
@@ -133,15 +133,17 @@ def column_of(name: Any, kind: Kind, digits: Any) -> Values:
 def filled(book: Book) -> Book:
     """The book with the rows of its loads, and with what kinds of points its tables have."""
     asked = [script.command("between", name, "0", str(len(book.commands))) for name in book.tables]
-    output = ask.output_of([*book.commands, *asked], book.workers)
+    output = ask.output_of([*book.commands, LOG, *asked], book.workers)
     if ask.first_refused(output, book.commands):
         raise Stopped("the program refuses a change that it took before")
+    counts = counts_of(output)
     made, loads = {}, dict(enumerate(book.commands, 1))
     for name, table in book.tables.items():
         cells = output.block("ippcc" + table.readers)
         made[name] = with_points(table, cells)
         loads.update(loads_of(made[name], cells, loads))
-    return Book(book.workers, made, tuple(loads.values()))
+    commands = tuple(loads.values())
+    return Book(book.workers, made, commands, script.size_of(commands), counts)
 
 
 def with_points(table: Table, cells: Sequence[Cells]) -> Table:

@@ -18,6 +18,7 @@ from ruzgalt.frames.errors import Refused, label_at, refuse
 from ruzgalt.frames.kinds import DAYS, NS, OFFSETS, UNITS, Kind
 from ruzgalt.frames.printing import FOURS, Printed
 from ruzgalt.frames.zones import DAY
+from ruzgalt.script import forms
 
 FIRST, LAST, NO_END = -62_135_596_800, 253_402_300_799, 253_402_214_400
 NS_RANGE = (-(2**63) // NS + 1, (2**63 - 1) // NS)
@@ -329,7 +330,7 @@ def texts_of(seconds: Ints) -> List[str]:
 
 
 def text_of(second: int) -> str:
-    return texts_of(np.array([second], np.int64))[0]
+    return forms.print_point(forms.at_second(int(second) - FIRST))
 
 
 @lru_cache(maxsize=1)

@@ -83,6 +83,11 @@ def sent(table: str, side: Side) -> Command:
     return Command(fields, chain([record(fields)], rows_of(side), [b"end\n"]))
 
 
+def size_of(commands: Iterable[Command]) -> int:
+    """So many bytes commands have that are kept."""
+    return sum(len(piece) for command in commands for piece in command.pieces)
+
+
 def make(table: str, names: Sequence[str], columns: Sequence[Values], key: Sequence[str] = ()) -> Command:
     kinds = [text for name, column in zip(names, columns) for text in (name, column.kind)]
     return command("table", table, *kinds, *(["key", *key] if key else []))

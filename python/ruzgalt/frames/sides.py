@@ -8,7 +8,7 @@ from typing import Any, List, Mapping, Optional, Sequence, Tuple
 import numpy as np
 
 from ruzgalt.frames import intervals, kinds, values, zones
-from ruzgalt.frames.arrays import NO_INTS, Ints, Marks
+from ruzgalt.frames.arrays import NO_INTS, Hashes, Ints, Marks
 from ruzgalt.frames.errors import Refused, label_at
 from ruzgalt.frames.kinds import Kind, refuse_two_zones
 from ruzgalt.frames.named import column_of, same
@@ -58,6 +58,13 @@ class Side:
     def has_times(self) -> bool:
         """Whether some row starts or ends at another second than a midnight."""
         return any((one // zones.DAY * zones.DAY != one).any() for one in (self.start, self.end))
+
+    @cached_property
+    def hashes(self) -> Hashes:
+        """A number for each row, the same for rows of one period and equal values."""
+        times = [Values(None, "int", one) for one in (self.start, self.end)]
+        found: Hashes = values.hashes([*times, *self.columns])
+        return found
 
     @cached_property
     def width(self) -> int:

@@ -10,6 +10,7 @@ import pandas as pd
 from ruzgalt.frames import checks, values
 from ruzgalt.frames.errors import Refused
 from ruzgalt.frames.values import Values
+from ruzgalt.script import forms
 
 # As a store has it: the number, in a column's smaller units, or the text.
 Cell = Union[int, str]
@@ -18,6 +19,8 @@ Cell = Union[int, str]
 def cell_of(column: Values, value: Any) -> Cell:
     """The value as one of the column, which has no cells. Raises Refused."""
     refuse_value(column, value)
+    if is_plain(column, value):
+        return int(value) if column.kind == "int" else str.__str__(value)
     try:
         told = values.values_of(series_of(column, value), column.digits)
     except Refused as error:
@@ -43,6 +46,13 @@ def refuse_value(column: Values, value: Any) -> None:
         is_right = checks.is_whole(value)
     if not is_right:
         raise Refused("WrongKind", f"{checks.shown(value)}: the column has {wanted}; {remedy}", column.name)
+
+
+def is_plain(column: Values, value: Any) -> bool:
+    """Whether nothing of a value is left to be looked at, as it mostly is."""
+    if column.kind == "int":
+        return column.digits is None and values.LEAST <= int(value) <= values.GREATEST
+    return len(value) <= forms.TEXT_LIMIT and str.isascii(value)
 
 
 def series_of(column: Values, value: Any) -> Any:

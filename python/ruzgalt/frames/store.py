@@ -1,11 +1,13 @@
 """A store: tables with a past, from frames and in frames.
 
 The program keeps nothing, so what is kept is the script, and each question runs all of it. A change is tried as it is
-asked for; within `with store.batch():` all are tried at its end, in one run.
+asked for: a single one on the rows that its table has, without a run, and the program says at the next question whether
+it did just that. Whatever it may refuse is tried by a run, as are the changes of `with store.batch():`, at its end.
 """
 from __future__ import annotations
 
 import copy
+from dataclasses import replace
 from threading import RLock
 from typing import Any, Dict, List, Mapping, Optional, Sequence, Union
 
@@ -44,7 +46,8 @@ class Store:
     Refused
         Here, and of each change and question, where it fails: it changes nothing then.
     Stopped
-        Of each change and question, where the program ended without all answers.
+        Of each change and question, where the program ended without all answers, or says of a change that was accepted
+        something else than that answered.
 
     Warns
     -----
@@ -127,7 +130,7 @@ class Store:
         with self.lock:
             if self.draft is not None:
                 raise Refused("BadCommand", "a batch isn't ended, so there is no state to copy: copy behind it")
-            return {"book": self.book}
+            return {"book": replace(self.book, rows={})}
 
     def __setstate__(self, state: Mapping[str, Any]) -> None:
         self.book, self.lock, self.draft = state["book"], RLock(), None

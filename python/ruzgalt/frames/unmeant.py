@@ -1,19 +1,17 @@
 """What may not be meant in a change that was accepted: rows that are there twice, and changes of no row or of all."""
 from __future__ import annotations
 
-from typing import Any, Dict, Iterator, List, Sequence, Tuple
+from typing import Any, Dict, Iterator, List, Sequence
 
 import numpy as np
 import pandas as pd
 
 from ruzgalt.checking import doubts, marks
-from ruzgalt.frames import values
-from ruzgalt.frames.arrays import Hashes, Ints
+from ruzgalt.frames.arrays import Ints
 from ruzgalt.frames.changes import Change
 from ruzgalt.frames.script import Command
 from ruzgalt.frames.sides import Side
 from ruzgalt.frames.tables import Table
-from ruzgalt.frames.values import Values
 from ruzgalt.script import fields
 
 
@@ -30,31 +28,37 @@ def texts_of(commands: Sequence[Command], table: Table, name: Any) -> List[str]:
     return list(found)
 
 
-def doubts_of(change: Change, table: Table, before: Sequence[Command], counts: Tuple[Ints, Ints]) -> Iterator[str]:
+def doubts_of(change: Change, table: Table, before: Sequence[Command], counts: Ints) -> Iterator[str]:
     """Of a change of a table, and the commands before it; counts are how many versions these and its own commands
-    added and closed."""
-    of_table = [place for place, one in enumerate(before) if one.fields[1] == change.name]
-    touched = counts[1][len(before):].tolist()
+    added and closed, a row for each."""
+    touched = counts[len(before):, 1].tolist()
     if change.is_empty:
         yield f"{change.name}: the frame has no rows, so nothing was changed"
     elif change.side is not None:
-        yield from of_load(change, change.side, [before[place] for place in of_table])
+        yield from of_load(change, change.side, [one for one in before if one.fields[1] == change.name])
     elif change.commands[-1].label is not None:
         yield from of_rows(change, touched)
     elif change.commands[-1].word in marks.PORTIONS:
-        added, closed = (count[of_table] for count in counts)
-        yield from of_portion(change, touched[-1], int((added - closed).sum()))
+        there = open_rows(change.name, before, counts) if touched[-1] > 1 else touched[-1]
+        yield from of_portion(change, touched[-1], there)
         yield from of_end(change, table, touched[-1])
 
 
+def open_rows(name: str, before: Sequence[Command], counts: Ints) -> int:
+    """How many rows a table has behind some commits."""
+    of_table = [place for place, one in enumerate(before) if one.fields[1] == name]
+    added, closed = counts[of_table].sum(axis=0).tolist()
+    return int(added - closed)
+
+
 def of_load(change: Change, side: Side, before: Sequence[Command]) -> Iterator[str]:
-    rows = hashes_of(side)
+    rows = side.hashes
     is_twin = pd.Series(rows).duplicated().to_numpy()
     if is_twin.any():
         place = int(is_twin.argmax())
         one, other = two_rows(side.labels, place, int((rows == rows[place]).argmax()))
         yield f"load of {change.name}: {doubts.of_twins(one, other, int(is_twin.sum()))}"
-    loaded = [hashes_of(one.side) for one in before if one.side is not None and len(one.side)]
+    loaded = [one.side.hashes for one in before if one.side is not None and len(one.side)]
     if loaded and np.isin(rows, np.concatenate(loaded)).all():
         yield f"load of {change.name}: all its rows were loaded before, so each is there twice unless changed since"
 
@@ -63,13 +67,6 @@ def two_rows(labels: Sequence[Any], *places: int) -> List[str]:
     """Two rows by their labels, or where these are the same by their places."""
     told = [f"row {labels[place]!r}" for place in places]
     return told if told[0] != told[1] else [f"row {place} by place" for place in places]
-
-
-def hashes_of(side: Side) -> Hashes:
-    """A number for each row, the same for rows of one period and equal values."""
-    times = [Values(None, "int", one) for one in (side.start, side.end)]
-    found: Hashes = values.hashes([*times, *side.columns])
-    return found
 
 
 def of_portion(change: Change, count: int, there: int) -> Iterator[str]:
