@@ -9,6 +9,8 @@
     picks               answers chosen by number, line or name
     asking              the program is asked for a script's answers
     changes, history    what really changed between two answers; what each commit changed
+    grouped             records that hold for a time, by the values of columns
+    calendar, unions    what they come to by month; the periods in which one of a group holds
     front               whether kept answers are still the front of today's
     export              CSV and JSON
     spreadsheets        CSV for a spreadsheet

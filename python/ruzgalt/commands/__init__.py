@@ -6,7 +6,7 @@
     files               files that are whole or not there
     words               words that several tools take
     given               the script and its answers that a tool is given
-    picture             the words of `picture`
+    picture, over_time  the words of `picture`; of `months` and `coalesce`
     answers_tool        the words of tools/answers
     load_tool           the words of tools/csv-to-load
     installed           the commands that a wheel installs

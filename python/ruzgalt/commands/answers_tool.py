@@ -12,7 +12,7 @@ from ruzgalt import answers, which
 from ruzgalt.answers import asking, changes, databases, export, front, history, picks, spreadsheets
 from ruzgalt.checking import fitting, marks, overlaps, queries, refusals, single
 from ruzgalt.checking.replay import Replay
-from ruzgalt.commands import called, picture, streams
+from ruzgalt.commands import called, over_time, picture, streams
 from ruzgalt.commands.given import bytes_of, chosen, last, read, warn
 from ruzgalt.commands.progress import Progress
 from ruzgalt.commands.words import Words, pair
@@ -321,6 +321,14 @@ TOOLS: Dict[str, Tool] = {
     ),
     "overlaps": Tool(do_overlaps, "finds the rows that a key of the columns would forbid", words_of_overlaps),
     "gaps": Tool(do_gaps, "finds the times between rows of one value without any", words_of_overlaps),
+    "coalesce": Tool(
+        over_time.do_coalesce, "finds the periods in which some record of a group holds", over_time.words_of_coalesce,
+        more=over_time.OF_COALESCE,
+    ),
+    "months": Tool(
+        over_time.do_months, "sums amounts by month, quarter, year or week", over_time.words_of_months,
+        more=over_time.OF_MONTHS,
+    ),
     "history": Tool(do_history, "tells what each commit changed of a table, or of one fact", words_of_history),
     "front": Tool(
         do_front, "tells whether answers that were kept are still the front of the script's", words_of_front, False,

@@ -1,0 +1,62 @@
+"""Records that hold for a time, by the values of some of their columns."""
+from collections import defaultdict
+from typing import DefaultDict, List, NamedTuple, Sequence, Tuple
+
+from ruzgalt.answers import Answer
+from ruzgalt.errors import Misfit
+from ruzgalt.script.records import short
+from ruzgalt.script.schemas import PERIOD, Column, Kind
+
+# Whose records are periods of one commit. Those of versions are of several.
+WORDS = ("rows", "anti", "join", "agg")
+Values = Tuple[str, ...]
+
+
+class Groups(NamedTuple):
+    """The columns by which an answer's records are grouped, and the records of each group, by its values.
+
+    Groups are in the order of their values, columns from the left and numbers by size.
+    """
+
+    columns: List[Column]
+    records: List[Tuple[Values, List[List[str]]]]
+
+
+def by_columns(answer: Answer, names: Sequence[str]) -> Groups:
+    """The answer's records by the values of these columns, or where there are none, all of them."""
+    refuse_others(answer)
+    places = [place_of(answer, name) for name in names]
+    found: DefaultDict[Values, List[List[str]]] = defaultdict(list)
+    for record in answer.table.texts():
+        found[tuple(record[place] for place in places)].append(record)
+    columns = [answer.table.columns[place] for place in places]
+    is_int = [column.kind is Kind.INT for column in columns]
+
+    def by_size(values: Values) -> Tuple[object, ...]:
+        return tuple(int(text) if number else text for number, text in zip(is_int, values))
+
+    return Groups(columns, [(values, found[values]) for values in sorted(found, key=by_size)])
+
+
+def period_place(answer: Answer) -> int:
+    """The place of a record's start, behind which its end stands."""
+    return answer.table.names.index(PERIOD[0].name)
+
+
+def place_of(answer: Answer, name: str) -> int:
+    """The place of a column, which isn't to be one of the period."""
+    place = answer.table.place(name)
+    if place - period_place(answer) in (0, 1):
+        raise Misfit(f"{name}: a start or an end, and records are counted for all of their time: another column")
+    return place
+
+
+def refuse_others(answer: Answer) -> None:
+    """Refuses an answer whose records aren't periods."""
+    told = f"{answer.place}: {short(answer.command.text)}"
+    if answer.command.word == "at":
+        raise Misfit(f"{told}: an `at` tells of its point alone: ask by `rows`")
+    if answer.command.word in ("between", "fromto"):
+        raise Misfit(f"{told}: its records are versions of several commits: ask by `rows`, as of one of them")
+    if answer.command.word not in WORDS:
+        raise Misfit(f"{told}: its records aren't periods: ask by `rows`, `join`, `anti` or `agg`")

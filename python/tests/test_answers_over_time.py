@@ -1,0 +1,176 @@
+"""What `months` and `coalesce` of tools/answers print, beside what counting day by day gives.
+
+Names and texts are as odd as they may be. The program answers, where it is built.
+"""
+import csv
+import io
+import os
+import unittest
+from collections import defaultdict
+from datetime import date, timedelta
+from fractions import Fraction
+from pathlib import Path
+from typing import Any, Callable, DefaultDict, Dict, List, NamedTuple, Set, Tuple
+
+from tests.support import EXAMPLE, TOP, ToolCase, kept, run
+
+try:
+    from hypothesis import given, settings
+    from hypothesis import strategies as st
+
+    from tests.test_answers_hostile import NAMES, TEXTS, printed
+except ModuleNotFoundError as error:
+    raise unittest.SkipTest("records that hypothesis draws") from error
+
+PROGRAM = Path(os.environ.get("DIPQ", TOP / "crates/dipq/out/dipq")).resolve()
+EXAMPLES = int(os.environ.get("TOOLS_EXAMPLES", "100"))
+DRAWN = settings(max_examples=EXAMPLES, deadline=None, database=None, derandomize=EXAMPLES <= 150)
+START = date(2023, 12, 28)
+DAYS = st.integers(0, 70).map(lambda days: START + timedelta(days))
+AMOUNTS = st.one_of(st.integers(-(1 << 63), (1 << 63) - 1), st.integers(-9, 9))
+PAYROLL = ["tools/answers", "months", "examples/payroll.csv", "--answers", "examples/payroll.csv.stdout"]
+KEYS: Dict[str, Callable[[date], Any]] = {
+    "month": lambda day: (day.year, day.month), "quarter": lambda day: (day.year, (day.month + 2) // 3),
+    "year": lambda day: day.year, "week": lambda day: day.isocalendar()[:2],
+}
+
+
+class Row(NamedTuple):
+    start: date
+    end: date
+    group: Tuple[str, ...]
+    amount: int
+
+    @property
+    def days(self) -> List[date]:
+        return [self.start + timedelta(more) for more in range((self.end - self.start).days)]
+
+
+class Case(NamedTuple):
+    """A table's columns of texts and its column of amounts, and its rows."""
+
+    texts: List[str]
+    amounts: str
+    rows: List[Row]
+
+    @property
+    def script(self) -> str:
+        table = ["table", "t", *(one for name in self.texts for one in (name, "text")), self.amounts, "int"]
+        rows = [["row", str(row.start), str(row.end), *row.group, str(row.amount)] for row in self.rows]
+        return printed([table, ["load", "t"], *rows, ["end"], ["rows", "t"]])
+
+    @property
+    def named(self) -> List[str]:
+        """The names of these columns in an answer."""
+        own = ["row_id", "valid_from", "valid_to"]
+        return [f"{name}_" if name in own else name for name in [*self.texts, self.amounts]]
+
+
+@st.composite
+def cases(draw: Callable[[Any], Any]) -> Case:
+    names = [name for name in NAMES if name != "row_id_"]
+    *texts, amounts = draw(st.lists(st.sampled_from(names), min_size=1, max_size=3, unique=True))
+    values = [draw(st.lists(TEXTS, min_size=1, max_size=2)) for _ in texts]
+    lengths = st.integers(1, 60).map(timedelta)
+    drawn = st.tuples(DAYS, lengths, st.tuples(*map(st.sampled_from, values)), AMOUNTS)
+    return Case(texts, amounts, [
+        Row(start, start + length, group, amount) for start, length, group, amount in draw(st.lists(drawn, max_size=5))
+    ])
+
+
+def read(text: str) -> List[List[str]]:
+    return list(csv.reader(io.StringIO(text, newline="")))
+
+
+# The values of a group, and what the days of a piece have in common.
+Place = Tuple[Tuple[str, ...], Any]
+
+
+def plain_sums(rows: List[Row], each: str) -> Dict[Place, Fraction]:
+    """What each group comes to in each piece, by adding each day's share."""
+    key = KEYS[each]
+    around = [START + timedelta(more) for more in range(-400, 600)]
+    lengths: DefaultDict[Any, int] = defaultdict(int)
+    for day in around:
+        lengths[key(day)] += 1
+    found: DefaultDict[Place, Fraction] = defaultdict(Fraction)
+    for row in rows:
+        for day in row.days:
+            found[(row.group, key(day))] += Fraction(row.amount, lengths[key(day)])
+    return found
+
+
+@unittest.skipUnless(PROGRAM.exists(), "a built program to answer records that hypothesis draws")
+class OverTime(unittest.TestCase):
+    @DRAWN
+    @given(cases(), st.sampled_from(sorted(KEYS)))
+    def test_sums_are_those_of_days(self, case: Case, each: str) -> None:
+        by = [word for name in case.named[:-1] for word in ("--by", name)]
+        with kept(case.script) as script:
+            words = ["tools/answers", "months", script, "--program", str(PROGRAM), "--each", each]
+            status, text, said = run([*words, "--sum", case.named[-1], *by])
+        self.assertEqual(status, 0, said)
+        header, *records = read(text)
+        self.assertEqual(header, ["valid_from", "valid_to", *case.named])
+        wanted = plain_sums(case.rows, each)
+        found = {(tuple(group), KEYS[each](date.fromisoformat(start))): int(told) for start, _, *group, told in records}
+        self.assertEqual(sorted(found), sorted(wanted))
+        self.assertEqual(len(found), len(records))
+        self.assertEqual(bool(said), any(one.denominator != 1 for one in wanted.values()))
+        for group in {group for group, _ in wanted}:
+            whole = sum(told for (one, _), told in found.items() if one == group)
+            exact = sum((told for (one, _), told in wanted.items() if one == group), Fraction(0))
+            self.assertLessEqual(abs(whole - exact), Fraction(1, 2))
+        for piece, exact in wanted.items():
+            self.assertLess(abs(found[piece] - exact), 1)
+        for start, end, *_ in records:
+            days = [date.fromisoformat(start) + timedelta(more) for more in (-1, 0)]
+            self.assertNotEqual(*map(KEYS[each], days))
+            self.assertEqual(KEYS[each](days[1]), KEYS[each](date.fromisoformat(end) - timedelta(1)))
+
+    @DRAWN
+    @given(cases(), st.integers(0, 2))
+    def test_united_periods_have_the_days_of_their_records(self, case: Case, count: int) -> None:
+        names = case.named[:-1][:count]
+        with kept(case.script) as script:
+            words = ["tools/answers", "coalesce", script, "--program", str(PROGRAM), *names]
+            status, text, said = run(words)
+        self.assertEqual((status, said), (0, ""))
+        header, *records = read(text)
+        self.assertEqual(header, ["valid_from", "valid_to", *names])
+        wanted: DefaultDict[Tuple[str, ...], Set[date]] = defaultdict(set)
+        for row in case.rows:
+            wanted[row.group[:count]].update(row.days)
+        found: DefaultDict[Tuple[str, ...], List[date]] = defaultdict(list)
+        for start, end, *group in records:
+            first, behind = date.fromisoformat(start), date.fromisoformat(end)
+            # A maximal period: no day beside it is one of the group's.
+            self.assertFalse({first - timedelta(1), behind} & wanted[tuple(group)])
+            found[tuple(group)].extend(first + timedelta(more) for more in range((behind - first).days))
+        self.assertEqual({group: sorted(days) for group, days in wanted.items() if days}, dict(found))
+        self.assertEqual([tuple(group) for _, _, *group in records], sorted(tuple(group) for _, _, *group in records))
+
+
+class Words(ToolCase):
+    def test_what_can_t_be_counted_is_refused(self) -> None:
+        months = ["tools/answers", "months", EXAMPLE, "--answers", EXAMPLE + ".stdout"]
+        self.check([*months, "4", "--sum", "euros"], "", 1, "an `at` tells of its point alone: ask by `rows`")
+        self.check([*months, "6", "--sum", "euros"], "", 1, "versions of several commits")
+        self.check([*months, "7", "--sum", "number"], "", 1, "its records aren't periods")
+        pay = [*PAYROLL, "--go-on"]
+        self.check([*pay, "--sum", "sum_euros"], "", 1, "9999-12-31,42150: no end is known: --to tells up to where")
+        self.check([*pay, "--sum", "euros"], "", 1, "the answer has no column euros, but valid_from, valid_to, sum_")
+        self.check([*pay, "--sum", "valid_to"], "", 1, "valid_to: a start or an end")
+        self.check([*pay, "--sum", "sum_euros", "--to", "2024-13-01"], "", 1, "answers: --to 2024-13-01: no point")
+        both = ["--from", "2024-02-01", "--to", "2024-02-01"]
+        self.check([*pay, "--sum", "sum_euros", *both], "", 1, "--from 2024-02-01 isn't before --to 2024-02-01")
+        self.check([*pay, "--sum", "sum_euros", "--each", "day"], "", 2, "invalid choice: 'day'")
+
+    def test_only_the_time_that_is_told_counts(self) -> None:
+        cut = ["--sum", "sum_euros", "--from", "2024-06-16", "--to", "2024-07-01T12:00:00"]
+        # 41,810 for 15 of 30 days, and 41,830 for half of a day of 31.
+        self.check([*PAYROLL, "--go-on", *cut], "", 0, "2024-06-01,2024-07-01,20905\n2024-07-01,2024-08-01,675\n")
+
+
+if __name__ == "__main__":
+    unittest.main()
