@@ -11,6 +11,7 @@
     changes, history    what really changed between two answers; what each commit changed
     grouped             records that hold for a time, by the values of columns
     calendar, unions    what they come to by month; the periods in which one of a group holds
+    next_script         an answer as a table and a load of another script
     front               whether kept answers are still the front of today's
     export              CSV and JSON
     spreadsheets        CSV for a spreadsheet

@@ -3,7 +3,7 @@
     reasons, refusals   what is wrong with a field that is at fault; why a record was refused
     replay, overlaps    the changes done again; rows of one key that hold at one point, and times without any
     again, fitting      queries done again, and whether answers can be those of a script
-    single              a change of one row alone
+    single, raises      a change of one row alone; updates that raise amounts
     looks               texts that look like others, or have what can't be seen
     quoting             quotes and blanks of a script
     doubts, loads       what may not be meant in a file that is loaded; in all rows that were loaded into a table

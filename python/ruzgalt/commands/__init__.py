@@ -7,6 +7,7 @@
     words               words that several tools take
     given               the script and its answers that a tool is given
     picture, over_time  the words of `picture`; of `months` and `coalesce`
+    going_on            of `next` and `raise`
     answers_tool        the words of tools/answers
     load_tool           the words of tools/csv-to-load
     installed           the commands that a wheel installs

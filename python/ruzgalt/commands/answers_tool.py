@@ -12,7 +12,7 @@ from ruzgalt import answers, which
 from ruzgalt.answers import asking, changes, databases, export, front, history, picks, spreadsheets
 from ruzgalt.checking import fitting, marks, overlaps, queries, refusals, single
 from ruzgalt.checking.replay import Replay
-from ruzgalt.commands import called, over_time, picture, streams
+from ruzgalt.commands import called, going_on, over_time, picture, streams
 from ruzgalt.commands.given import bytes_of, chosen, last, read, warn
 from ruzgalt.commands.progress import Progress
 from ruzgalt.commands.words import Words, pair
@@ -336,6 +336,14 @@ TOOLS: Dict[str, Tool] = {
     "page": Tool(do_page, "prints one page of HTML with all answers, for a browser", words_of_page, more=OF_PAGE),
     "refusals": Tool(do_refusals, "tells each refusal, its field and its reason; of keys, the rows"),
     "only": Tool(do_only, "prints the command that deletes or updates the row of an id, and no other", words_of_only),
+    "raise": Tool(
+        going_on.do_raise, "prints the updates that raise amounts by a part of themselves", going_on.words_of_raise,
+        more=going_on.OF_RAISE,
+    ),
+    "next": Tool(
+        going_on.do_next, "prints an answer as a table and a load of the next script", going_on.words_of_next,
+        more=going_on.OF_NEXT,
+    ),
     "faulty": Tool(do_faulty, "tells all faulty rows of all loads, where dipq tells the first", has_answers=False),
 }
 

@@ -1,0 +1,150 @@
+"""Amounts raised by a part of themselves: the updates that do it, one for each amount, exactly."""
+import re
+from collections import Counter
+from typing import Iterator, List, NamedTuple, Optional, Sequence, Tuple
+
+from ruzgalt.answers import Answer
+from ruzgalt.answers.history import refuse_missing
+from ruzgalt.checking import refusals, replay
+from ruzgalt.errors import Misfit
+from ruzgalt.periods.rounding import Fraction, rounded
+from ruzgalt.script.fields import Field, Role
+from ruzgalt.script.forms import is_integer, printed, read_point
+from ruzgalt.script.records import short
+from ruzgalt.script.schemas import Column, Kind, Schema, Table, ints, unique
+
+PERCENT = re.compile(r"[+-]?\d{1,9}(?:\.(?P<decimals>\d{1,9}))?", re.ASCII)
+# Up to where a raise holds, unless it is told: no row is known to end, or else none holds behind the last point.
+NO_END, LAST = "9999-12-31", "9999-12-31T23:59:59"
+
+
+class Wish(NamedTuple):
+    """Which column of which table is raised by how much per cent, when, of which rows, and how it is rounded."""
+
+    table: str
+    column: str
+    percent: str
+    start: str
+    end: Optional[str] = None
+    where: Sequence[Tuple[str, str]] = ()
+    rounding: Optional[str] = None
+
+
+class Step(NamedTuple):
+    """An amount, of how many rows, what it comes to exactly, and that as a whole number."""
+
+    amount: int
+    rows: int
+    exact: Fraction
+    raised: int
+
+    @property
+    def is_rounded(self) -> bool:
+        return self.exact[0] != self.raised * self.exact[1]
+
+
+class Raise:
+    """The steps in an order in which no update touches what another one has raised."""
+
+    def __init__(self, answers: Sequence[Answer], wish: Wish) -> None:
+        refuse_missing(answers, wish.table)
+        self.wish, self.schema = wish, answers[-1].tables[wish.table]
+        self.factor = factor_of(wish.percent)
+        self.place = column_place(self.schema, wish.column)
+        refuse_values(answers[-1], self.schema, wish.where)
+        refuse_points(wish)
+        rows = [version.row for version in replay.behind(answers).open[wish.table].with_values(self.wanted)]
+        self.start = printed(wish.start)
+        self.end = printed(wish.end) if wish.end else LAST if any(row.end > NO_END for row in rows) else NO_END
+        counts = Counter(int(row.values[self.place]) for row in rows if row.start < self.end and self.start < row.end)
+        self.steps = [self.step(amount, counts[amount]) for amount in sorted(counts, key=self.order)]
+
+    @property
+    def wanted(self) -> replay.Pairs:
+        return [(self.schema.place(name), value) for name, value in self.wish.where]
+
+    def order(self, amount: int) -> Tuple[int, int]:
+        """Amounts go away from zero by a raise, so the farthest is first, and towards it by a cut."""
+        is_raise = self.factor[0] > self.factor[1]
+        return (-abs(amount) if is_raise else abs(amount), amount)
+
+    def step(self, amount: int, rows: int) -> Step:
+        exact = amount * self.factor[0], self.factor[1]
+        if exact[0] % exact[1] and self.wish.rounding is None:
+            told = f"{amount} comes to {decimal_of(exact)}, which is no whole number"
+            raise Misfit(f"{told}: --round tells how it becomes one, as --round half-up")
+        made = Step(amount, rows, exact, rounded(*exact, *filter(None, [self.wish.rounding])))
+        if not is_integer(str(made.raised)):
+            raise Misfit(f"{amount} comes to {made.raised}, which is no number of a column: it has more than 64 bits")
+        return made
+
+    def updates(self) -> Iterator[List[str]]:
+        """The record of each step that changes something."""
+        others = [text for name, value in self.wish.where if name != self.wish.column for text in (name, value)]
+        for step in self.steps:
+            if step.raised != step.amount:
+                portion = [self.wish.table, self.start, self.end]
+                changed = [self.wish.column, str(step.raised), "where", self.wish.column, str(step.amount)]
+                yield ["update", *portion, "set", *changed, *others]
+
+    def table(self) -> Table:
+        """What each update would do."""
+        column = Column(self.wish.column, Kind.INT)
+        names = [*ints("rows"), column, Column("exact", Kind.TEXT), *ints("raised")]
+        return Table(unique(names), [
+            [str(step.rows), str(step.amount), decimal_of(step.exact), str(step.raised)] for step in self.steps
+        ])
+
+    def notes(self) -> Iterator[str]:
+        """What is to be known of it."""
+        found = sum(step.is_rounded for step in self.steps)
+        if found:
+            yield f"{found:,} of {len(self.steps):,} amounts were rounded, {self.wish.rounding}"
+        same = [step.amount for step in self.steps if step.raised == step.amount]
+        if same:
+            yield f"{len(same):,} amounts stay what they are, as {same[0]}, and have no update"
+        if not self.steps:
+            which = "".join(f", with {short(name)} {short(value)}" for name, value in self.wish.where)
+            yield f"no row of {self.wish.table} holds from {self.start} on and before {self.end}{which}"
+
+
+def factor_of(percent: str) -> Fraction:
+    """What an amount is multiplied by."""
+    told = PERCENT.fullmatch(percent)
+    if told is None:
+        raise Misfit(f"--percent {short(percent)}: no number as 2.5 or -3")
+    whole = 10 ** len(told["decimals"] or "")
+    more = int(percent.replace(".", ""))
+    if more == 0 or more < -100 * whole:
+        raise Misfit(f"--percent {percent}: {'nothing is raised' if more == 0 else 'more than all is taken'}")
+    return 100 * whole + more, 100 * whole
+
+
+def decimal_of(number: Fraction) -> str:
+    """The number in digits: its denominator is a power of ten."""
+    digits = len(str(number[1])) - 1
+    text = str(abs(number[0])).zfill(digits + 1)
+    whole, decimals = text[:-digits], text[-digits:].rstrip("0")
+    return f"{'-' * (number[0] < 0)}{whole}{'.' * bool(decimals)}{decimals}"
+
+
+def column_place(schema: Schema, name: str) -> int:
+    place = schema.place(name)
+    if schema.columns[place].kind is not Kind.INT:
+        raise Misfit(f"{name}: a column of texts, and amounts are numbers")
+    return place
+
+
+def refuse_values(last: Answer, schema: Schema, where: Sequence[Tuple[str, str]]) -> None:
+    for name, value in where:
+        told = refusals.told_of_value(last, Field(0, value, Role.VALUE, schema, schema.columns[schema.place(name)]))
+        if told:
+            raise Misfit(f"--where {name}: {told}")
+
+
+def refuse_points(wish: Wish) -> None:
+    for word, point in (("from", wish.start), ("to", wish.end)):
+        if point is not None and read_point(point) is None:
+            raise Misfit(f"--{word} {short(point)}: no point, as 2024-01-05 or 2024-01-05T08:30:00")
+    if wish.end is not None and printed(wish.start) >= printed(wish.end):
+        raise Misfit(f"--from {wish.start} isn't before --to {wish.end}")

@@ -1,0 +1,72 @@
+"""The words of `next` and `raise` of tools/answers, which print records for a script to go on with."""
+from argparse import ArgumentParser, Namespace
+from typing import Tuple
+
+from ruzgalt.answers import export, next_script
+from ruzgalt.checking import fitting, raises
+from ruzgalt.commands import streams
+from ruzgalt.commands.given import last, read, warn
+from ruzgalt.commands.words import pair
+from ruzgalt.periods.rounding import ROUNDINGS
+from ruzgalt.script import records
+
+OF_NEXT = """Its records are rows of the table, for their own time, in their order. Ids are those of this script, and
+are left out where --ids doesn't take them."""
+OF_RAISE = """It is an update for each amount that rows have, from a point on: of a row that began before, only its
+time from there on. The updates are in an order in which none touches what another one has raised. Behind the script, or
+in the next one, they do the raise."""
+
+
+def words_of_next(parser: ArgumentParser) -> None:
+    parser.add_argument("pick", nargs="?", metavar="PICK", help="the answer, where it isn't the last")
+    parser.add_argument("--table", required=True, metavar="NAME", help="the name of the table that it becomes")
+    parser.add_argument(
+        "--column", type=named, action="append", default=[], metavar="COLUMN[=NAME]",
+        help="only these of its columns, in this order, each under its name or another one",
+    )
+    parser.add_argument("--key", action="append", default=[], metavar="COLUMN", help="a column of the table's key")
+    parser.add_argument("--ids", action="store_true", help="takes the ids as columns too")
+
+
+def named(word: str) -> Tuple[str, str]:
+    """A column, and the name that it gets."""
+    return pair(word) if "=" in word else (word, word)
+
+
+def do_next(options: Namespace) -> None:
+    [answer] = last(read(options), [options.pick] if options.pick else [], 1)
+    wish = next_script.Wish(options.table, options.column, options.key, options.ids)
+    # All is looked at before anything is printed.
+    streams.show_records(list(next_script.pieces(answer, wish)))
+
+
+def words_of_raise(parser: ArgumentParser) -> None:
+    parser.add_argument("table", metavar="TABLE", help="a table of the script")
+    parser.add_argument("column", metavar="COLUMN", help="its column of the amounts")
+    parser.add_argument("--percent", required=True, metavar="NUMBER", help="how much more, as 2.5, or less, as -3")
+    parser.add_argument("--from", dest="start", required=True, metavar="POINT", help="from when on")
+    parser.add_argument("--to", dest="end", metavar="POINT", help="up to when, where not for good")
+    parser.add_argument(
+        "--where", type=pair, action="append", default=[], metavar="COLUMN=VALUE", help="only rows with this value",
+    )
+    parser.add_argument(
+        "--round", dest="rounding", choices=ROUNDINGS, metavar="HOW",
+        help=f"how an amount becomes a whole number: {', '.join(ROUNDINGS)}, as Python's decimal has them",
+    )
+    parser.add_argument("--dry-run", action="store_true", help="prints a table of what the updates would do instead")
+
+
+def do_raise(options: Namespace) -> None:
+    found = read(options)
+    if not found.is_own:
+        fitting.refuse_unfit(found.answers, found.answers)
+    wish = raises.Wish(
+        options.table, options.column, options.percent, options.start, options.end, options.where, options.rounding,
+    )
+    made = raises.Raise(found.answers, wish)
+    for note in made.notes():
+        warn(note)
+    if options.dry_run:
+        streams.show_records(export.to_csv(made.table()))
+    else:
+        streams.show_records([records.encode(records.to_text(made.updates()))])

@@ -1,0 +1,160 @@
+"""What `raise` and `next` of tools/answers print, answered by the program, beside what each day held before.
+
+Names, texts and amounts are as odd as they may be.
+"""
+import decimal
+import os
+import unittest
+from collections import Counter
+from datetime import date, timedelta
+from pathlib import Path
+from typing import Any, Counter as Counts, List, Tuple
+
+from tests.support import EXAMPLE, TOP, ToolCase, kept, run
+
+try:
+    from hypothesis import given, settings
+    from hypothesis import strategies as st
+
+    from tests.test_answers_hostile import printed
+    from tests.test_answers_over_time import START, Case, cases, read
+except ModuleNotFoundError as error:
+    raise unittest.SkipTest("amounts that hypothesis draws") from error
+
+PROGRAM = Path(os.environ.get("DIPQ", TOP / "crates/dipq/out/dipq")).resolve()
+EXAMPLES = int(os.environ.get("TOOLS_EXAMPLES", "100"))
+DRAWN = settings(max_examples=EXAMPLES, deadline=None, database=None, derandomize=EXAMPLES <= 150)
+PERCENTS = ["2.5", "3", "+1.1", "-3", "-50.5", "-100", "0.000000001", "33.333333333", "100", "900", "50"]
+ROUNDINGS = {
+    "half-up": decimal.ROUND_HALF_UP, "half-down": decimal.ROUND_HALF_DOWN, "half-even": decimal.ROUND_HALF_EVEN,
+    "up": decimal.ROUND_UP, "down": decimal.ROUND_DOWN, "ceiling": decimal.ROUND_CEILING, "floor": decimal.ROUND_FLOOR,
+}
+EXACT = decimal.Context(prec=60)
+Day = Tuple[date, Tuple[str, ...], int]
+
+
+def raised(amount: int, percent: str, rounding: str) -> int:
+    exact = EXACT.multiply(decimal.Decimal(amount), EXACT.add(100, decimal.Decimal(percent)))
+    return int(EXACT.divide(exact, decimal.Decimal(100)).quantize(decimal.Decimal(1), ROUNDINGS[rounding], EXACT))
+
+
+def days_of(rows: List[List[str]], first: int) -> Counts[Day]:
+    """What each day holds of records: of columns from that place on, the last one is the amount."""
+    found: Counts[Day] = Counter()
+    for record in rows:
+        start, end = (date.fromisoformat(point) for point in record[first:first + 2])
+        for more in range((end - start).days):
+            found[start + timedelta(more), tuple(record[first + 2:-1]), int(record[-1])] += 1
+    return found
+
+
+def answer_of(script: str) -> List[List[str]]:
+    """The records of the script's last answer, as the program prints it, by tools/answers."""
+    with kept(script) as file:
+        status, text, said = run(["tools/answers", "csv", file, "--program", str(PROGRAM)])
+    if status:
+        raise AssertionError(said)
+    return read(text)[1:]
+
+
+@unittest.skipUnless(PROGRAM.exists(), "a built program to answer amounts that hypothesis draws")
+class GoingOn(unittest.TestCase):
+    @DRAWN
+    @given(cases(), st.sampled_from(PERCENTS), st.sampled_from(sorted(ROUNDINGS)), st.data())
+    def test_updates_raise_each_amount_once(self, case: Case, percent: str, rounding: str, data: Any) -> None:
+        start = START + timedelta(data.draw(st.integers(-5, 100)))
+        end = data.draw(st.one_of(st.none(), st.integers(1, 60).map(lambda days: start + timedelta(days))))
+        where = data.draw(st.sampled_from([None, *case.rows])) if case.texts else None
+        words = ["tools/answers", "raise", "-", "t", case.amounts, "--percent", percent, "--from", str(start)]
+        more = [*(["--to", str(end)] if end else []), "--round", rounding]
+        more += ["--where", f"{case.texts[0]}={where.group[0]}"] if where else []
+        status, text, said = run([*words, *more, "--program", str(PROGRAM)], case.script)
+        wanted: Counts[Day] = Counter()
+        for row in case.rows:
+            meets = where is None or row.group[0] == where.group[0]
+            for day in row.days:
+                is_raised = meets and start <= day and (end is None or day < end)
+                wanted[day, row.group, raised(row.amount, percent, rounding) if is_raised else row.amount] += 1
+        if status:
+            self.assertTrue(any(not -(1 << 63) <= amount < 1 << 63 for _, _, amount in wanted), said)
+            return
+        self.assertEqual(days_of(answer_of(f"{case.script}{text}rows,t\n"), 1), wanted)
+        amounts = {amount for day, _, amount in self.before(case) if start <= day}
+        self.assertLessEqual(len(read(text)), len(amounts))
+
+    def before(self, case: Case) -> Counts[Day]:
+        return Counter((day, row.group, row.amount) for row in case.rows for day in row.days)
+
+    @DRAWN
+    @given(cases(), st.booleans())
+    def test_an_answer_is_a_table_of_the_next_script(self, case: Case, has_ids: bool) -> None:
+        words = ["tools/answers", "next", "-", "--table", "n", "--program", str(PROGRAM), *["--ids"] * has_ids]
+        status, text, said = run(words, case.script)
+        self.assertEqual((status, said), (0, ""))
+        made, before = answer_of(f"{text}rows,n\n"), answer_of(case.script)
+        own = [[*start_end, *([row_id] if has_ids else []), *others] for row_id, *start_end, others in (
+            (record[0], record[1], record[2], record[3:]) for record in before
+        )]
+        self.assertEqual([record[1:] for record in made], own)
+
+    def test_a_sum_goes_on_by_its_group(self) -> None:
+        script = printed([
+            ["table", "t", "name", "text", "n", "int"], ["load", "t"], ["row", "2024-01-01", "2024-02-01", 'a"b', "7"],
+            ["end"], ["agg", "t", "sum", "n", "by", "name"],
+        ])
+        words = ["tools/answers", "next", "-", "--table", "total", "--program", str(PROGRAM), "--key", "name"]
+        wanted = 'table,total,name,text,sum_n,int,key,name\nload,total\nrow,2024-01-01,2024-02-01,"a""b",7\nend\n'
+        self.assertEqual(run(words, script), (0, wanted, ""))
+
+
+class Words(ToolCase):
+    def test_what_can_t_be_raised_is_refused(self) -> None:
+        pay = ["tools/answers", "raise", EXAMPLE, "pay", "euros", "--answers", EXAMPLE + ".stdout"]
+        more = ["--percent", "2.5", "--from", "2024-07-01"]
+        for words, told in [
+            (["--percent", "2,5", "--from", "2024-07-01"], "--percent 2,5: no number as 2.5 or -3"),
+            (["--percent", "0.0", "--from", "2024-07-01"], "--percent 0.0: nothing is raised"),
+            (["--percent", "-100.1", "--from", "2024-07-01"], "more than all is taken"),
+            (["--percent", "2.5", "--from", "1.7.2024"], "--from 1.7.2024: no point"),
+            ([*more, "--to", "2024-07-01T00:00:00"], "isn't before --to"),
+            ([*more, "--where", "name=A"], "the table pay has no column name, but person, euros"),
+            ([*more, "--where", "euros=05"], "--where euros: BadNumber"),
+        ]:
+            self.check([*pay, *words], "", 1, told)
+        wrong = ["tools/answers", "raise", EXAMPLE, "pay", "person", "--answers", EXAMPLE + ".stdout", *more]
+        self.check(wrong, "", 1, "person: a column of texts")
+        self.check([*wrong[:3], "salary", *wrong[4:]], "", 1, "salary: no table that is there: pay")
+        self.check([*pay, *more, "--round", "nearest"], "", 2, "invalid choice: 'nearest'")
+
+    def test_a_raise_says_how_it_rounds(self) -> None:
+        pay = ["tools/answers", "raise", EXAMPLE, "pay", "euros", "--answers", EXAMPLE + ".stdout"]
+        more = ["--from", "2024-07-01", "--dry-run"]
+        half = "4800 comes to 4800.048, which is no whole number: --round tells how"
+        self.check([*pay, *more, "--percent", "0.001", "--where", "euros=4800"], "", 1, half)
+        table = "rows,euros,exact,raised\n1,5400,5535,5535\n1,4800,4920,4920\n"
+        self.check([*pay, *more, "--percent", "2.5"], "", 0, table)
+        self.check([*pay, *more, "--percent", "0.001", "--round", "down"], "", 0, "1,5400,5400.054,5400\n")
+
+    def test_what_can_t_go_on_is_refused(self) -> None:
+        pay = ["tools/answers", "next", EXAMPLE, "--answers", EXAMPLE + ".stdout"]
+        self.check([*pay, "7", "--table", "t"], "", 1, "its records aren't rows of one commit")
+        self.check([*pay, "6", "--table", "t"], "", 1, "its records aren't rows of one commit")
+        self.check([*pay, "4", "--table", "T"], "", 1, "--table T: no name of a table")
+        self.check([*pay, "4", "--table", "t", "--key", "who"], "", 1, "--key who: none of the table's columns person")
+        for words, told in [
+            (["person=Person"], "Person: no name of a column"), (["person", "euros=person"], "the name of two columns"),
+            (["name"], "the answer has no column name, but row_id, "), (["person=by"], "by: no name of a column"),
+        ]:
+            self.check([*pay, "4", "--table", "t", *(one for word in words for one in ("--column", word))], "", 1, told)
+        self.check([*pay, "4", "--table", "t", "--column", "euros=pay"], "", 0, "table,t,pay,int\nload,t\nrow,2024-03")
+
+    def test_a_sum_past_64_bits_can_t_go_on(self) -> None:
+        script = "table,t,n,int\nload,t\nrow,2024-01-01,2024-02-01,9223372036854775807\n" \
+            "row,2024-01-01,2024-02-01,1\nend\nagg,t,sum,n\n"
+        with kept("ok,1\nok,2\nrow,2024-01-01,2024-02-01,9223372036854775808\nend,1\n") as answers:
+            words = ["tools/answers", "next", "-", "--answers", answers, "--table", "n"]
+            self.check(words, script, 1, "sum_n is 9223372036854775808, which has more than 64 bits")
+
+
+if __name__ == "__main__":
+    unittest.main()
