@@ -11,7 +11,7 @@ from ruzgalt.commands.progress import Progress
 from ruzgalt.commands.words import Words, decimals as digits_of
 from ruzgalt.errors import Misfit
 from ruzgalt.loading import claims, dates, decimals
-from ruzgalt.loading.loaded_table import fit, schema_of
+from ruzgalt.loading.loaded_table import fit, name_of, rename, schema_of
 from ruzgalt.loading.making import Load
 from ruzgalt.loading.sheets import Sheet, composed
 from ruzgalt.script import records
@@ -47,7 +47,10 @@ def words() -> ArgumentParser:
     parser.add_argument("table", metavar="TABLE", help="the table of the store")
     parser.add_argument("start", metavar="FROM", help="the file's column with the start of a row")
     parser.add_argument("end", metavar="TO", help="that with its end")
-    parser.add_argument("column", nargs="*", metavar="COLUMN", help="that with a value, in the order of the table's")
+    parser.add_argument(
+        "column", nargs="*", metavar="[NAME=]COLUMN",
+        help="that with a value, in the order of the table's; as grade=Neu the file's Neu is the table's grade",
+    )
     parser.add_argument("--file", metavar="FILE", help="the file, where it isn't standard input")
     parser.add_argument(
         "--check", metavar="INSTANT",
@@ -56,6 +59,10 @@ def words() -> ArgumentParser:
     words_of_table(parser)
     words_of_values(parser)
     parser.add_argument("--line-breaks", action="store_true", help="fields in quotes may have line breaks")
+    parser.add_argument(
+        "--drop-equal", action="store_true",
+        help="leaves out rows that are equal to an earlier one in all of the file's fields",
+    )
     parser.add_argument("--part", type=part, metavar="K/N", help="only rows whose key is of part K of N, by a checksum")
     return parser
 
@@ -126,12 +133,17 @@ def given(options: Namespace) -> bytes:
 def load_of(options: Namespace) -> Tuple[Load, Optional[Schema], List[str]]:
     """The load, the table where it is given, and what is noted of how the file fits it."""
     sheet = Sheet(given(options), options.line_breaks)
+    rename(options, sheet.header)
     schema = fitted = schema_of(options)
     notes: List[str] = []
     if schema:
         fitted, left_out = fit(options, schema, sheet.header)
         names = ", ".join(left_out)
         notes = [f"the file has no column {names}, so updates leave it as it is"] if left_out else []
+    else:
+        of_file = {name: column for column, name in options.renamed.items()}
+        options.update = [name_of(name, of_file) for name in options.update]
+        options.decimals = [(name_of(name, of_file), digits) for name, digits in options.decimals]
     refuse_words(options)
     load = Load(sheet, options, fitted)
     if options.part and options.update:
@@ -145,9 +157,10 @@ def claimed(options: Namespace) -> Tuple[bytes, List[str]]:
         raise Misfit(f"--check: a division has a part and an id alone, and not {options.column[0]}")
     if options.check != "-" and read_point(options.check) is None:
         raise Misfit(f"--check {options.check}: no point, as 2024-01-05, and no - for a table without rows")
-    unused = [word for word in ("part", "update", "record", "decimals") if getattr(options, word)]
+    unused = [word for word in ("part", "update", "record", "decimals", "drop_equal") if getattr(options, word)]
     if unused:
-        raise Misfit(f"--check takes no --{unused[0].replace('record', 'table')}: it makes no load")
+        word = unused[0].replace("record", "table").replace("_", "-")
+        raise Misfit(f"--check takes no --{word}: it makes no load")
     sheet = Sheet(given(options), options.line_breaks)
     check, notes = claims.check_of(sheet, options.table, options.start, options.end, options.check)
     return records.encode(check), notes

@@ -5,6 +5,7 @@ from typing import Dict, List, Optional, Sequence, Tuple
 
 from ruzgalt.errors import Misfit
 from ruzgalt.script import commands, records
+from ruzgalt.script.forms import is_name
 from ruzgalt.script.reader import Source
 from ruzgalt.script.records import visible
 from ruzgalt.script.schemas import Schema, is_schema
@@ -25,23 +26,60 @@ def schema_of(options: Namespace) -> Optional[Schema]:
     return Schema.read(found)
 
 
+def rename(options: Namespace, header: Sequence[str]) -> None:
+    """Parts each COLUMN that is NAME=COLUMN into the table's name and the header's.
+
+    What stands in the header as it is, is its name, whatever signs it has.
+    """
+    options.renamed = {}
+    for place, word in enumerate(options.column):
+        name, mark, column = word.partition("=")
+        if mark and word not in header:
+            if not is_name(name):
+                raise Misfit(f"{visible(word)}: {visible(name)} is no name of a table's column")
+            if name in options.renamed.values():
+                raise Misfit(f"{visible(word)}: the table's {name} is told twice")
+            options.column[place] = column
+            options.renamed[column] = name
+
+
 def fit(options: Namespace, schema: Schema, header: Sequence[str]) -> Tuple[Schema, List[str]]:
     """The table's columns in the order of the COLUMNs, and those that updates leave as they are for want of a column.
 
-    Fills the COLUMNs in where none is given. Refuses columns that aren't the table's, as far as names tell.
+    Fills the COLUMNs in where none is given, and of a load those that stand beside renamed ones. Refuses columns that
+    aren't the table's, as far as names tell.
     """
     left_out: List[str] = []
-    if not options.column:
+    if options.renamed and not options.update:
+        options.column = in_order(options, schema, header)
+    elif not options.column:
         pairs = [(name, name_in(header, name)) for name in schema.names]
         left_out = [name for name, found in pairs if options.update and found not in header]
         options.column = [found for name, found in pairs if name not in left_out]
-    fitted = some_of(schema, options.column) if options.update else schema
+    told = [name_for(options, name) for name in options.column]
+    fitted = some_of(schema, told) if options.update else schema
     if fitted is schema:
-        refuse_others(options.column, schema)
+        refuse_others(told, schema)
     of_file = dict(zip(fitted.names, options.column))
     options.update = [name_of(name, of_file) for name in options.update]
     options.decimals = [(name_of(name, of_file), digits) for name, digits in options.decimals]
     return fitted, left_out
+
+
+def in_order(options: Namespace, schema: Schema, header: Sequence[str]) -> List[str]:
+    """The file's columns in the order of the table's: the COLUMNs by their names there, and the others by their own."""
+    of_table = {plain(name_for(options, name)): name for name in options.column}
+    for name, column in of_table.items():
+        if name not in schema.names:
+            known = ", ".join(schema.names)
+            raise Misfit(f"{visible(column)}: {schema.name} has no column {visible(name)}, but {known}")
+    return [of_table[name] if name in of_table else name_in(header, name) for name in schema.names]
+
+
+def name_for(options: Namespace, column: str) -> str:
+    """The name that the table has for a column of the file, where one is given, or else the file's."""
+    name: str = options.renamed.get(column, column)
+    return name
 
 
 def plain(name: str) -> str:

@@ -3,7 +3,7 @@ from argparse import Namespace
 from itertools import compress, repeat
 from operator import ge
 from os.path import isfile
-from typing import Iterator, List, Optional, Sequence, Tuple, cast
+from typing import Iterator, List, Optional, Sequence, Set, Tuple, cast
 from zlib import crc32
 
 from ruzgalt.checking.doubts import Ends, Notes, Overwrites, Repeats, Twins
@@ -11,6 +11,7 @@ from ruzgalt.errors import Misfit
 from ruzgalt.loading.columns import Column, End, Start, Text, form_of, mark_of, point_text
 from ruzgalt.loading.dates import as_good_swapped, without_half
 from ruzgalt.loading.decimals import Marks, Scale, readings
+from ruzgalt.loading.loaded_table import name_for
 from ruzgalt.loading.sheets import Piece, Sheet
 from ruzgalt.script import records
 from ruzgalt.script.forms import is_name, read_point
@@ -20,6 +21,41 @@ from ruzgalt.script.schemas import Schema
 # What a script and a table can have; from nine tenths on it is told.
 MOST_BYTES, MOST_ROWS = 67_108_864, 1_000_000
 TOLD = 20
+
+
+class Equals:
+    """Which rows are equal to an earlier one in all of the file's fields, where these are to be left out."""
+
+    def __init__(self, is_dropping: bool) -> None:
+        self.is_dropping = is_dropping
+        self.met: Set[str] = set()
+        self.count, self.first = 0, 0
+
+    def without(self, piece: Piece) -> Piece:
+        """The piece without those rows."""
+        if not self.is_dropping:
+            return piece
+        kept = [self.is_new(line, record) for line, record in zip(*piece)]
+        return Piece(list(compress(piece.lines, kept)), list(compress(piece.records, kept)))
+
+    def is_new(self, line: int, record: Sequence[str]) -> bool:
+        # A file has no zero byte.
+        row = "\0".join(record)
+        is_met = row in self.met
+        if is_met:
+            self.first = self.first if self.count else line
+            self.count += 1
+        self.met.add(row)
+        return not is_met
+
+    def told(self) -> Iterator[str]:
+        if self.count:
+            which = "rows were" if self.count > 1 else "row was"
+            where = f"the first at line {self.first}" if self.count > 1 else f"line {self.first}"
+            told = f"{self.count:,} {which} left out, equal to an earlier one in all of the file's fields"
+            yield f"--drop-equal: {told} ({where})"
+        elif self.is_dropping:
+            yield "--drop-equal: no row is equal to an earlier one in all of the file's fields"
 
 
 class Load:
@@ -39,6 +75,7 @@ class Load:
         self.either_line: Optional[int] = None
         self.notes, self.twins, self.repeats = Notes(), Twins(), Repeats()
         self.left_out: Optional[str] = None
+        self.equals = Equals(options.drop_equal)
         self.nameless = [place for place, name in enumerate(sheet.header) if not name.strip()]
         key = ", ".join(options.column[place] for place in self.keys) or "table"
         self.ends, self.overwrites = Ends(options.end, key, options.last_day), Overwrites(key)
@@ -63,7 +100,7 @@ class Load:
     def made(self) -> Iterator[bytes]:
         """What the rows become, by pieces. Where something is at fault, the rest is read for its faults."""
         for piece in self.sheet.pieces():
-            yield self.made_of(self.whole(piece))
+            yield self.made_of(self.equals.without(self.whole(piece)))
         self.refuse_either()
 
     def made_of(self, piece: Piece) -> bytes:
@@ -180,10 +217,11 @@ class Load:
         """The names of the table's columns: those of the file, where no table is told and updates need them."""
         if self.schema:
             return self.schema.names
-        names: List[str] = self.options.column
+        names = [name_for(self.options, column) for column in self.options.column]
         wrong = [name for name in names if not is_name(name)]
         if self.options.update and wrong:
-            raise Misfit(f"{visible(wrong[0])} is no name of a table's column: --table tells the table's")
+            told = f"NAME={visible(wrong[0])} or --table tells the table's"
+            raise Misfit(f"{visible(wrong[0])} is no name of a table's column: {told}")
         return names
 
     def records_of(self, columns: List[Sequence[str]]) -> List[str]:
@@ -207,8 +245,7 @@ class Load:
             yield self.left_out
         if not self.options.update and self.options.column and not (self.schema and self.schema.key):
             yield from self.repeats.told()
-        yield from self.told_of_points()
-        yield from self.told_of_words()
+        yield from [*self.told_of_points(), *self.told_of_words(), *self.equals.told()]
         if self.options.update:
             yield from [*self.ends.told_of_starts(), *self.overwrites.told()]
         if self.rows > MOST_ROWS * 9 // 10 or self.bytes > MOST_BYTES * 9 // 10:

@@ -1,0 +1,145 @@
+"""Columns that have other words in a file than in the table, and rows that stand in it twice, beside Python's csv.
+
+Names and texts are as odd as they may be.
+"""
+import csv
+import io
+import os
+import unittest
+from typing import Any, Callable, Dict, List, NamedTuple
+
+from tests.support import ToolCase, run
+
+try:
+    from hypothesis import assume, given, settings
+    from hypothesis import strategies as st
+
+    from tests.test_answers_hostile import NAMES, PIECES, TEXTS, printed
+except ModuleNotFoundError as error:
+    raise unittest.SkipTest("files that hypothesis draws") from error
+
+EXAMPLES = int(os.environ.get("TOOLS_EXAMPLES", "100"))
+DRAWN = settings(max_examples=EXAMPLES, deadline=None, database=None, derandomize=EXAMPLES <= 150)
+# What a header may have: signs that words of a command line have too, and other names of the table.
+HEADERS = st.lists(
+    st.sampled_from([*NAMES, "=", "a=b", "x=", "Neu", "\u00dc", *filter(str.isprintable, PIECES)]),
+    min_size=1, max_size=3,
+).map("".join).filter(lambda name: name.strip() == name and name[:1] not in ("-", "", "="))
+FIELDS = TEXTS.filter(lambda text: "\0" not in text)
+
+
+class File(NamedTuple):
+    """A table's names for the columns of a file, the header's, and the rows with their values."""
+
+    names: List[str]
+    header: List[str]
+    rows: List[List[str]]
+
+    @property
+    def words(self) -> List[str]:
+        return [f"{name}={column}" for name, column in zip(self.names, self.header)]
+
+    @property
+    def text(self) -> str:
+        return printed([["From", "To", *self.header], *(["2024-01-01", "2024-02-01", *row] for row in self.rows)])
+
+
+@st.composite
+def files(draw: Callable[[Any], Any]) -> File:
+    names = draw(st.lists(st.sampled_from(NAMES), min_size=1, max_size=3, unique=True))
+    count = len(names)
+    header = draw(st.lists(HEADERS, min_size=count, max_size=count, unique=True))
+    # A word is a name of the header where that has it, so none is to be of another column's.
+    assume(not {f"{name}={column}" for name, column in zip(names, header)} & {*header, "From", "To"})
+    assume(not {"From", "To"} & {*header})
+    values = st.lists(st.one_of(st.sampled_from(["", "A", " A"]), FIELDS), min_size=count, max_size=count)
+    return File(names, header, draw(st.lists(values, max_size=6)))
+
+
+def loaded(words: List[str], file: File) -> List[List[str]]:
+    status, text, said = run(["tools/csv-to-load", "t", "From", "To", *words, "--line-breaks"], file.text)
+    if status:
+        raise AssertionError(said)
+    return list(csv.reader(io.StringIO(text, newline="")))
+
+
+class Columns(unittest.TestCase):
+    @DRAWN
+    @given(files(), st.permutations(range(3)))
+    def test_columns_go_where_their_names_say(self, file: File, order: List[int]) -> None:
+        table = ["table", "t", *(text for name in file.names for text in (name, "text"))]
+        words = [file.words[place] for place in order if place < len(file.names)]
+        row = ["row", "2024-01-01", "2024-02-01"]
+        wanted = [["load", "t"], *([*row, *values] for values in file.rows), ["end"]]
+        self.assertEqual(loaded([*words, "--table", printed([table])], file), wanted)
+        by_name: List[Dict[str, str]] = [dict(zip(file.names, values)) for values in file.rows]
+        told = [word.partition("=")[0] for word in words]
+        plain = [["load", "t"], *([*row, *(one[name] for name in told)] for one in by_name), ["end"]]
+        self.assertEqual(loaded(words, file), plain)
+
+    @DRAWN
+    @given(files())
+    def test_updates_have_the_table_s_names(self, file: File) -> None:
+        if len(file.names) < 2:
+            return
+        first, *others = file.names
+        wanted = [
+            ["update", "t", "2024-01-01", "2024-02-01", "set", *(one for pair in zip(others, values) for one in pair),
+             "where", first, value]
+            for value, *values in file.rows
+        ]
+        self.assertEqual(loaded([*file.words, "--update", first], file), wanted)
+
+    @DRAWN
+    @given(files(), st.data())
+    def test_equal_rows_are_loaded_once(self, file: File, data: Any) -> None:
+        again = data.draw(st.lists(st.sampled_from(file.rows), max_size=6)) if file.rows else []
+        rows = [*file.rows, *again]
+        once = [[*row] for row in dict.fromkeys(map(tuple, rows))]
+        status, text, said = run(
+            ["tools/csv-to-load", "t", "From", "To", *file.words, "--line-breaks", "--drop-equal"],
+            file._replace(rows=rows).text,
+        )
+        found = list(csv.reader(io.StringIO(text, newline="")))
+        self.assertEqual((status, [record[3:] for record in found[1:-1]]), (0, once), said)
+        count = len(rows) - len(once)
+        told = f"--drop-equal: {count} row" if count else "--drop-equal: no row is equal to an earlier one"
+        self.assertIn(told, said)
+
+
+class Words(ToolCase):
+    FILE = "Name;Neu;Alt;Start;End\nA;S2;S1;2024-01-01;2024-02-01\nA;S2;S1;2024-01-01;2024-02-01\n"
+    LOADS = ["tools/csv-to-load", "pay", "Start", "End"]
+
+    def test_names_that_no_table_has_are_refused(self) -> None:
+        table = ["--table", "table,pay,name,text,grade,text"]
+        for words, told in [
+            (["Grade=Neu"], "Grade=Neu: Grade is no name of a table's column"),
+            (["grade=Neu", "grade=Alt"], "grade=Alt: the table's grade is told twice"),
+            (["grade=Neu", "note=Neu"], "Neu is told twice"),
+            (["grade=New"], "not in the header: New"),
+            (["note=Neu", *table], "Neu: pay has no column note, but name, grade"),
+            (["Name", "Neu", "--update", "Name"], "NAME=Name or --table tells the table's"),
+        ]:
+            self.check([*self.LOADS, *words], self.FILE, 1, told)
+
+    def test_a_load_takes_its_other_columns_by_their_names(self) -> None:
+        table = ["--table", "table,pay,name,text,grade,text,key,name", "--drop-equal"]
+        self.check([*self.LOADS, "grade=Neu", *table], self.FILE, 0, "load,pay\nrow,2024-01-01,2024-02-01,A,S2\nend\n")
+        told = "1 row was left out, equal to an earlier one in all of the file's fields (line 3)"
+        self.check([*self.LOADS, "grade=Neu", *table], self.FILE, 0, told)
+
+    def test_rows_that_differ_in_a_column_that_isn_t_taken_are_kept(self) -> None:
+        file = self.FILE.replace("S1", "S0", 1)
+        self.check([*self.LOADS, "Name", "Neu", "--drop-equal"], file, 0, "line 3 makes the same row as line 2")
+
+    def test_decimals_and_updates_go_by_either_name(self) -> None:
+        file = "Name;Lohn;Start;End\nA;5,5;2024-01-01;2024-02-01\n"
+        for name in ("cents", "Lohn"):
+            words = ["person=Name", "cents=Lohn", "--decimals", f"{name}=2", "--german", "--update", "person"]
+            wanted = "update,pay,2024-01-01,2024-02-01,set,cents,550,where,person,A\n"
+            self.check([*self.LOADS, *words], file, 0, wanted)
+
+
+if __name__ == "__main__":
+    unittest.main()
