@@ -482,9 +482,6 @@ class Files(Case):
     def test_a_packed_file_is_told_as_that(self) -> None:
         self.refused("this is a packed file", b"\x1f\x8b\x08\x00")
 
-    def test_a_workbook_is_told_as_that(self) -> None:
-        self.refused("this is a workbook of a spreadsheet", b"PK\x03\x04...")
-
     def test_parts_have_each_row_once(self) -> None:
         lines = [f"{name},1,2024-01-01,2024-03-05" for name in ("Öztürk", "von der Höhe", "A", "B", "C")]
         printed = [load(rows(*lines), *WORDS, "--part", f"{part}/3")[0].splitlines()[1:-1] for part in (1, 2, 3)]

@@ -11,9 +11,11 @@ from ruzgalt.commands.progress import Progress
 from ruzgalt.commands.words import Words, decimals as digits_of
 from ruzgalt.errors import Misfit
 from ruzgalt.loading import claims, dates, decimals
+from ruzgalt.loading.columns import mark_of
 from ruzgalt.loading.loaded_table import fit, name_of, rename, schema_of
 from ruzgalt.loading.making import Load
-from ruzgalt.loading.sheets import Sheet, composed
+from ruzgalt.loading.sheets import Records, Sheet, composed
+from ruzgalt.loading.workbooks import Workbook, is_workbook
 from ruzgalt.script import records
 from ruzgalt.script.forms import is_name, read_point
 from ruzgalt.script.records import visible
@@ -21,7 +23,8 @@ from ruzgalt.script.schemas import Schema
 
 ABOUT = """Turns a CSV file with a header into a load. FROM, TO and the COLUMNs are names of the file's header, in the
 order of a row's fields; other columns of the file are left out. The file is UTF-8; its fields are parted by commas,
-semicolons or tabs, whichever its header has most of. Values are taken as they are, unless an option tells of them.
+semicolons or tabs, whichever its header has most of. Or it is a workbook of Excel (.xlsx), where Python's openpyxl is
+installed: its dates and numbers are what they are there. Values are taken as they are, unless an option tells of them.
 What may not be meant is told on standard error, and loaded. Where something is at fault, no load is printed but one
 record that the store refuses, so that a script of which it is a part has a refused command."""
 # What is printed in place of a load.
@@ -52,6 +55,9 @@ def words() -> ArgumentParser:
         help="that with a value, in the order of the table's; as grade=Neu the file's Neu is the table's grade",
     )
     parser.add_argument("--file", metavar="FILE", help="the file, where it isn't standard input")
+    parser.add_argument(
+        "--sheet", metavar="NAME", help="the sheet of a workbook of Excel (.xlsx), where it has several",
+    )
     parser.add_argument(
         "--check", metavar="INSTANT",
         help="prints a check of a division: FROM is the column of a row's part, TO of its id",
@@ -130,9 +136,19 @@ def given(options: Namespace) -> bytes:
     return Path(options.file).read_bytes() if options.file else streams.given()
 
 
+def opened(options: Namespace) -> Records:
+    """The file: a sheet of a workbook, or CSV."""
+    data = given(options)
+    if is_workbook(data):
+        return Workbook(data, options.sheet, mark_of(options))
+    if options.sheet is not None:
+        raise Misfit(f"--sheet {visible(options.sheet)}: the file is no workbook of Excel, so it has no sheets")
+    return Sheet(data, options.line_breaks)
+
+
 def load_of(options: Namespace) -> Tuple[Load, Optional[Schema], List[str]]:
     """The load, the table where it is given, and what is noted of how the file fits it."""
-    sheet = Sheet(given(options), options.line_breaks)
+    sheet = opened(options)
     rename(options, sheet.header)
     schema = fitted = schema_of(options)
     notes: List[str] = []
@@ -161,7 +177,7 @@ def claimed(options: Namespace) -> Tuple[bytes, List[str]]:
     if unused:
         word = unused[0].replace("record", "table").replace("_", "-")
         raise Misfit(f"--check takes no --{word}: it makes no load")
-    sheet = Sheet(given(options), options.line_breaks)
+    sheet = opened(options)
     check, notes = claims.check_of(sheet, options.table, options.start, options.end, options.check)
     return records.encode(check), notes
 

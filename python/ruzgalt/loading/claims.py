@@ -3,12 +3,12 @@ from typing import Dict, Iterable, Iterator, List, Tuple
 
 from ruzgalt.checking.looks import LookAlikes
 from ruzgalt.errors import Misfit
-from ruzgalt.loading.sheets import Sheet
+from ruzgalt.loading.sheets import Records
 from ruzgalt.script.forms import is_count
 from ruzgalt.script.records import to_text, visible
 
 
-def check_of(sheet: Sheet, table: str, part: str, row_id: str, instant: str) -> Tuple[str, List[str]]:
+def check_of(sheet: Records, table: str, part: str, row_id: str, instant: str) -> Tuple[str, List[str]]:
     """The `check` of the parts, by their first rows: a row for each row of the table, with its part and its id.
 
     Behind it stands what is noted of the parts' names.

@@ -12,7 +12,7 @@ from ruzgalt.loading.columns import Column, End, Start, Text, form_of, mark_of, 
 from ruzgalt.loading.dates import as_good_swapped, without_half
 from ruzgalt.loading.decimals import Marks, Scale, readings
 from ruzgalt.loading.loaded_table import name_for
-from ruzgalt.loading.sheets import Piece, Sheet
+from ruzgalt.loading.sheets import Piece, Records
 from ruzgalt.script import records
 from ruzgalt.script.forms import is_name, read_point
 from ruzgalt.script.records import visible
@@ -61,7 +61,7 @@ class Equals:
 class Load:
     """The records made of a sheet's rows, with the faults of rows and what is noted of columns."""
 
-    def __init__(self, sheet: Sheet, options: Namespace, schema: Optional[Schema]) -> None:
+    def __init__(self, sheet: Records, options: Namespace, schema: Optional[Schema]) -> None:
         self.sheet, self.options, self.schema = sheet, options, schema
         self.names = [options.start, options.end, *options.column]
         refuse_header(sheet.header, self.names)
@@ -246,6 +246,7 @@ class Load:
         if not self.options.update and self.options.column and not (self.schema and self.schema.key):
             yield from self.repeats.told()
         yield from [*self.told_of_points(), *self.told_of_words(), *self.equals.told()]
+        yield from self.sheet.told(self.places[:2], self.places[2:])
         if self.options.update:
             yield from [*self.ends.told_of_starts(), *self.overwrites.told()]
         if self.rows > MOST_ROWS * 9 // 10 or self.bytes > MOST_BYTES * 9 // 10:

@@ -7,7 +7,7 @@ import io
 import re
 import unicodedata
 from itertools import islice
-from typing import Iterator, List, NamedTuple, Optional, Sequence
+from typing import Iterable, Iterator, List, NamedTuple, Optional, Protocol, Sequence
 
 from ruzgalt.errors import Misfit
 
@@ -23,6 +23,18 @@ class Piece(NamedTuple):
     records: List[List[str]]
 
 
+class Records(Protocol):
+    """A file's header, and its other records by pieces."""
+
+    header: List[str]
+
+    def pieces(self) -> Iterator[Piece]:
+        """Those behind the header, without empty ones."""
+
+    def told(self, points: Sequence[int], values: Sequence[int]) -> Iterable[str]:
+        """What is to be known of the columns at these places, when all is read."""
+
+
 def composed(name: str) -> str:
     """The name of a column, with one character for a letter and its accent: two programs write it otherwise."""
     return unicodedata.normalize("NFC", name)
@@ -30,8 +42,8 @@ def composed(name: str) -> str:
 
 def refuse_strange(data: bytes) -> None:
     """Refuses what is no text."""
-    if data.startswith(b"PK\x03\x04") or data.startswith(b"\xd0\xcf\x11\xe0"):
-        raise Misfit("this is a workbook of a spreadsheet, and no CSV: save the sheet there as CSV UTF-8")
+    if data.startswith(b"\xd0\xcf\x11\xe0"):
+        raise Misfit("this is an old workbook of a spreadsheet, and no CSV: save it there as .xlsx, or as CSV UTF-8")
     if data.startswith(b"\x1f\x8b"):
         raise Misfit("this is a packed file: `gunzip -c FILE` unpacks it")
     if data.count(0) * 3 > len(data) and not data.startswith((b"\xff\xfe", b"\xfe\xff")):
@@ -83,6 +95,10 @@ class Sheet:
         while piece is not None:
             yield piece
             piece = self.take(PIECE)
+
+    def told(self, points: Sequence[int], values: Sequence[int]) -> Iterable[str]:
+        """Nothing: texts are what they are."""
+        return ()
 
     def take(self, count: int) -> Optional[Piece]:
         """So many records at most, without those of empty fields; None behind the last."""

@@ -1,0 +1,145 @@
+"""A sheet of a workbook of Excel, read by openpyxl where that is installed: its values as the texts of a CSV file.
+
+A date is a date there, and a number a number, so neither is read by its looks. A cell with a formula has the value that
+was last computed.
+"""
+import io
+import warnings
+from collections import Counter
+from datetime import date, datetime, time
+from decimal import Decimal
+from importlib import import_module
+from itertools import islice
+from typing import Any, Counter as Counts, Iterator, List, Optional, Sequence, Tuple
+
+from ruzgalt.errors import Misfit
+from ruzgalt.loading.sheets import PIECE, Piece, composed
+from ruzgalt.script.records import visible
+
+BEGINNING = b"PK\x03\x04"
+NEEDED = "apt-get install python3-openpyxl, or save the sheet as CSV UTF-8"
+
+
+def is_workbook(data: bytes) -> bool:
+    return data.startswith(BEGINNING)
+
+
+class Workbook:
+    """The header of a sheet, and its other rows by pieces.
+
+    Numbers have the decimal mark that is given, and never three decimals, which could be thousands as well.
+    """
+
+    def __init__(self, data: bytes, name: Optional[str], mark: str) -> None:
+        self.mark = mark
+        # Of each column, how many of its cells have a formula, and how many are dates.
+        self.computed: Counts[int] = Counter()
+        self.dates: Counts[int] = Counter()
+        values, formulas = (sheet_of(data, name, has_values) for has_values in (True, False))
+        self.header: List[str] = []
+        self.rows = self.read(values, formulas)
+        for _, record in self.rows:
+            if any(map(str.strip, record)):
+                self.header = list(map(composed, record))
+                break
+        self.computed.clear()
+        self.dates.clear()
+
+    def read(self, values: Any, formulas: Any) -> Iterator[Tuple[int, List[str]]]:
+        """The number of each row, and its texts, as many as the header has at least."""
+        try:
+            for number, (cells, written) in enumerate(zip(values.iter_rows(), formulas.iter_rows()), 1):
+                record = trimmed([self.text(*both, place) for place, both in enumerate(zip(cells, written))])
+                yield number, record + [""] * (len(self.header) - len(record))
+        except (Misfit, MemoryError):
+            raise
+        except Exception as error:
+            raise unreadable(error) from None
+
+    def pieces(self) -> Iterator[Piece]:
+        found = list(islice(self.rows, PIECE))
+        while found:
+            kept = [(number, record) for number, record in found if any(map(str.strip, record))]
+            yield Piece([number for number, _ in kept], [record for _, record in kept])
+            found = list(islice(self.rows, PIECE))
+
+    def text(self, cell: Any, formula: Any, place: int) -> str:
+        if formula.data_type == "f":
+            self.computed[place] += 1
+            if cell.value is None:
+                told = "a formula whose value wasn't kept: a spreadsheet that opens and saves the file computes it"
+                raise Misfit(f"cell {formula.coordinate} has {told}")
+        self.dates[place] += isinstance(cell.value, date)
+        return text_of(cell.value, self.mark)
+
+    def told(self, points: Sequence[int], values: Sequence[int]) -> Iterator[str]:
+        """What is to be known of the columns at these places: of the period, and of values."""
+        for place in [*points, *values]:
+            if self.computed[place]:
+                told = "loaded with the value that was last computed"
+                yield f"{visible(self.header[place])} has formulas in {self.computed[place]:,} cells, {told}"
+        for place in values:
+            if self.dates[place]:
+                told = "a spreadsheet makes one of 1-2, and what was typed is lost"
+                yield f"{visible(self.header[place])} has dates in {self.dates[place]:,} cells: {told}"
+
+
+def trimmed(record: List[str]) -> List[str]:
+    """The record without empty fields at its end: formatted cells stand there."""
+    while record and not record[-1].strip():
+        record = record[:-1]
+    return record
+
+
+def text_of(value: Any, mark: str) -> str:
+    """The value as a text: a day as a date, a number with as many digits as a spreadsheet keeps."""
+    if value is None:
+        return ""
+    if isinstance(value, datetime):
+        return value.isoformat().replace("T00:00:00", "") if value.time() == time() else value.isoformat()
+    if isinstance(value, float):
+        return text_of_number(value, mark)
+    return value if isinstance(value, str) else str(value)
+
+
+def text_of_number(value: float, mark: str) -> str:
+    whole, point, decimals = format(Decimal(format(value, ".15g")), "f").partition(".")
+    decimals = decimals.rstrip("0")
+    more = "0" if len(decimals) == 3 else ""
+    return f"{whole}{mark}{decimals}{more}" if decimals else whole
+
+
+def sheet_of(data: bytes, name: Optional[str], has_values: bool) -> Any:
+    """The sheet of that name, or the only one, with values, or with formulas in their places."""
+    try:
+        openpyxl = import_module("openpyxl")
+    except ModuleNotFoundError:
+        told = "this is a workbook of a spreadsheet, and openpyxl, which reads it, isn't installed"
+        raise Misfit(f"{told}: {NEEDED}") from None
+    try:
+        # It warns of what it leaves out: styles, and rules for what may be typed.
+        with warnings.catch_warnings():
+            warnings.simplefilter("ignore")
+            book = openpyxl.load_workbook(io.BytesIO(data), read_only=True, data_only=has_values)
+    except MemoryError:
+        raise
+    except Exception as error:
+        raise unreadable(error) from None
+    sheet = chosen(book, name)
+    # Some programs write a smaller size than the sheet has.
+    sheet.reset_dimensions()
+    return sheet
+
+
+def unreadable(error: Exception) -> Misfit:
+    """Whatever openpyxl meets in a file that it can't read."""
+    return Misfit(f"no workbook of Excel that openpyxl can read: {visible(f'{type(error).__name__}: {error}')}")
+
+
+def chosen(book: Any, name: Optional[str]) -> Any:
+    names = [sheet.title for sheet in book.worksheets]
+    if name is None and len(names) != 1:
+        raise Misfit(f"the workbook has the sheets {', '.join(map(visible, names))}: --sheet tells which")
+    if name is not None and name not in names:
+        raise Misfit(f"--sheet {visible(name)}: no sheet of the workbook, which has {', '.join(map(visible, names))}")
+    return book[names[0] if name is None else name]
