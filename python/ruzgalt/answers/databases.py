@@ -8,12 +8,13 @@ from typing import Iterator, List, NamedTuple, Optional, Sequence
 
 from ruzgalt.answers import picks
 from ruzgalt.answers.picks import Pick
+from ruzgalt.answers.shown import Look
 from ruzgalt.checking.queries import QUOTED, Made
 from ruzgalt.commands import files
 from ruzgalt.errors import Misfit
 from ruzgalt.script.forms import is_integer, printed, read_point
 from ruzgalt.script.records import short, to_text
-from ruzgalt.script.schemas import Kind, Table
+from ruzgalt.script.schemas import Column, Kind, Table
 
 MEMORY = ":memory:"
 SQL = re.compile(r"\s*(?:select|with|insert|update|delete|create|drop|alter|pragma|vacuum)\s", re.IGNORECASE)
@@ -145,9 +146,22 @@ class Asked(NamedTuple):
     def text(self) -> str:
         return to_text([self.names, *self.records]) if self.names else ""
 
+    def table(self) -> Table:
+        """The same, where each column may have numbers: SQLite tells no kinds."""
+        return Table([Column(name, Kind.INT) for name in self.names], self.records)
+
     def twins(self) -> List[str]:
         """Names that several columns have."""
         return [name for name, count in Counter(self.names).items() if count > 1]
+
+
+def shown(answers: Sequence[Asked], look: Look) -> List[str]:
+    """What queries are answered, as a person reads it: a column is known by its name."""
+    if look.is_plain:
+        return [one.text() for one in answers]
+    tables = [one.table() for one in answers]
+    look.refuse_strangers(*tables)
+    return [to_text([table.names, *table.texts()]) if table.columns else "" for table in map(look.of, tables)]
 
 
 def ask(database: sqlite3.Connection, query: str, made: Sequence[Pick]) -> Asked:

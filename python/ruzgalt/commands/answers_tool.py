@@ -15,7 +15,7 @@ from ruzgalt.checking.replay import Replay
 from ruzgalt.commands import called, going_on, over_time, picture, streams
 from ruzgalt.commands.given import bytes_of, chosen, last, read, warn
 from ruzgalt.commands.progress import Progress
-from ruzgalt.commands.words import Words, pair
+from ruzgalt.commands.words import Words, look_of, pair, words_of_looks
 from ruzgalt.errors import Misfit
 from ruzgalt.page import contents, document, sources
 from ruzgalt.script import commands, records
@@ -66,21 +66,24 @@ def warn_of_marks(found: Sequence[marks.Mark]) -> None:
 def do_csv(options: Namespace) -> None:
     if options.replace and not options.folder:
         raise Misfit("--replace replaces files of a --folder, and none is given: what is printed replaces no file")
-    if options.german and not options.for_spreadsheet:
-        raise Misfit("--german is of a spreadsheet, and stands beside --for-spreadsheet")
-    found = read(options)
+    if options.german and not (options.for_spreadsheet or options.decimals):
+        raise Misfit("--german is of a spreadsheet or of decimals, and stands beside --for-spreadsheet or --decimals")
+    found, look = read(options), look_of(options)
     if options.folder:
         picked = chosen(found, options.pick)
+        look.refuse_strangers(*(pick.answer.table for pick in picked))
         export.to_folder(picked, Path(options.folder), options.replace, partial(printed, options))
         warn_of_formulas(options, [pick.answer.table for pick in picked])
     else:
         [answer] = last(found, options.pick, 1)
+        look.refuse_strangers(answer.table)
         streams.show_records(printed(options, answer.table))
         warn_of_formulas(options, [answer.table])
 
 
 def printed(options: Namespace, table: Table) -> Iterator[bytes]:
-    """The table as CSV, exactly or for a spreadsheet."""
+    """The table as CSV, exactly, as a person reads it, or for a spreadsheet."""
+    table = look_of(options).of(table)
     return spreadsheets.to_csv(table, options.german) if options.for_spreadsheet else export.to_csv(table)
 
 
@@ -98,28 +101,34 @@ def do_json(options: Namespace) -> None:
 
 
 def do_sqlite(options: Namespace) -> None:
-    wishes = databases.Wishes(options.replace, options.open_null, options.day)
+    wishes, look = databases.Wishes(options.replace, options.open_null, options.day), look_of(options)
     databases.refuse_words(options.database, wishes, options.query)
+    if not options.query and not (look.is_plain and not options.german):
+        more = "tables have whole numbers and ends, to be computed with"
+        raise Misfit(f"--decimals, --german and --last-day are of what --query prints: {more}")
     found = chosen(read(options), options.pick)
     with databases.opened(options.database) as database:
         for column in databases.make_tables(found, database, wishes):
             warn(f"{column} has sums past SQLite's integers, so it is a text there, and isn't in the order of numbers")
         made = databases.made_of(found, database)
         told = [asked(database, query, made, found) for query in options.query]
+        shown = databases.shown(told, look)
     # What is printed may be read by a program that ends early, and by then all is kept.
-    show("".join(told) if options.query else databases.tables_told(found))
+    show("".join(shown) if options.query else databases.tables_told(found))
     for pick in found:
         if options.day is not None and not databases.has_period(pick):
             warn(f"--day: {pick.name} has no period, so there is no view of it")
 
 
-def asked(database: sqlite3.Connection, query: str, made: queries.Made, found: Sequence[picks.Pick]) -> str:
+def asked(
+    database: sqlite3.Connection, query: str, made: queries.Made, found: Sequence[picks.Pick],
+) -> databases.Asked:
     for told in queries.doubts_of(query, made):
         warn(f"--query: {told}")
     answer = databases.ask(database, query, found)
     for name in answer.twins():
         warn(f"--query: several columns are called {records.visible(name)}: `as` gives each its own name")
-    return answer.text()
+    return answer
 
 
 def do_changed(options: Namespace) -> None:
@@ -233,7 +242,7 @@ def words_of_csv(parser: ArgumentParser) -> None:
         "--for-spreadsheet", action="store_true",
         help="puts an apostrophe before texts that a spreadsheet would run as formulas, and a byte order mark in front",
     )
-    parser.add_argument("--german", action="store_true", help="beside --for-spreadsheet: semicolons between fields")
+    words_of_looks(parser, "decimals are as 1234,50; beside --for-spreadsheet: semicolons between fields")
 
 
 def words_of_sqlite(parser: ArgumentParser) -> None:
@@ -248,6 +257,7 @@ def words_of_sqlite(parser: ArgumentParser) -> None:
     parser.add_argument(
         "--day", metavar="POINT", help="makes a view NAME_day of each table, with the records that hold at that point",
     )
+    words_of_looks(parser)
 
 
 def words_of_picture(parser: ArgumentParser) -> None:

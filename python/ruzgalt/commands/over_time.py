@@ -4,6 +4,7 @@ from argparse import ArgumentParser, Namespace
 from ruzgalt.answers import calendar, export, unions
 from ruzgalt.commands import streams
 from ruzgalt.commands.given import last, read, warn
+from ruzgalt.commands.words import look_of, words_of_looks
 from ruzgalt.periods import pieces
 
 OF_MONTHS = """An amount is what a record comes to in each whole month (or other piece of the calendar) that it holds;
@@ -21,13 +22,15 @@ def words_of_months(parser: ArgumentParser) -> None:
     parser.add_argument("--each", choices=pieces.EACH, default="month", help="the pieces; weeks begin on Mondays")
     parser.add_argument("--from", dest="start", metavar="POINT", help="counts from there on")
     parser.add_argument("--to", dest="end", metavar="POINT", help="counts up to there: wanted where an end isn't known")
+    words_of_looks(parser)
 
 
 def do_months(options: Namespace) -> None:
     [answer] = last(read(options), [options.pick] if options.pick else [], 1)
     wish = calendar.Wish(options.sum, options.by, options.each, options.start, options.end)
-    sums = calendar.sums(answer, wish)
-    streams.show_records(export.to_csv(sums.table))
+    sums, look = calendar.sums(answer, wish), look_of(options)
+    look.refuse_strangers(sums.table)
+    streams.show_records(export.to_csv(look.of(sums.table)))
     if sums.rounded:
         whose = "those of each group add up to its exact sum" if options.by else "all add up to the exact sum"
         count = f"{sums.rounded:,} of {len(sums.table.records):,} sums"

@@ -6,9 +6,9 @@ from pathlib import Path
 from typing import Sequence
 
 from ruzgalt.answers import Answer
+from ruzgalt.answers.amounts import Amounts
 from ruzgalt.commands.words import decimals, pair
 from ruzgalt.pictures import figures, svg, terminal
-from ruzgalt.pictures.amounts import Amounts
 
 
 def words_of_picture(parser: ArgumentParser) -> None:

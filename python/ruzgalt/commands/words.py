@@ -1,8 +1,10 @@
 """Words of command lines that several tools take, as what they tell."""
 import sys
-from argparse import ArgumentParser, ArgumentTypeError
+from argparse import ArgumentParser, ArgumentTypeError, Namespace
 from typing import NoReturn, Tuple
 
+from ruzgalt.answers.amounts import Amounts
+from ruzgalt.answers.shown import Look
 from ruzgalt.commands import screen
 
 
@@ -27,3 +29,19 @@ def decimals(word: str) -> Tuple[str, int]:
     if not name or not digits.isdigit() or len(digits) > 2:
         raise ArgumentTypeError(f"{word}: not COLUMN=DIGITS, as Pay=2")
     return name, int(digits)
+
+
+def words_of_looks(parser: ArgumentParser, german: str = "decimals are as 1234,50") -> None:
+    """How amounts and ends are shown to a person."""
+    parser.add_argument(
+        "--decimals", type=decimals, action="append", default=[], metavar="COLUMN=DIGITS",
+        help="numbers as csv-to-load made them whole: with cents=2, 123450 is 1234.50",
+    )
+    parser.add_argument("--german", action="store_true", help=german)
+    parser.add_argument(
+        "--last-day", action="store_true", help="valid_to becomes last_day, the last day on which a record holds",
+    )
+
+
+def look_of(options: Namespace) -> Look:
+    return Look(Amounts(options.decimals, options.german), options.last_day)

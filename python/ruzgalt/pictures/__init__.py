@@ -1,7 +1,7 @@
 """Pictures of answers, as text and as SVG. A module stands on those above it.
 
     timeline, cells     the axis of a picture; how wide a text is in a terminal
-    amounts, shapes     how numbers are printed; the bars and steps that a picture has
+    shapes              the bars and steps that a picture has
     wishes, squares     what is named beside an answer that is drawn; the picture of versions
     figures, scales     what is drawn of an answer; the scale of steps
     terminal            how it is drawn as text

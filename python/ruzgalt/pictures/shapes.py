@@ -2,7 +2,7 @@
 from dataclasses import dataclass, field
 from typing import List, Optional, Sequence, Tuple, Union
 
-from ruzgalt.pictures.amounts import Amounts
+from ruzgalt.answers.amounts import Amounts
 from ruzgalt.pictures.timeline import Span
 
 

@@ -3,9 +3,9 @@ from dataclasses import dataclass, field
 from typing import Dict, Iterable, List, Optional, Sequence, Tuple
 
 from ruzgalt.answers import Answer
+from ruzgalt.answers.amounts import Amounts
 from ruzgalt.answers.lists import FORMS
 from ruzgalt.errors import Misfit
-from ruzgalt.pictures.amounts import Amounts
 from ruzgalt.pictures.shapes import Bar
 from ruzgalt.pictures.timeline import Span, span_of
 from ruzgalt.script.forms import printed, read_point, seconds

@@ -1,4 +1,4 @@
-"""How pictures print numbers: thousands parted, and with the decimals that a column is told to have."""
+"""Numbers with the decimals that a column is told to have, for a person: in pictures their thousands are parted."""
 from dataclasses import dataclass
 from typing import Optional, Sequence, Tuple
 
@@ -21,9 +21,10 @@ class Amounts:
         names = [name, *(name[len(word):] for word in BEFORE if name.startswith(word))]
         return next((digits for told, digits in self.digits if told in names), None)
 
-    def refuse_strangers(self, table: Table) -> None:
+    def refuse_strangers(self, *tables: Table) -> None:
         """A name that no column of numbers has would be taken for used."""
-        known = [column.name for column in table.columns if column.kind is Kind.INT]
+        columns = (column for table in tables for column in table.columns if column.kind is Kind.INT)
+        known = list(dict.fromkeys(column.name for column in columns))
         for name, _ in self.digits:
             if not any(Amounts([(name, 0)]).of(one) == 0 for one in known):
                 raise Misfit(f"--decimals {name}: no column of numbers, but {', '.join(known) or 'none is one'}")
@@ -33,6 +34,10 @@ class Amounts:
         whole, rest = divmod(abs(number), 10 ** digits)
         text = f"{'-' if number < 0 else ''}{whole:,}" + (f".{rest:0{digits}}" if digits else "")
         return text.translate(str.maketrans(",.", ".,")) if self.is_german else text
+
+    def plain(self, number: int, digits: int) -> str:
+        """The same without a mark between thousands, as other programs read it."""
+        return self.parted(number, digits).replace("." if self.is_german else ",", "")
 
     def printed(self, name: str, text: str) -> str:
         """A record's field: parted where its column is told to have decimals, or none; else as it is."""

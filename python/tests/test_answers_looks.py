@@ -1,0 +1,98 @@
+"""Answers as a person reads them: amounts with decimals and last days, beside Python's decimals and dates."""
+import os
+import unittest
+from datetime import timedelta
+from decimal import Decimal
+from pathlib import Path
+
+from tests.support import EXAMPLE, TOP, ToolCase, kept, run
+
+try:
+    from hypothesis import assume, given, settings
+    from hypothesis import strategies as st
+
+    from tests.test_answers_over_time import Case, cases, read
+except ModuleNotFoundError as error:
+    raise unittest.SkipTest("amounts that hypothesis draws") from error
+
+PROGRAM = Path(os.environ.get("DIPQ", TOP / "crates/dipq/out/dipq")).resolve()
+EXAMPLES = int(os.environ.get("TOOLS_EXAMPLES", "100"))
+DRAWN = settings(max_examples=EXAMPLES, deadline=None, database=None, derandomize=EXAMPLES <= 150)
+
+
+def money(amount: int, digits: int, is_german: bool) -> str:
+    text = format(Decimal(amount).scaleb(-digits), f".{digits}f")
+    return text.replace(".", ",") if is_german else text
+
+
+@unittest.skipUnless(PROGRAM.exists(), "a built program to answer amounts that hypothesis draws")
+class Looks(unittest.TestCase):
+    @DRAWN
+    @given(cases(), st.integers(0, 20), st.booleans())
+    def test_amounts_and_last_days_are_those_of_the_records(self, case: Case, digits: int, is_german: bool) -> None:
+        words = ["tools/answers", "csv", "-", "--program", str(PROGRAM), "--last-day"]
+        amount = case.named[-1]
+        more = ["--decimals", f"{amount}={digits}", *["--german"] * is_german]
+        status, text, said = run([*words, *more], case.script)
+        self.assertEqual(status, 0, said)
+        header, *records = read(text)
+        self.assertEqual(header, ["row_id", "valid_from", "last_day", *case.named])
+        wanted = [
+            [str(row.start), str(row.end - timedelta(1)), *row.group, money(row.amount, digits, is_german)]
+            for row in case.rows
+        ]
+        self.assertEqual([record[1:] for record in records], wanted)
+
+    @DRAWN
+    @given(cases(), st.booleans())
+    def test_what_is_shown_loads_as_what_it_was(self, case: Case, is_german: bool) -> None:
+        assume(not any("\0" in text for row in case.rows for text in row.group))
+        rows, german = case.rows, ["--german"] * is_german
+        shown = ["--decimals", f"{case.named[-1]}=2", "--last-day", *german]
+        status, text, said = run(["tools/answers", "csv", "-", "--program", str(PROGRAM), *shown], case.script)
+        self.assertEqual(status, 0, said)
+        words = ["tools/csv-to-load", "t", "valid_from", "last_day", *case.named, *shown, "--line-breaks"]
+        status, text, said = run(words, text)
+        self.assertEqual(status, 0, said)
+        wanted = [[str(row.start), str(row.end), *row.group, str(row.amount)] for row in rows]
+        self.assertEqual([record[1:] for record in read(text)[1:-1]], wanted)
+
+
+class Words(ToolCase):
+    PAY = ["tools/answers", "csv", EXAMPLE, "--answers", EXAMPLE + ".stdout"]
+
+    def test_an_end_that_isn_t_known_stays(self) -> None:
+        joins = ["tools/answers", "csv", "examples/joins.csv", "--answers", "examples/joins.csv.stdout", "--last-day"]
+        wanted = "2024-06-01,2024-12-31,99.00\n2025-01-01,9999-12-31,49.00\n"
+        self.check([*joins, "--decimals", "euros=2"], "", 0, wanted)
+
+    def test_a_spreadsheet_gets_money_as_it_reads_it(self) -> None:
+        words = [*self.PAY, "4", "--decimals", "euros=2", "--german", "--last-day", "--for-spreadsheet"]
+        self.check(words, "", 0, "2;2024-03-01;2024-12-31;Hill, Grace;48,00\r\n")
+
+    def test_words_without_a_use_are_refused(self) -> None:
+        self.check([*self.PAY, "7", "--last-day"], "", 1, "--last-day: no record has an end, since there is no column")
+        self.check([*self.PAY, "4", "--decimals", "cents=2"], "", 1, "--decimals cents: no column of numbers, but row")
+        self.check([*self.PAY, "4", "--german"], "", 1, "stands beside --for-spreadsheet or --decimals")
+        sqlite = ["tools/answers", "sqlite", EXAMPLE, ":memory:", "--answers", EXAMPLE + ".stdout", "4=pay"]
+        self.check([*sqlite, "--last-day"], "", 1, "--last-day are of what --query prints: tables have whole numbers")
+        query = ["--query", "select 1.0 * euros as mean, euros from pay", "--decimals"]
+        self.check([*sqlite, *query, "mean=2"], "", 1, "--decimals mean: 4800.0 is no whole number")
+        self.check([*sqlite, *query, "cents=2"], "", 1, "--decimals cents: no column of numbers, but mean, euros")
+
+    def test_an_end_with_a_time_is_no_last_day(self) -> None:
+        script = "table,t,n,int\nload,t\nrow,2024-01-01,2024-01-02T08:00:00,1\nend\nrows,t\n"
+        told = "ok,1\nok,2\nrow,1,2024-01-01,2024-01-02T08:00:00,1\nend,1\n"
+        with kept(told) as answers:
+            words = ["tools/answers", "csv", "-", "--last-day", "--answers", answers]
+            self.check(words, script, 1, "--last-day: 2024-01-02T08:00:00 is no day")
+
+    def test_queries_print_money(self) -> None:
+        sqlite = ["tools/answers", "sqlite", EXAMPLE, ":memory:", "--answers", EXAMPLE + ".stdout", "4=pay"]
+        query = "select person, valid_to, sum(euros) as total from pay group by person"
+        more = ["--query", query, "--decimals", "total=2", "--last-day"]
+        self.check([*sqlite, *more], "", 0, 'person,last_day,total\n"Byron, Ada",2024-12-31,54.00\n')
+
+
+if __name__ == "__main__":
+    unittest.main()
