@@ -2,7 +2,6 @@
 
 Where the environment names a folder in PICTURES, what the pages look like is put there.
 """
-import json
 import os
 import re
 import tempfile
@@ -330,16 +329,14 @@ class Times(BrowserCase):
         self.value("document.querySelector('#pairs input[type=checkbox]').click()")
         self.assertEqual([[row[0] for row in self.cells("#pairs", place)].count("") for place in (0, 1)], [9, 9])
 
-    def test_records_with_other_ids_alone_are_said_both_times(self) -> None:
-        self.open(example("pay"))
-        for word, then, now, mark in [
-            ("rows", "1,a", "2,a", ""), ("at", "1,a", "2,a", ""), ("anti", "1,a", "2,b", "x"),
-            ("join", "a,b,1,2", "a,b,3,4", ""), ("join", "a,b,1,2", "a,c,1,2", "x"),
-            ("agg", "1,a", "2,a", "x"), ("dip", "0,1", "0,2", "x"),
-        ]:
-            with self.subTest(word, then=then, now=now):
-                records = [json.dumps([record.split(",")]) for record in (then, now)]
-                self.assertEqual(self.value(f"marked('{word}', {', '.join(records)}, 'x')[0][0]"), mark)
+    def test_rows_that_are_cut_alone_are_no_differences(self) -> None:
+        rows = "table,t,n,int\nload,t\nrow,2024-01-01,2024-05-01,1\nend\nupdate,t,2024-02-01,2024-03-01,set,n,2\n"
+        then = "row,1,2024-01-01,2024-05-01,1\nend,1\n"
+        now = "row,2,2024-01-01,2024-02-01,1\nrow,3,2024-02-01,2024-03-01,2\nrow,4,2024-03-01,2024-05-01,1\nend,3\n"
+        self.open(page_of(f"{rows}rows,t,asof,2\nrows,t\n", f"ok,1\nok,2\nok,3\n{then}{now}"))
+        self.value("document.querySelector('#pairs input[type=checkbox]')?.click()")
+        self.assertEqual([row[0] for row in self.cells("#pairs", 0)], ["only then"])
+        self.assertEqual([row[0] for row in self.cells("#pairs", 1)], ["", "only now", ""])
 
     def test_of_two_equal_rows_one_may_be_new(self) -> None:
         rows = f"table,t\nload,t\nrow,{TIME}\nend\nload,t\nrow,{TIME}\nend\nrows,t,asof,2\nrows,t\n"

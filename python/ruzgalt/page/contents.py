@@ -3,11 +3,11 @@ import json
 from itertools import islice
 from typing import Any, Dict, Iterator, List, NamedTuple, Optional, Sequence, Tuple, TypeVar
 
-from ruzgalt.answers import CHANGES, Answer, history
+from ruzgalt.answers import CHANGES, Answer, history, verdicts
 from ruzgalt.answers.picks import BARE
 from ruzgalt.commands import called
 from ruzgalt.commands.given import EMPTY
-from ruzgalt.page import drawings, findings
+from ruzgalt.page import drawings, findings, pairs
 from ruzgalt.page.sources import CLOSED, MADE, VALUES, Marked, Sources, Tally, tally
 from ruzgalt.script.records import short
 from ruzgalt.script.schemas import Column, Schema, Table
@@ -60,7 +60,9 @@ def of(sources: Sources, diary: Optional[str]) -> Contents:
         "tool": called.ANSWERS, "isInstalled": called.IS_INSTALLED, "answers": len(sources.answers),
         "refused": as_objects(found.refused), "idle": as_objects(found.idle), "doubtful": as_objects(doubtful),
         "diary": diary, "newest": len(commits), "commits": parts.first(commits, COMMITS, "commits"),
-        "shown": SHOWN, "questions": list(parts.questions(kept)), "pairs": list(pairs_of(kept)),
+        "shown": SHOWN, "questions": list(parts.questions(kept)),
+        "pairs": [[then.number, now.number] for then, now in pairs_of(kept)],
+        "said": {then.number: pairs.marks(then, now) for then, now in pairs_of(kept)},
         "tables": list(parts.tables()),
     }
     if found.untold:
@@ -184,10 +186,7 @@ def told_of(answer: Answer) -> str:
     if answer.command.word == "dip":
         return division_told(answer.table)
     if answer.command.word == "check":
-        verdict, name, *numbers = next(answer.table.texts())
-        places = zip(answer.table.names[2:], numbers)
-        told = ", ".join(f"{what.replace('_', ' ')} {number}" for what, number in places if number)
-        return f"{verdict}: {WHY[name]} ({name}, {told})." if name else "yes: the division is right, and least."
+        return verdicts.told(answer)
     return ""
 
 
@@ -206,21 +205,13 @@ def division_told(table: Table) -> str:
     return f"{len(records):,} rows in {parts:,} parts. No fewer can do: at {instant} as many rows hold."
 
 
-# What a verdict says by its name.
-WHY = {
-    "WrongCount": "there are another number of parts", "EmptyPart": "a part has no row", "Unknown": "no row has an id",
-    "Twice": "a row stands twice", "Missing": "a row is in no part", "Overlap": "two rows of one part overlap",
-    "NotCrowded": "not as many rows hold at the instant as there are parts",
-}
-
-
-def pairs_of(kept: Sequence[Answer]) -> Iterator[List[int]]:
-    """The numbers of two answers to one question: as of a commit, and the newest of a later one without a suffix."""
+def pairs_of(kept: Sequence[Answer]) -> Iterator[Tuple[Answer, Answer]]:
+    """Two answers to one question: as of a commit, and the newest of a later one without a suffix."""
     now = {question_of(one): one for one in kept if one.command.as_of is None}
     for answer in kept:
         newest = now.get(question_of(answer))
         if answer.command.as_of is not None and newest is not None and newest.commit > answer.commit:
-            yield [answer.number, newest.number]
+            yield answer, newest
 
 
 def question_of(answer: Answer) -> Tuple[Tuple[str, ...], ...]:

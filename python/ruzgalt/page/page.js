@@ -2,8 +2,6 @@
 
 // A table of more columns takes the whole width, on the screen and on paper.
 const WIDEST = 8, WIDEST_ON_PAPER = 5;
-// What stands at these places of a record is another after each change, so it isn't compared.
-const IDS = { rows: [0], at: [0], anti: [0], join: [2, 3] };
 
 function section(id, ...inner) {
   document.getElementById(id).append(...inner);
@@ -89,15 +87,19 @@ function countsOf(keys) {
   return counts;
 }
 
-// The records, each with nothing before it, or with `only` where there are fewer of its values among the others.
-function marked(word, records, others, only) {
-  const key = (record) => JSON.stringify(record.filter((_, place) => !(IDS[word] || []).includes(place)));
-  const left = countsOf(others.map(key));
+// The records, each with nothing before it, or with `only` where there are fewer equal ones among the others.
+function marked(records, others, only) {
+  const left = countsOf(others.map((one) => JSON.stringify(one)));
   return records.map((record) => {
-    const count = left.get(key(record)) || 0;
-    left.set(key(record), count - 1);
+    const key = JSON.stringify(record), count = left.get(key) || 0;
+    left.set(key, count - 1);
     return [count > 0 ? "" : only, ...record];
   });
+}
+
+// The same by signs that are given: of records that hold for a time, by their times and without ids.
+function signed(records, signs, only) {
+  return records.map((record, place) => [signs[place] === "1" ? only : "", ...record]);
 }
 
 function sideOf(when, question, records) {
@@ -118,11 +120,15 @@ function pairOf(then, now) {
     return article;
   }
   const before = blockOf(`records-${then.number}`), after = blockOf(`records-${now.number}`);
-  const said = [marked(now.word, before, after, "only then"), marked(now.word, after, before, "only now")];
+  const signs = data.said[then.number];
+  const said = signs
+    ? [signed(before, signs[0], "only then"), signed(after, signs[1], "only now")]
+    : [marked(before, after, "only then"), marked(after, before, "only now")];
   const [gone, come] = said.map((records) => records.filter(([mark]) => mark).length);
-  const both = before.length - gone;
+  const both = before.length - gone, still = after.length - come;
+  const cut = both === still ? "" : ` (${grouped(still)} now, as changes have cut or left them)`;
   const sides = [sideOf("Then", then, said[0]), sideOf("Now", now, said[1])];
-  article.append(make("p", {}, `${counted(both, "record")} said both times, ${gone} only then, ${come} only now.`));
+  article.append(make("p", {}, `${counted(both, "record")} said both times${cut}, ${gone} only then, ${come} only now.`));
   if (both && gone + come) {
     const only = make("input", { type: "checkbox" });
     const refresh = () => sides.forEach((side) => side.only(only.checked));

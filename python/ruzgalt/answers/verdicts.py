@@ -1,0 +1,30 @@
+"""What the verdict on a division says, in a sentence for a person."""
+from typing import Dict
+
+from ruzgalt.answers import Answer
+
+# By the reason of a `no`. Claimed are the command's number of parts and its instant.
+SENTENCES: Dict[str, str] = {
+    "WrongCount": "No: {parts} parts are claimed, and {count} are there.",
+    "EmptyPart": "No: part {part} has no row.",
+    "Unknown": "No: no row has the id {row_id}.",
+    "Twice": "No: row {row_id} stands twice.",
+    "Missing": "No: row {row_id} is in no part.",
+    "Overlap": "No: rows {row_id} and {other_row_id} are in one part, and overlap.",
+}
+YES = "Yes: no two rows of a part overlap, and fewer parts than {parts} can't do: {why}."
+NOT_CROWDED = "No: {parts} parts are enough, but {which}: it doesn't show that fewer can't do."
+
+
+def told(answer: Answer) -> str:
+    """The sentence of a check's answer."""
+    verdict, reason, *numbers = next(answer.table.texts())
+    parts, instant = answer.command.front[2:4]
+    if verdict == "yes":
+        why = "there are no rows" if instant == "-" else f"on {instant} as many rows hold"
+        return YES.format(parts=parts, why=why)
+    names = dict(zip(answer.table.names[2:], numbers))
+    if reason == "NotCrowded":
+        which = "no day is claimed" if instant == "-" else f"{instant} needs only {names['count']}"
+        return NOT_CROWDED.format(parts=parts, which=which)
+    return SENTENCES[reason].format(parts=parts, **names)
