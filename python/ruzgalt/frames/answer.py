@@ -11,7 +11,6 @@ from typing import Any, Iterable, List, Optional, Sequence, Tuple
 
 import pandas as pd
 
-from ruzgalt.frames.checks import Suffixes
 from ruzgalt.frames.errors import Refused
 from ruzgalt.frames.named import same
 from ruzgalt.script import naming
@@ -49,8 +48,8 @@ class Columns:
         return frame_of(naming.apart(self.names), self.cells)
 
 
-def beside(own: Iterable[Column], sides: Iterable[Iterable[Column]], suffixes: Suffixes) -> Any:
-    """The answer of two frames or tables: its own columns, the left one's, and the right one's but for the compared."""
+def beside(own: Iterable[Column], sides: Iterable[Iterable[Column]], suffixes: Iterable[Optional[str]]) -> Any:
+    """The answer of two frames or tables: its own columns, and theirs, with what is put behind names that are taken."""
     columns = Columns(own)
     for side, suffix in zip(sides, suffixes):
         columns.add(side, suffix)

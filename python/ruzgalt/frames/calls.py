@@ -12,7 +12,8 @@ from ruzgalt.frames.checks import are_spread
 from ruzgalt.frames.division import Division
 from ruzgalt.frames.errors import Refused
 from ruzgalt.frames.options import (
-    FLOAT, INNER, NO_DECIMALS, PERIOD, SUFFIXES, WORKERS, Functions, Names, PeriodNames, PairOfSuffixes, options_of,
+    FLOAT, INNER, NO_DECIMALS, PERIOD, SUFFIXES, WORKERS, Functions, Names, OneSided, PairOfSuffixes, PeriodNames,
+    options_of, options_of_pair,
 )
 
 if TYPE_CHECKING:
@@ -21,31 +22,37 @@ if TYPE_CHECKING:
 
 @overload
 def join(left: pd.DataFrame, right: pd.DataFrame, on: Names = ..., *, left_on: Names = ..., right_on: Names = ...,
-         how: str = ..., period: PeriodNames = ..., right_period: Optional[PeriodNames] = ..., open_end: bool = ...,
-         last_day: bool = ..., decimals: Mapping[Any, int] = ..., suffixes: PairOfSuffixes = ..., labels: bool = ...,
-         points_as: Optional[str] = ..., workers: int = ..., parts: Optional[int] = ...) -> pd.DataFrame: ...
+         how: str = ..., period: PeriodNames = ..., left_period: Optional[PeriodNames] = ...,
+         right_period: Optional[PeriodNames] = ..., keep_periods: bool = ..., open_end: OneSided = ...,
+         last_day: OneSided = ..., decimals: Mapping[Any, int] = ..., suffixes: PairOfSuffixes = ...,
+         labels: bool = ..., points_as: Optional[str] = ..., workers: int = ...,
+         parts: Optional[int] = ...) -> pd.DataFrame: ...
 
 
 @overload
 def join(left: dd.DataFrame, right: Union[dd.DataFrame, pd.DataFrame], on: Names = ..., *, left_on: Names = ...,
-         right_on: Names = ..., how: str = ..., period: PeriodNames = ..., right_period: Optional[PeriodNames] = ...,
-         open_end: bool = ..., last_day: bool = ..., decimals: Mapping[Any, int] = ..., suffixes: PairOfSuffixes = ...,
+         right_on: Names = ..., how: str = ..., period: PeriodNames = ..., left_period: Optional[PeriodNames] = ...,
+         right_period: Optional[PeriodNames] = ..., keep_periods: bool = ..., open_end: OneSided = ...,
+         last_day: OneSided = ..., decimals: Mapping[Any, int] = ..., suffixes: PairOfSuffixes = ...,
          labels: bool = ..., points_as: Optional[str] = ..., workers: int = ...,
          parts: Optional[int] = ...) -> dd.DataFrame: ...
 
 
 @overload
 def join(left: pd.DataFrame, right: dd.DataFrame, on: Names = ..., *, left_on: Names = ..., right_on: Names = ...,
-         how: str = ..., period: PeriodNames = ..., right_period: Optional[PeriodNames] = ..., open_end: bool = ...,
-         last_day: bool = ..., decimals: Mapping[Any, int] = ..., suffixes: PairOfSuffixes = ..., labels: bool = ...,
-         points_as: Optional[str] = ..., workers: int = ..., parts: Optional[int] = ...) -> dd.DataFrame: ...
+         how: str = ..., period: PeriodNames = ..., left_period: Optional[PeriodNames] = ...,
+         right_period: Optional[PeriodNames] = ..., keep_periods: bool = ..., open_end: OneSided = ...,
+         last_day: OneSided = ..., decimals: Mapping[Any, int] = ..., suffixes: PairOfSuffixes = ...,
+         labels: bool = ..., points_as: Optional[str] = ..., workers: int = ...,
+         parts: Optional[int] = ...) -> dd.DataFrame: ...
 
 
-def join(left: Any, right: Any, on: Names = None, *, left_on: Names = None, right_on: Names = None,
-         how: str = INNER, period: PeriodNames = PERIOD, right_period: Optional[PeriodNames] = None,
-         open_end: bool = False, last_day: bool = False, decimals: Mapping[Any, int] = NO_DECIMALS,
-         suffixes: PairOfSuffixes = SUFFIXES, labels: bool = False, points_as: Optional[str] = None,
-         workers: int = WORKERS, parts: Optional[int] = None) -> Any:
+def join(left: Any, right: Any, on: Names = None, *, left_on: Names = None, right_on: Names = None, how: str = INNER,
+         period: PeriodNames = PERIOD, left_period: Optional[PeriodNames] = None,
+         right_period: Optional[PeriodNames] = None, keep_periods: bool = False, open_end: OneSided = False,
+         last_day: OneSided = False, decimals: Mapping[Any, int] = NO_DECIMALS, suffixes: PairOfSuffixes = SUFFIXES,
+         labels: bool = False, points_as: Optional[str] = None, workers: int = WORKERS,
+         parts: Optional[int] = None) -> Any:
     """The pairs of a left and a right row that are equal in the columns `on`, each for as long as both hold.
 
     Parameters
@@ -61,12 +68,15 @@ def join(left: Any, right: Any, on: Names = None, *, left_on: Names = None, righ
         in the right columns; right has the right rows so, and outer both.
     period : pair of names, or name, default ("from", "to")
         The columns of a row's start and of its end, the first point behind it; or one of intervals.
-    right_period : pair of names, or name, optional
-        The same of the right frame, where they are others.
-    open_end : bool, default False
-        A missing end stands for 9999-12-31, and comes back as missing.
-    last_day : bool, default False
-        An end is a row's last day, in the answer too. No point has a time then.
+    left_period, right_period : pair of names, or name, optional
+        The same of the one frame, where they are others.
+    keep_periods : bool, default False
+        Adds the periods of the left and of the right row behind that in which both hold.
+    open_end : bool or "left" or "right", default False
+        A missing end stands for 9999-12-31, and comes back as missing; in both frames, or in the one that is named.
+    last_day : bool or "left" or "right", default False
+        An end is a row's last day, in the answer as in the left frame; in both frames, or in the one that is named. No
+        point has a time then.
     decimals : dict, optional
         How many decimals are compared of a column of floats or Decimals, as `{"hours": 2}`.
     suffixes : pair of str or None, default ("_left", "_right")
@@ -118,14 +128,16 @@ def join(left: Any, right: Any, on: Names = None, *, left_on: Names = None, righ
     1 2024-02-01 2024-07-01    Ada   5000  press
     2 2024-07-01 2024-09-01    Ada   5400  press
     3 2024-09-01        NaT    Ada   5400    NaN
+    >>> list(ruzgalt.join(pay, contract, on="person", open_end="left", keep_periods=True))
+    ['from', 'to', 'from_left', 'to_left', 'from_right', 'to_right', 'person', 'cents', 'centre']
     """
-    options = options_of(
-        left_on=left_on, right_on=right_on, how=how, period=period, right_period=right_period, open_end=open_end,
-        last_day=last_day, decimals=decimals, suffixes=suffixes, labels=labels, points_as=points_as, workers=workers,
-        parts=parts,
+    options = options_of_pair(
+        left_on=left_on, right_on=right_on, how=how, period=period, left_period=left_period, right_period=right_period,
+        keep_periods=keep_periods, open_end=open_end, last_day=last_day, decimals=decimals, suffixes=suffixes,
+        labels=labels, points_as=points_as, workers=workers, parts=parts,
     )
     if are_spread(left=left, right=right):
-        intervals.refuse_spread(options.period, options.other_period)
+        intervals.refuse_spread(*options.periods)
         from ruzgalt.frames import spread
         return spread.paired(pairs.join_part, left, right, on, options)
     return pairs.join(left, right, on, options)
@@ -133,29 +145,31 @@ def join(left: Any, right: Any, on: Names = None, *, left_on: Names = None, righ
 
 @overload
 def anti(left: pd.DataFrame, right: pd.DataFrame, on: Names = ..., *, left_on: Names = ..., right_on: Names = ...,
-         period: PeriodNames = ..., right_period: Optional[PeriodNames] = ..., open_end: bool = ...,
-         last_day: bool = ..., decimals: Mapping[Any, int] = ..., points_as: Optional[str] = ..., workers: int = ...,
-         parts: Optional[int] = ...) -> pd.DataFrame: ...
+         period: PeriodNames = ..., left_period: Optional[PeriodNames] = ..., right_period: Optional[PeriodNames] = ...,
+         open_end: OneSided = ..., last_day: OneSided = ..., decimals: Mapping[Any, int] = ...,
+         points_as: Optional[str] = ..., workers: int = ..., parts: Optional[int] = ...) -> pd.DataFrame: ...
 
 
 @overload
 def anti(left: dd.DataFrame, right: Union[dd.DataFrame, pd.DataFrame], on: Names = ..., *, left_on: Names = ...,
-         right_on: Names = ..., period: PeriodNames = ..., right_period: Optional[PeriodNames] = ...,
-         open_end: bool = ..., last_day: bool = ..., decimals: Mapping[Any, int] = ..., points_as: Optional[str] = ...,
-         workers: int = ..., parts: Optional[int] = ...) -> dd.DataFrame: ...
+         right_on: Names = ..., period: PeriodNames = ..., left_period: Optional[PeriodNames] = ...,
+         right_period: Optional[PeriodNames] = ..., open_end: OneSided = ..., last_day: OneSided = ...,
+         decimals: Mapping[Any, int] = ..., points_as: Optional[str] = ..., workers: int = ...,
+         parts: Optional[int] = ...) -> dd.DataFrame: ...
 
 
 @overload
 def anti(left: pd.DataFrame, right: dd.DataFrame, on: Names = ..., *, left_on: Names = ..., right_on: Names = ...,
-         period: PeriodNames = ..., right_period: Optional[PeriodNames] = ..., open_end: bool = ...,
-         last_day: bool = ..., decimals: Mapping[Any, int] = ..., points_as: Optional[str] = ..., workers: int = ...,
-         parts: Optional[int] = ...) -> dd.DataFrame: ...
+         period: PeriodNames = ..., left_period: Optional[PeriodNames] = ..., right_period: Optional[PeriodNames] = ...,
+         open_end: OneSided = ..., last_day: OneSided = ..., decimals: Mapping[Any, int] = ...,
+         points_as: Optional[str] = ..., workers: int = ..., parts: Optional[int] = ...) -> dd.DataFrame: ...
 
 
 def anti(left: Any, right: Any, on: Names = None, *, left_on: Names = None, right_on: Names = None,
-         period: PeriodNames = PERIOD, right_period: Optional[PeriodNames] = None, open_end: bool = False,
-         last_day: bool = False, decimals: Mapping[Any, int] = NO_DECIMALS, points_as: Optional[str] = None,
-         workers: int = WORKERS, parts: Optional[int] = None) -> Any:
+         period: PeriodNames = PERIOD, left_period: Optional[PeriodNames] = None,
+         right_period: Optional[PeriodNames] = None, open_end: OneSided = False, last_day: OneSided = False,
+         decimals: Mapping[Any, int] = NO_DECIMALS, points_as: Optional[str] = None, workers: int = WORKERS,
+         parts: Optional[int] = None) -> Any:
     """The left rows, each for as long as no right row holds that is equal in the columns `on`.
 
     Parameters
@@ -168,12 +182,13 @@ def anti(left: Any, right: Any, on: Names = None, *, left_on: Names = None, righ
         The compared columns in place of `on`, where the two frames have different names for them.
     period : pair of names, or name, default ("from", "to")
         The columns of a row's start and of its end, the first point behind it; or one of intervals.
-    right_period : pair of names, or name, optional
-        The same of the right frame, where they are others.
-    open_end : bool, default False
-        A missing end stands for 9999-12-31, and comes back as missing.
-    last_day : bool, default False
-        An end is a row's last day, in the answer too. No point has a time then.
+    left_period, right_period : pair of names, or name, optional
+        The same of the one frame, where they are others.
+    open_end : bool or "left" or "right", default False
+        A missing end stands for 9999-12-31, and comes back as missing; in both frames, or in the one that is named.
+    last_day : bool or "left" or "right", default False
+        An end is a row's last day, in the answer as in the left frame; in both frames, or in the one that is named. No
+        point has a time then.
     decimals : dict, optional
         How many decimals are compared of a column of floats or Decimals, as `{"hours": 2}`.
     points_as : str, optional
@@ -212,12 +227,12 @@ def anti(left: Any, right: Any, on: Names = None, *, left_on: Names = None, righ
     c1 2024-02-01 2024-03-01    Ada
     c1 2024-07-01        NaT    Ada
     """
-    options = options_of(
-        left_on=left_on, right_on=right_on, period=period, right_period=right_period, open_end=open_end,
-        last_day=last_day, decimals=decimals, points_as=points_as, workers=workers, parts=parts,
+    options = options_of_pair(
+        left_on=left_on, right_on=right_on, period=period, left_period=left_period, right_period=right_period,
+        open_end=open_end, last_day=last_day, decimals=decimals, points_as=points_as, workers=workers, parts=parts,
     )
     if are_spread(left=left, right=right):
-        intervals.refuse_spread(options.period, options.other_period)
+        intervals.refuse_spread(*options.periods)
         from ruzgalt.frames import spread
         return spread.paired(pairs.anti_part, left, right, on, options)
     return pairs.anti(left, right, on, options)

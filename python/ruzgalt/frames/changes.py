@@ -135,7 +135,7 @@ def updating(table: Table, frame: Any, where: Names) -> Change:
 def warn_of_ends(table: Table, side: Side) -> None:
     """Warns of ends that look like last days, or the other way round."""
     key = [one for one in side.columns if same(one.name) in table.key]
-    doubts.of_ends(side, key, table.period[-1], table.options.last_day)
+    doubts.of_ends(side, key, table.period[-1], table.form.has_last_days)
 
 
 def column_texts(column: Values) -> List[str]:

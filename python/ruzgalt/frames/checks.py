@@ -35,8 +35,12 @@ def is_plain(given: Any) -> bool:
     return all(map(is_plain, given)) if isinstance(given, (list, tuple, set)) else isinstance(given, SHOWN)
 
 
+def is_flag(given: Any) -> bool:
+    return isinstance(given, (bool, np.bool_))
+
+
 def flag(option: str, given: Any) -> bool:
-    if not isinstance(given, (bool, np.bool_)):
+    if not is_flag(given):
         raise wrong(option, given, "True or False is wanted")
     return bool(given)
 

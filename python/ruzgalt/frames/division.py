@@ -80,7 +80,7 @@ class Division(Generic[Parts]):
 
 def dip(frame: Any, options: Options) -> Division[Any]:
     side = sides.side_of(frame, [], options.period, options.form, {})
-    doubts.of_ends(side, [], options.period[-1], options.last_day)
+    doubts.of_ends(side, [], options.period[-1], options.form.has_last_days)
     if not split.means_of(options.workers).fits([side]):
         limit = f"{len(side):,} rows, and a table has {split.ROWS:,}; a division isn't that of its parts"
         raise Refused("Full", f"{limit}: {OTHERWISE}")

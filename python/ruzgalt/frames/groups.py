@@ -24,7 +24,7 @@ def agg(frame: Any, asked: Measures, options: Options) -> Any:
     doubts.of_decimals(options.decimals, frame)
     by = side.columns[:len(options.by or ())]
     doubts.of_groups(by)
-    doubts.of_ends(side, by, options.period[-1], options.last_day)
+    doubts.of_ends(side, by, options.period[-1], options.form.has_last_days)
     return counted(frame, side, asked, options)
 
 
@@ -41,7 +41,7 @@ def counted(frame: Any, side: Side, asked: Measures, options: Options) -> Any:
     numbered = replace(side, columns=[codes])
     start, end, group, *values = measures.measured(numbered, amounts, asked, options.workers)
     columns = Columns(groups_at(frame, groups, firsts[group]))
-    columns.add(period_of(start, end, [side], options))
+    columns.add(period_of(start, end, [side], options, options.form))
     columns.add(measures.columns_of(values, asked, amounts, options.mean_as))
     return columns.frame()
 

@@ -17,12 +17,15 @@ Names = Union[str, int, Sequence[Any], None]
 Functions = Union[str, Mapping[Any, Union[str, Sequence[str]]]]
 PeriodNames = Union[str, int, Tuple[Any, Any], List[Any]]
 PairOfSuffixes = Union[Suffixes, List[Optional[str]]]
+# Of both frames of a pair, or of one of them alone.
+OneSided = Union[bool, str]
 Told = Optional[Tuple[Any, ...]]
 # What a call has where nothing else is given.
 PERIOD: Tuple[Any, Any] = ("from", "to")
 SUFFIXES: Suffixes = ("_left", "_right")
 NO_DECIMALS: Mapping[Any, int] = MappingProxyType({})
 NO_STAND_INS: Mapping[Any, Any] = MappingProxyType({})
+SIDES = ("left", "right")
 WORKERS = 4
 # Whose rows a join has: those of pairs, and the left ones, the right ones or all that are in none.
 HOWS = ("inner", "left", "right", "outer")
@@ -43,9 +46,11 @@ class Options:
     right_on: Told = None
     by: Told = None
     period: Period = PERIOD
+    left_period: Optional[Period] = None
     right_period: Optional[Period] = None
-    open_end: bool = False
-    last_day: bool = False
+    keep_periods: bool = False
+    open_end: OneSided = False
+    last_day: OneSided = False
     decimals: Mapping[Any, int] = field(default_factory=dict)
     missing: Mapping[Any, Any] = field(default_factory=dict)
     suffixes: Suffixes = SUFFIXES
@@ -58,11 +63,23 @@ class Options:
 
     @property
     def form(self) -> Form:
-        return Form(self.open_end, self.last_day)
+        """Of a call of one frame."""
+        return Form(self.open_end is True, self.last_day is True)
 
     @property
-    def other_period(self) -> Period:
-        return self.right_period or self.period
+    def periods(self) -> Tuple[Period, Period]:
+        """Of the left frame and of the right one."""
+        return self.left_period or self.period, self.right_period or self.period
+
+    @property
+    def forms(self) -> List[Form]:
+        """Of the left frame and of the right one."""
+        return [Form(self.open_end in (True, side), self.last_day in (True, side)) for side in SIDES]
+
+    @property
+    def joined_form(self) -> Form:
+        """Of a join: last days as the left frame has them, and an end is missing where one of the frames has such."""
+        return Form(bool(self.open_end), self.forms[0].has_last_days)
 
     def kind_of(self, period: Period, *given: Kind) -> Kind:
         """The kind of the answer's points, of frames of these, in this period of its. Raises Refused."""
@@ -80,6 +97,14 @@ def parts_of(option: str, given: Any) -> int:
     return checks.whole(option, given, 1)
 
 
+def one_sided(option: str, given: Any) -> OneSided:
+    if isinstance(given, str) and given in SIDES:
+        return given
+    if not checks.is_flag(given):
+        raise checks.wrong(option, given, "True or False is wanted, or 'left' or 'right' for the frame of which it is")
+    return bool(given)
+
+
 def how_named(option: str, given: Any) -> str:
     return checks.one_of(option, given, HOWS)
 
@@ -95,30 +120,39 @@ def kind_named(option: str, given: Any) -> str:
 # How each option is looked at.
 CHECKS: Dict[str, Callable[[str, Any], Any]] = {
     **dict.fromkeys(("left_on", "right_on", "by"), checks.names),
-    **dict.fromkeys(("period", "right_period"), checks.period),
-    **dict.fromkeys(("open_end", "last_day", "labels"), checks.flag),
+    **dict.fromkeys(("period", "left_period", "right_period"), checks.period),
+    **dict.fromkeys(("open_end", "last_day", "labels", "keep_periods"), checks.flag),
     "decimals": checks.digits, "missing": checks.stand_ins, "suffixes": checks.suffixes, "points_as": kind_named,
     "workers": workers_of, "parts": parts_of, "how": how_named, "mean_as": mean_named,
 }
 # Those that may be None, as where they aren't given.
-OPTIONAL = ("left_on", "right_on", "by", "right_period", "points_as", "parts")
+OPTIONAL = ("left_on", "right_on", "by", "left_period", "right_period", "points_as", "parts")
 
 
 def options_of(**given: Any) -> Options:
     """Raises Refused where a value is none of its option's. Which options there are, the calls' signatures say."""
+    return checked(given, CHECKS)
+
+
+def options_of_pair(**given: Any) -> Options:
+    """The same of a call of two frames, where some options may be of one of them alone."""
+    return checked(given, {**CHECKS, **dict.fromkeys(("open_end", "last_day"), one_sided)})
+
+
+def checked(given: Mapping[str, Any], looks: Mapping[str, Callable[[str, Any], Any]]) -> Options:
     there = {name: value for name, value in given.items() if value is not None or name not in OPTIONAL}
-    options = Options(**{name: CHECKS[name](name, value) for name, value in there.items()})
+    options = Options(**{name: looks[name](name, value) for name, value in there.items()})
     refuse_beside_intervals(options)
     return options
 
 
 def refuse_beside_intervals(options: Options) -> None:
     """Raises Refused for options that are of two columns, where a period is one of intervals."""
-    are_some = [intervals.are_in(period) for period in (options.period, options.other_period)]
-    if options.last_day and any(are_some):
-        told = "last_day=True: intervals that are closed on the left end before their right side"
-        raise Refused("BadCommand", f"{told}; {intervals.BY_SIDES}ends may be last days")
-    if options.open_end and are_some[0]:
+    for period, form in zip(options.periods, options.forms):
+        if form.has_last_days and intervals.are_in(period):
+            told = "last_day=True: intervals that are closed on the left end before their right side"
+            raise Refused("BadCommand", f"{told}; {intervals.BY_SIDES}ends may be last days")
+    if options.open_end and intervals.are_in(options.periods[0]):
         told = "open_end=True: intervals have no missing end"
         raise Refused("BadCommand", f"{told}; {intervals.BY_SIDES}ends may be missing")
 

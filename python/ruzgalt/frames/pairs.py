@@ -5,7 +5,8 @@ so no value of theirs passes through a text.
 """
 from __future__ import annotations
 
-from typing import Any, Iterable, List, Sequence
+from dataclasses import dataclass
+from typing import Any, List, Sequence
 
 import numpy as np
 
@@ -17,6 +18,7 @@ from ruzgalt.frames.errors import Refused
 from ruzgalt.frames.kinds import refuse_two_zones
 from ruzgalt.frames.named import column_of, names_of, place_of, refuse_twice, same, with_levels
 from ruzgalt.frames.options import Names, Options, compared
+from ruzgalt.frames.points import Form
 from ruzgalt.frames.sides import Side
 from ruzgalt.frames.values import Values
 
@@ -51,26 +53,25 @@ def joined(frames: Sequence[Any], both: Sequence[Side], on: Names, options: Opti
     """is_part: all parts of an answer are to have the same dtypes, whether a row of theirs is unmatched or not."""
     start, end, *places = matched(both, options)
     may_miss = [is_part and options.how in (one, "outer") for one in ("right", "left")]
-    own = period_of(start, end, both, options)
+    taken = list(map(Taken, frames, places, may_miss))
+    own = period_of(start, end, both, options, options.joined_form)
     if options.labels:
-        own += zip(LABELS, map(missing.labels_at, frames, places, may_miss))
-    shared = compared(on, options)[1] if on is not None else []
-    left = [*columns_at(frames[0], [*options.period, *shared], places[0], may_miss[0])]
-    keys = [shared_column(frames, name, places, may_miss[0]) for name in dict.fromkeys(map(same, shared))]
-    right = columns_at(frames[1], [*options.other_period, *shared], places[1], may_miss[1])
-    return answer.beside(own, [in_order_of(frames[0], [*left, *keys]), right], options.suffixes)
+        own += [(name, one.labels()) for name, one in zip(LABELS, taken)]
+    kept = [one.period(period) for one, period in zip(taken, options.periods) if options.keep_periods]
+    shared = list(dict.fromkeys(map(same, compared(on, options)[1] if on is not None else [])))
+    others = [one.others([*period, *shared]) for one, period in zip(taken, options.periods)]
+    others[0] += [shared_column(taken, name) for name in shared]
+    others[0].sort(key=lambda column: place_of(frames[0], column[0]))
+    return answer.beside(own, [*kept, *others], [*(options.suffixes if kept else ()), *options.suffixes])
 
 
-def shared_column(frames: Sequence[Any], name: Any, places: Sequence[Ints], is_wide: bool) -> Column:
+def shared_column(taken: Sequence[Taken], name: Any) -> Column:
     """A compared column of both: the left row's cell, or where there is no left row that of the right one."""
-    one, other = (column_of(frame, name) for frame in frames)
+    one, other = (column_of(with_labels_twice(side.frame), name) for side in taken)
+    places, is_wide = [side.rows for side in taken], taken[0].is_wide
     if is_wide or (places[0] < 0).any():
         return name, missing.either(one, other, places, is_wide)
     return name, one.take(places[0]).reset_index(drop=True)
-
-
-def in_order_of(frame: Any, columns: Iterable[Column]) -> List[Column]:
-    return sorted(columns, key=lambda column: place_of(frame, column[0]))
 
 
 def matched(both: Sequence[Side], options: Options) -> Found:
@@ -109,24 +110,23 @@ def anti_part(left: Any, right: Any, on: Names, options: Options) -> Any:
 def left_over(left: Any, both: Sequence[Side], options: Options) -> Any:
     start, end, places = split.anti(both, options.workers)
     made = with_labels_twice(left).take(places)
-    for name, cells in period_of(start, end, both, options, made.index):
+    for name, cells in period_of(start, end, both, options, options.forms[0], made.index):
         intervals.with_cells(made, name, cells)
     return made
 
 
 def tell(frames: Sequence[Any], both: Sequence[Side], on: Names, options: Options) -> None:
     """Warns of what may not be meant."""
-    periods = (options.period, options.other_period)
     if on is None and options.left_on is None:
         doubts.of_no_columns(*(
-            [name for name in names_of(frame) if name not in own] for frame, own in zip(frames, periods)
+            [name for name in names_of(frame) if name not in own] for frame, own in zip(frames, options.periods)
         ))
     doubts.of_decimals(options.decimals, *frames)
     doubts.of_keys(*(side.columns for side in both))
     for one, other in zip(*(side.columns for side in both)):
         doubts.of_no_value(one.name, one.texts.cells, other.texts.cells)
-    for side, period in zip(both, periods):
-        doubts.of_ends(side, side.columns, period[-1], options.last_day)
+    for side, period, form in zip(both, options.periods, options.forms):
+        doubts.of_ends(side, side.columns, period[-1], form.has_last_days)
 
 
 def with_labels_twice(frame: Any) -> Any:
@@ -134,11 +134,30 @@ def with_labels_twice(frame: Any) -> Any:
     return frame.set_flags(allows_duplicate_labels=True)
 
 
-def columns_at(frame: Any, left_out: Sequence[Any], rows: Ints, is_wide: bool = False) -> Iterable[Column]:
-    """The columns but for those left out, each with its cells of these rows, as missing.rows_at has them."""
-    kept = [place for place, name in enumerate(names_of(frame)) if name not in left_out]
-    taken = missing.rows_at(with_labels_twice(frame).iloc[:, kept], rows, is_wide)
-    return [(name, taken.iloc[:, place]) for place, name in enumerate(names_of(taken))]
+@dataclass(frozen=True)
+class Taken:
+    """Rows of a frame by their places, of which -1 is none, as missing.rows_at has them."""
+
+    frame: Any
+    rows: Ints
+    is_wide: bool
+
+    def labels(self) -> Any:
+        return missing.labels_at(self.frame, self.rows, self.is_wide)
+
+    def period(self, names: Sequence[Any]) -> List[Column]:
+        """The frame's own, as it is: two columns, or one of intervals, or a level of the index."""
+        cells = [intervals.spans_of(self.frame, name).to_frame() for name in names]
+        return [(name, self.at(one).iloc[:, 0]) for name, one in zip(names, cells)]
+
+    def others(self, left_out: Sequence[Any]) -> List[Column]:
+        away = list(map(same, left_out))
+        kept = [place for place, name in enumerate(names_of(self.frame)) if name not in away]
+        taken = self.at(self.frame.iloc[:, kept])
+        return [(name, taken.iloc[:, place]) for place, name in enumerate(names_of(taken))]
+
+    def at(self, columns: Any) -> Any:
+        return missing.rows_at(with_labels_twice(columns), self.rows, self.is_wide)
 
 
 def sides_of(frames: Sequence[Any], on: Names, options: Options) -> List[Side]:
@@ -146,11 +165,11 @@ def sides_of(frames: Sequence[Any], on: Names, options: Options) -> List[Side]:
     names = compared(on, options)
     for pair in zip(*([column_of(frame, name) for name in own] for frame, own in zip(frames, names))):
         refuse_float_beside_int(*pair)
-    told = zip(frames, names, (options.period, options.other_period))
-    both = [sides.side_of(frame, own, period, options.form, options.decimals) for frame, own, period in told]
+    told = zip(frames, names, options.periods, options.forms)
+    both = [sides.side_of(frame, own, period, form, options.decimals) for frame, own, period, form in told]
     for one, other in zip(both[0].columns, both[1].columns):
         refuse_two_kinds(one, other)
-    refuse_two_zones(both[0].kind, both[1].kind, options.other_period[0])
+    refuse_two_zones(both[0].kind, both[1].kind, options.periods[1][0])
     return both
 
 
@@ -174,8 +193,10 @@ def refuse_two_kinds(one: Values, other: Values) -> None:
         raise Refused("WrongKind", f"{told}; decimals= takes as many of both", one.name)
 
 
-def period_of(start: Ints, end: Ints, both: Sequence[Side], options: Options, index: Any = None) -> List[Column]:
-    """The period's columns of an answer."""
-    kind = options.kind_of(options.period, *(side.kind for side in both))
-    cells = points.series_of(start, kind, index), options.form.restored_ends(end, kind, index)
-    return intervals.columns_of(options.period, *cells)
+def period_of(start: Ints, end: Ints, both: Sequence[Side], options: Options, form: Form,
+              index: Any = None) -> List[Column]:
+    """The period's columns of an answer, named as the left frame's."""
+    period = options.periods[0]
+    kind = options.kind_of(period, *(side.kind for side in both))
+    cells = points.series_of(start, kind, index), form.restored_ends(end, kind, index)
+    return intervals.columns_of(period, *cells)

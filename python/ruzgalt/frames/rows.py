@@ -127,7 +127,7 @@ def held(frame: Any, is_spread: bool, span: Span, options: Options) -> Any:
     if is_spread:
         from ruzgalt.frames import spread
         return spread.parted(frame, held_part, span, options)
-    doubts.of_ends(side_of(frame, options), [], options.period[-1], options.last_day)
+    doubts.of_ends(side_of(frame, options), [], options.period[-1], options.form.has_last_days)
     return held_part(frame, span, options)
 
 

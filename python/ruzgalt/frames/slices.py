@@ -154,7 +154,7 @@ def fitted(found: Found, plan: Sequence[Tuple[bool, int]], place: int, form: Tup
     goes_on, last = plan[place]
     start, end, *values = (column[int(goes_on):].copy() for column in found)
     end[-1:] = last
-    columns = Columns(pairs.period_of(start, end, [empty], asked.options))
+    columns = Columns(pairs.period_of(start, end, [empty], asked.options, asked.options.form))
     amounts = groups.amounts_in(empty, asked.measures)
     columns.add(columns_of(values, asked.measures, amounts, asked.options.mean_as))
     return columns.frame()

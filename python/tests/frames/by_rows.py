@@ -4,6 +4,7 @@ A frame is a list of columns, each a name and its cells. Points are numbers of d
 list of names and a list of rows, or None where some column has no name of its own.
 """
 from fractions import Fraction
+from typing import NamedTuple
 
 OPEN = 40
 FUNCTIONS = {
@@ -52,6 +53,14 @@ NONE = -1
 LAST = 1000
 
 
+class Kept(NamedTuple):
+    """A cell of a frame's own period."""
+
+    side: int
+    is_end: bool
+    day: int
+
+
 def join(frames, told):
     """told has periods and on, of each frame; how, labels and suffixes; and whether the compared columns are shared."""
     left, right = (
@@ -72,6 +81,10 @@ def join(frames, told):
     if told.labels:
         numbers = [list(range(len(own))) for own in (left, right)]
         columns += zip(("left_label", "right_label"), (None, None), map(taken, numbers, places))
+    for side, frame in enumerate(frames if told.keeps_periods else ()):
+        for is_end, name in enumerate(told.periods[side]):
+            own = [Kept(side, bool(is_end), day) for day in cells(frame, name)]
+            columns.append((name, told.suffixes[side], taken(own, places[side])))
     for side, frame in enumerate(frames):
         away = [*told.periods[side], *(told.on[1] if side and told.is_shared else [])]
         for name, values in frame:

@@ -33,7 +33,8 @@ NO_FLAGS = ["no", "", 1, 0, None, (True, False), np.int64(1), [], np.array([True
 NO_NAMES = [True, {"id": 1}, {"id"}, pd.Index(["id"]), FRAME["id"], (name for name in ["id"]), [["id"]], [True], FRAME]
 NO_PAIRS = ["ab", ("from",), ("from", "to", "id"), ("from", "from"), 5, ("from", ["to"]), {"from": "to"}, FRAME.columns]
 WRONG = {
-    "period": [*NO_PAIRS, None], "right_period": NO_PAIRS, "open_end": NO_FLAGS, "last_day": NO_FLAGS,
+    "period": [*NO_PAIRS, None], **dict.fromkeys(("left_period", "right_period"), NO_PAIRS), "keep_periods": NO_FLAGS,
+    "open_end": NO_FLAGS, "last_day": NO_FLAGS,
     "labels": NO_FLAGS, "on": NO_NAMES, "by": NO_NAMES, "left_on": [*NO_NAMES, ["id", "id", "id"]],
     "suffixes": ["", "_l", (), ("_l",), ("_l", "_r", "_s"), (1, 2), None, {"_l": "_r"}, (b"_l", "_r")],
     "workers": [0, -1, 65, True, 1.0, "4", None, [4]], "parts": [0, -1, 2.0, "2", True],
@@ -42,9 +43,10 @@ WRONG = {
     "mean_as": ["", "Float", float, None, True],
 }
 OF_ALL = ["period", "open_end", "last_day", "workers", "onn"]
-OF_PAIRS = ["right_period", "on", "left_on", "parts", "decimals", "points_as"]
+OF_PAIRS = ["right_period", "left_period", "on", "left_on", "parts", "decimals", "points_as"]
 OF_CALL = {
-    "join": [*OF_PAIRS, "labels", "suffixes", "how"], "anti": OF_PAIRS, "agg": ["by", "parts", "decimals", "points_as"],
+    "join": [*OF_PAIRS, "labels", "suffixes", "how", "keep_periods"],
+    "anti": OF_PAIRS, "agg": ["by", "parts", "decimals", "points_as"],
     "dip": [],
 }
 NO_FUNCTIONS = [
@@ -58,6 +60,8 @@ MEANS = {
 }
 AMOUNTS = [st.integers(-3, 3), st.booleans(), st.sampled_from([0.25, -1.5, 2.75])]
 HOWS = st.sampled_from(["inner", "left", "right", "outer"])
+# Of the left frame and of the right one.
+BOTH = st.lists(st.booleans(), min_size=2, max_size=2)
 SUFFIXES = st.sampled_from([("_left", "_right"), ("", "_2"), (None, "_r"), ("_l", None), (None, None), ("", "")])
 
 
@@ -69,13 +73,14 @@ class Case:
     """
 
     kind: str
-    is_last_day: bool
+    has_last_days: Any
     periods: Any
     on: Any
     is_shared: bool
     labels: bool
     suffixes: Any
     how: Any
+    keeps_periods: bool
     columns: Any
     frames: Any = ()
     asked: Any = ("count", None)
@@ -97,14 +102,21 @@ class Case:
             return None if self.kind == "date" else pd.NaT
         return DAYS[self.kind](FIRST + datetime.timedelta(days=day))
 
-    def end(self, day):
-        return self.point(day - (self.is_last_day and day != by_rows.OPEN))
+    def end(self, day, side=0):
+        return self.point(day - (self.has_last_days[side] and day != by_rows.OPEN))
 
-    def frame(self, columns, period):
-        """A frame of pandas, with the columns of a period in the case's kind."""
+    def kept(self, cell):
+        """What stands for a cell of by_rows."""
+        if not isinstance(cell, by_rows.Kept):
+            return cell
+        return self.end(cell.day, cell.side) if cell.is_end else self.point(cell.day)
+
+    def frame(self, side):
+        """A frame of pandas, with the columns of its period in the case's kind."""
+        columns, period = self.columns[side], self.periods[side]
         places = [by_rows.place(columns, name) for name in period]
         series = {place: pd.Series(cells, dtype=dtype_of(cells)) for place, (_, cells) in enumerate(columns)}
-        for place, point in zip(places, (self.point, self.end)):
+        for place, point in zip(places, (self.point, lambda day: self.end(day, side))):
             series[place] = self.points([point(day) for day in columns[place][1]])
         made, names = pd.DataFrame(series), [name for name, _ in columns]
         has_levels = all(isinstance(name, tuple) and len(name) == 2 for name in names)
@@ -159,7 +171,10 @@ def columns_of(draw, period, keys, is_open):
 
 @st.composite
 def cases(draw, call):
-    is_open, is_shared, kind = draw(st.booleans()), draw(st.booleans()), draw(st.sampled_from(sorted(DAYS)))
+    is_shared, kind = draw(st.booleans()), draw(st.sampled_from(sorted(DAYS)))
+    are_open, has_last_days = ([draw(st.booleans())] * 2 for _ in range(2))
+    if call in ("join", "anti"):
+        are_open, has_last_days = draw(BOTH), draw(BOTH)
     cells = draw(st.lists(st.sampled_from(KEYS), max_size=2))
     periods = [draw(st.just(["from", "to"]) | some_names(2))] * 2
     on = [draw(some_names(len(cells), periods[0]))] * 2
@@ -169,16 +184,16 @@ def cases(draw, call):
     keys = [list(zip(own, cells)) for own in on]
     amount = draw(some_names(1, [*periods[0], *on[0]]))[0]
     keys[0] += [(amount, draw(st.sampled_from(AMOUNTS)))] if call == "agg" else []
-    columns = [draw(columns_of(period, own, is_open)) for period, own in zip(periods, keys)]
+    columns = [draw(columns_of(*told)) for told in zip(periods, keys, are_open)]
     if rarely(draw):
         periods, on, amount = leveled(periods), leveled(on), level(amount)
         columns = [[(level(name), told) for name, told in frame] for frame in columns]
-    of_answer = draw(st.booleans()), draw(SUFFIXES), draw(HOWS)
-    case = Case(kind, draw(st.booleans()), periods, on, is_shared, *of_answer, columns)
-    case.frames = [case.frame(*told) for told in zip(columns, periods)]
-    given = [by_rows.periods(*told) for told in zip(columns, periods)][:1 if call in ("agg", "dip") else 2]
+    of_answer = draw(st.booleans()), draw(SUFFIXES), draw(HOWS), draw(st.booleans())
+    case = Case(kind, has_last_days, periods, on, is_shared, *of_answer, columns)
+    case.frames = [case.frame(0), case.frame(1)]
+    given = [by_rows.periods(*told) for told in zip(columns, periods)][:2 if call in ("join", "anti") else 1]
     case.is_right = all(start < end for frame in given for start, end in frame)
-    case.options = draw(options(call, case, is_open))
+    case.options = draw(options(call, case, are_open))
     if call == "agg":
         draw_asked(draw, case, amount)
     if rarely(draw):
@@ -195,20 +210,27 @@ def leveled(names):
 
 
 @st.composite
-def options(draw, call, case, is_open):
+def options(draw, call, case, are_open):
     """Options of right types, in each form that they may have."""
     flag, several = draw(st.sampled_from([bool, np.bool_])), draw(st.sampled_from([list, tuple]))
-    told = {"open_end": flag(is_open), "last_day": flag(case.is_last_day), "period": several(case.periods[0])}
+    told = {"open_end": one_sided(flag, are_open), "last_day": one_sided(flag, case.has_last_days)}
+    own, other = ("period", "right_period") if draw(st.booleans()) else ("left_period", "period")
+    told[own if call in ("join", "anti") else "period"] = several(case.periods[0])
     if call in ("join", "anti"):
-        told["right_period"] = several(case.periods[1])
+        told[other] = several(case.periods[1])
         told.update(compared(draw, case, several))
     if call == "join":
         told.update(labels=flag(case.labels), suffixes=several(case.suffixes), how=case.how)
+        told["keep_periods"] = flag(case.keeps_periods)
     if call == "agg":
         told["by"] = one_or_all(draw, case.on[0], several)
     if draw(st.booleans()):
         told["workers"] = draw(st.sampled_from([1, np.int64(2)]))
     return told
+
+
+def one_sided(flag, told):
+    return flag(told[0]) if told[0] == told[1] else "left" if told[0] else "right"
 
 
 def one_or_all(draw, names, several):

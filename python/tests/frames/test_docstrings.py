@@ -20,7 +20,7 @@ from manual.numpydoc import Docstring  # noqa: E402
 SUBJECTS = dict(api.subjects())
 SECTIONS = ("Parameters", "Returns", "Raises", "Warns", "Examples")
 CALLS = {name: subject for name, subject in SUBJECTS.items() if inspect.isroutine(subject)}
-# Those that mean one thing wherever they are, but in a store's table, which keeps them.
+# Those that mean one thing wherever they are of one kind, but in a store's table, which keeps them.
 OPTIONS = ("period", "right_period", "open_end", "last_day", "workers", "as_of", "function", "column", "by")
 
 
@@ -68,10 +68,11 @@ class Docstrings(unittest.TestCase):
         for call in (one for name, one in CALLS.items() if name != "Store.table"):
             for entry in Docstring(call).entries("Parameters"):
                 for name in entry.names:
-                    texts[name].add((entry.kind, entry.text))
-        for name in OPTIONS:
-            with self.subTest(name):
-                self.assertEqual(len(texts[name]), 1, texts[name])
+                    texts[name, entry.kind].add(entry.text)
+        for name, kind in texts:
+            if name in OPTIONS:
+                with self.subTest(name, kind=kind):
+                    self.assertEqual(len(texts[name, kind]), 1, texts[name, kind])
 
     def test_api_is_made_of_them(self):
         page = Path(TOP, "docs/API.md").read_text(encoding="utf-8")

@@ -51,6 +51,7 @@ class Hostile(unittest.TestCase):
         start, end = (by_rows.place([(name, None) for name in names], name) for name in case.periods[0])
         for row in rows:
             row[start], row[end] = case.point(row[start]), case.end(row[end])
+        rows = [list(map(case.kept, row)) for row in rows]
         told = [[shown(got.iloc[row, place]) for place in range(len(names))] for row in range(len(got))]
         self.assertEqual(told, [list(map(shown, row)) for row in rows])
 

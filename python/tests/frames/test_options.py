@@ -16,7 +16,8 @@ NO_NAMES = (pd.Index(["k"]), {"k": 1}, {"k"}, FRAME["k"], FRAME[["k"]], (one for
 NO_PAIRS = (True, ("from",), ("from", "to", "k"), ["from", "from"], pd.Index(["from", "to"]), {"from": "to"})
 WRONG = {
     "on": NO_NAMES, "left_on": NO_NAMES, "right_on": NO_NAMES, "by": NO_NAMES, "period": (*NO_PAIRS, None),
-    "right_period": NO_PAIRS, "open_end": NO_FLAGS, "last_day": NO_FLAGS, "labels": NO_FLAGS,
+    **dict.fromkeys(("left_period", "right_period"), NO_PAIRS), "keep_periods": NO_FLAGS,
+    "open_end": NO_FLAGS, "last_day": NO_FLAGS, "labels": NO_FLAGS,
     "suffixes": (("_l",), "", (), "_l", ("_l", "_r", "_s"), (1, 2), None, {"_l": "_r"}),
     "workers": (0, -1, 65, 1.0, "4", True, None), "parts": (0, -1, 2.0, True),
     "decimals": (2, "k", None, [("k", 2)], {"k": 2.0}, {"k": -1}, {"k": 19}, {"k": True}),
@@ -46,7 +47,7 @@ class Types(unittest.TestCase):
                     self.refuses((name, value), lambda: ruzgalt.dip(FRAME, **words), start)
                 if name not in ("by", "mean_as"):
                     self.refuses((name, value), lambda: ruzgalt.join(FRAME, FRAME, **words), start)
-                if name not in ("by", "labels", "suffixes", "how", "mean_as"):
+                if name not in ("by", "labels", "suffixes", "how", "mean_as", "keep_periods"):
                     self.refuses((name, value), lambda: ruzgalt.anti(FRAME, FRAME, **words), start)
 
     def test_what_is_no_frame_is_refused(self):
