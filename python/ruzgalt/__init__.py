@@ -26,14 +26,15 @@ from importlib.util import find_spec
 from typing import TYPE_CHECKING, Any, List
 
 __all__ = [
-    "join", "anti", "agg", "dip", "at", "during",
+    "join", "anti", "agg", "dip", "at", "during", "coalesce", "gaps", "overlaps",
     "Store", "Script", "Division", "Changed", "Verdict", "Refused", "Stopped", "Doubt", "frames", "__version__",
 ]
 
 if TYPE_CHECKING:
     from ruzgalt import frames
     from ruzgalt.frames import (
-        Changed, Division, Doubt, Refused, Script, Stopped, Store, Verdict, agg, anti, at, dip, during, join,
+        Changed, Division, Doubt, Refused, Script, Stopped, Store, Verdict, agg, anti, at, coalesce, dip, during, gaps,
+        join, overlaps,
     )
 
     __version__: str

@@ -2,6 +2,8 @@
 
     join, anti, agg, dip    frames in, a frame out
     at, during              the rows that hold then
+    coalesce, gaps          the time in which some row of a group holds, and none
+    overlaps                the rows of a group that hold at one time
     Store                   tables with a past: changes, commits, questions
     Script                  its changes as a script, with the names of its columns
     Division                the fewest parts of rows of which no two overlap
@@ -26,7 +28,8 @@ A module stands on those above it:
     measures                what an aggregate tells: one function of rows, or several
     doubts                  what may not be meant
     pairs, groups, division join and anti; agg; dip
-    spread, clipping        the same of Dask, by value; rows for slices of time
+    united                  coalesce, gaps and overlaps
+    partitions, clipping    the same of Dask, by value; rows for slices of time
     slices                  by time
     calls                   pandas or Dask
     instants, rows          single points; at and during
@@ -45,8 +48,9 @@ from ruzgalt.frames.errors import Doubt, Refused, Stopped
 from ruzgalt.frames.rows import at, during
 from ruzgalt.frames.script import Script
 from ruzgalt.frames.store import Store
+from ruzgalt.frames.united import coalesce, gaps, overlaps
 
 __all__ = [
-    "join", "anti", "agg", "dip", "at", "during",
+    "join", "anti", "agg", "dip", "at", "during", "coalesce", "gaps", "overlaps",
     "Store", "Script", "Division", "Changed", "Verdict", "Refused", "Stopped", "Doubt",
 ]

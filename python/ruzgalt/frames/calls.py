@@ -138,8 +138,8 @@ def join(left: Any, right: Any, on: Names = None, *, left_on: Names = None, righ
     )
     if are_spread(left=left, right=right):
         intervals.refuse_spread(*options.periods)
-        from ruzgalt.frames import spread
-        return spread.paired(pairs.join_part, left, right, on, options)
+        from ruzgalt.frames import partitions
+        return partitions.paired(pairs.join_part, left, right, on, options)
     return pairs.join(left, right, on, options)
 
 
@@ -233,8 +233,8 @@ def anti(left: Any, right: Any, on: Names = None, *, left_on: Names = None, righ
     )
     if are_spread(left=left, right=right):
         intervals.refuse_spread(*options.periods)
-        from ruzgalt.frames import spread
-        return spread.paired(pairs.anti_part, left, right, on, options)
+        from ruzgalt.frames import partitions
+        return partitions.paired(pairs.anti_part, left, right, on, options)
     return pairs.anti(left, right, on, options)
 
 
@@ -332,8 +332,8 @@ def agg(frame: Any, function: Functions, column: Any = None, *, by: Names = None
     told = measures.of_call(function, column)
     if are_spread(frame=frame):
         intervals.refuse_spread(options.period)
-        from ruzgalt.frames import slices, spread
-        asked = spread.agg if options.by else slices.agg
+        from ruzgalt.frames import partitions, slices
+        asked = partitions.agg if options.by else slices.agg
         return asked(frame, told, options)
     return groups.agg(frame, told, options)
 

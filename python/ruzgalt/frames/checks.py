@@ -14,6 +14,7 @@ from ruzgalt.frames.errors import Refused
 from ruzgalt.frames.named import same
 from ruzgalt.script import naming
 
+Pair = Tuple[Any, Any]
 Suffixes = Tuple[Optional[str], Optional[str]]
 # What is shown as it was given, up to so many characters, in a list too; of all else its type.
 SHOWN, LONGEST = (str, bytes, int, float, np.generic, type(None)), 60
@@ -95,6 +96,13 @@ def period(option: str, given: Any) -> Tuple[Any, ...]:
         wanted = "two different names are wanted, of the column of starts and of that of ends, or one of intervals"
         raise wrong(option, given, wanted)
     return told
+
+
+def span(option: str, given: Any) -> Pair:
+    """A start and an end, whatever points they are."""
+    if not isinstance(given, (list, tuple)) or len(given) != 2:
+        raise wrong(option, given, "a start and an end are wanted, as ('2024-01-01', '2025-01-01')")
+    return given[0], given[1]
 
 
 def suffixes(option: str, given: Any) -> Suffixes:

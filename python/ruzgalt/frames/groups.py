@@ -21,11 +21,16 @@ from ruzgalt.frames.values import Values, no_value
 def agg(frame: Any, asked: Measures, options: Options) -> Any:
     frame = with_levels(frame, options.by or ())
     side = side_of(frame, asked, options)
-    doubts.of_decimals(options.decimals, frame)
+    tell(frame, side, options)
+    return counted(frame, side, asked, options)
+
+
+def tell(frame: Any, side: Side, options: Options) -> None:
+    """Warns of what may not be meant."""
     by = side.columns[:len(options.by or ())]
+    doubts.of_decimals(options.decimals, frame)
     doubts.of_groups(by)
     doubts.of_ends(side, by, options.period[-1], options.form.has_last_days)
-    return counted(frame, side, asked, options)
 
 
 def agg_part(frame: Any, asked: Measures, options: Options) -> Any:

@@ -42,16 +42,20 @@ class Measure:
     @property
     def amount(self) -> Tuple[Any, ...]:
         """The column whose numbers come together, where it has one."""
-        return (self.column,) if self.function != "count" else ()
+        return (self.column,) if self.function not in ("count", "held") else ()
 
     @property
     def asks(self) -> Sequence[Ask]:
         """What the program is asked for it."""
+        if self == HELD:
+            return [("max",)]
         functions = ("sum", "count") if self.function == "mean" else (self.function,)
         return [(one, *(self.amount if one != "count" else ())) for one in functions]
 
 
 Measures = Sequence[Measure]
+# That some row holds, whichever: the greatest of a column that has 1 in each row. No column of an answer tells it.
+HELD = Measure("held", None, False)
 
 
 def of_call(function: Any, column: Any) -> List[Measure]:
@@ -104,7 +108,7 @@ def asks_of(measures: Measures) -> List[Ask]:
 def measured(side: Side, columns: Mapping[Any, Values], measures: Measures, workers: int) -> Found:
     """Start, end, group and values of the measures, by group and start; the side has the groups' numbers alone."""
     def answer(asked: Ask) -> Found:
-        amounts = [columns[name] for name in asked[1:]]
+        amounts = [columns[name] for name in asked[1:]] or ([ones(len(side))] if asked[0] != "count" else [])
         return split.agg(replace(side, columns=[*side.columns, *amounts]), asked[0], workers)
 
     return measured_by(answer, measures)
@@ -117,6 +121,10 @@ def measured_by(answer: Callable[[Ask], Found], measures: Measures) -> Found:
     there = dict(zip(found, told))
     values = [value_of(*(there[asked] for asked in one.asks)) for one in measures]
     return (start, end, group, *values) if len(found) == 1 else closed_up((start, end, group, *values))
+
+
+def ones(count: int) -> Values:
+    return Values(None, "int", np.ones(count, np.int64))
 
 
 def value_of(value: Cells, *count: Cells) -> Cells:
@@ -166,7 +174,8 @@ def closed_up(found: Found) -> Found:
 def columns_of(values: Sequence[Cells], measures: Measures, columns: Mapping[Any, Values],
                mean_as: str) -> List[Column]:
     """The values as columns of an answer."""
-    return [(one.name, restored(value, one, columns, mean_as)) for one, value in zip(measures, values)]
+    told = [(one, value) for one, value in zip(measures, values) if one != HELD]
+    return [(one.name, restored(value, one, columns, mean_as)) for one, value in told]
 
 
 def restored(value: Cells, measure: Measure, columns: Mapping[Any, Values], mean_as: str) -> Any:

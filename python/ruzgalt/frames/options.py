@@ -6,7 +6,7 @@ from types import MappingProxyType
 from typing import Any, Callable, Dict, List, Mapping, Optional, Sequence, Tuple, Union
 
 from ruzgalt.frames import checks, intervals, kinds
-from ruzgalt.frames.checks import Suffixes
+from ruzgalt.frames.checks import Pair, Suffixes
 from ruzgalt.frames.errors import Refused
 from ruzgalt.frames.kinds import Kind
 from ruzgalt.frames.points import Form
@@ -53,6 +53,7 @@ class Options:
     last_day: OneSided = False
     decimals: Mapping[Any, int] = field(default_factory=dict)
     missing: Mapping[Any, Any] = field(default_factory=dict)
+    within: Optional[Pair] = None
     suffixes: Suffixes = SUFFIXES
     how: str = INNER
     mean_as: str = FLOAT
@@ -123,10 +124,10 @@ CHECKS: Dict[str, Callable[[str, Any], Any]] = {
     **dict.fromkeys(("period", "left_period", "right_period"), checks.period),
     **dict.fromkeys(("open_end", "last_day", "labels", "keep_periods"), checks.flag),
     "decimals": checks.digits, "missing": checks.stand_ins, "suffixes": checks.suffixes, "points_as": kind_named,
-    "workers": workers_of, "parts": parts_of, "how": how_named, "mean_as": mean_named,
+    "workers": workers_of, "parts": parts_of, "within": checks.span, "how": how_named, "mean_as": mean_named,
 }
 # Those that may be None, as where they aren't given.
-OPTIONAL = ("left_on", "right_on", "by", "left_period", "right_period", "points_as", "parts")
+OPTIONAL = ("left_on", "right_on", "by", "within", "left_period", "right_period", "points_as", "parts")
 
 
 def options_of(**given: Any) -> Options:

@@ -6,7 +6,7 @@ so no value of theirs passes through a text.
 from __future__ import annotations
 
 from dataclasses import dataclass
-from typing import Any, List, Sequence
+from typing import Any, List, Sequence, Tuple
 
 import numpy as np
 
@@ -51,7 +51,12 @@ def keyed(frames: Sequence[Any], on: Names, options: Options) -> List[Any]:
 
 def joined(frames: Sequence[Any], both: Sequence[Side], on: Names, options: Options, is_part: bool = False) -> Any:
     """is_part: all parts of an answer are to have the same dtypes, whether a row of theirs is unmatched or not."""
-    start, end, *places = matched(both, options)
+    return framed(frames, matched(both, options), both, on, options, is_part)
+
+
+def framed(frames: Sequence[Any], found: Found, both: Sequence[Side], on: Names, options: Options,
+           is_part: bool = False) -> Any:
+    start, end, *places = found
     may_miss = [is_part and options.how in (one, "outer") for one in ("right", "left")]
     taken = list(map(Taken, frames, places, may_miss))
     own = period_of(start, end, both, options, options.joined_form)
@@ -93,6 +98,33 @@ def unmatched(both: Sequence[Side], options: Options) -> Found:
     """The rows of the anti-join, beside the place of none."""
     start, end, places = split.anti(both, options.workers)
     return start, end, places, np.full(len(places), -1, np.int64)
+
+
+def overlaps(frame: Any, options: Options) -> Any:
+    """The join of a frame with itself in the columns of `by`, of which the left row stands before the right one."""
+    frame, side = by_groups(frame, options)
+    doubts.of_decimals(options.decimals, frame)
+    doubts.of_groups(side.columns)
+    doubts.of_ends(side, side.columns, options.period[1], options.form.has_last_days)
+    return overlapping(frame, side, options)
+
+
+def overlaps_part(frame: Any, options: Options) -> Any:
+    """Of a partition, as join_part."""
+    return overlapping(*by_groups(frame, options), options)
+
+
+def by_groups(frame: Any, options: Options) -> Tuple[Any, Side]:
+    refuse_twice(frame)
+    frame = with_levels(frame, options.by or ())
+    return frame, sides.side_of(frame, options.by or (), options.period, options.form, options.decimals)
+
+
+def overlapping(frame: Any, side: Side, options: Options) -> Any:
+    found = split.join([side, side], options.workers)
+    is_first = found[2] < found[3]
+    found = tuple(column[is_first] for column in found)
+    return framed([frame, frame], found, [side, side], list(options.by or ()), options)
 
 
 def anti(left: Any, right: Any, on: Names, options: Options) -> Any:

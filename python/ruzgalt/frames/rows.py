@@ -125,8 +125,8 @@ def side_of(frame: Any, options: Options) -> sides.Side:
 def held(frame: Any, is_spread: bool, span: Span, options: Options) -> Any:
     """The rows that share a second with the span."""
     if is_spread:
-        from ruzgalt.frames import spread
-        return spread.parted(frame, held_part, span, options)
+        from ruzgalt.frames import partitions
+        return partitions.parted(frame, held_part, span, options)
     doubts.of_ends(side_of(frame, options), [], options.period[-1], options.form.has_last_days)
     return held_part(frame, span, options)
 

@@ -17,8 +17,8 @@ from ruzgalt.frames.ask import Found
 from ruzgalt.frames.kinds import Kind
 from ruzgalt.frames.measures import Ask, Measures, asks_of, columns_of, measured_by
 from ruzgalt.frames.options import Options
+from ruzgalt.frames.partitions import PART, by_part, keeping_objects
 from ruzgalt.frames.sides import Side
-from ruzgalt.frames.spread import PART, by_part, keeping_objects
 from ruzgalt.frames.values import Values
 from ruzgalt.frames.worker import sent
 

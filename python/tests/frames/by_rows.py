@@ -76,10 +76,15 @@ def join(frames, told):
     if told.how in ("right", "outer"):
         found += [(start, end, NONE, row) for row, start, end in unmet(right, left)]
     found.sort(key=lambda row: [LAST if one == NONE else one for one in row])
+    return beside(frames, found, told)
+
+
+def beside(frames, found, told):
+    """Columns of start, end and places of rows."""
     places = [[row[2 + side] for row in found] for side in (0, 1)]
     columns = [(name, None, [row[side] for row in found]) for side, name in enumerate(told.periods[0])]
     if told.labels:
-        numbers = [list(range(len(own))) for own in (left, right)]
+        numbers = [list(range(len(frame[0][1]))) for frame in frames]
         columns += zip(("left_label", "right_label"), (None, None), map(taken, numbers, places))
     for side, frame in enumerate(frames if told.keeps_periods else ()):
         for is_end, name in enumerate(told.periods[side]):
@@ -159,6 +164,41 @@ def agg(frame, measures, told):
     names = [function if column is None else f"{function}_{column[0]}" for function, column in measures]
     names = [*told.on[0], *told.periods[0], *names]
     return (names, rows) if all(times(names, name) == 1 for name in names) else None
+
+
+def by_groups(frame, told, days_of):
+    """Runs of days of each group, of what days_of makes of its periods."""
+    groups, rows = keys(frame, told.on[0]), []
+    for group in sorted(set(groups), key=order):
+        held = [period for period, own in zip(periods(frame, told.periods[0]), groups) if own == group]
+        rows += [[*group, start, end] for start, end, _ in runs([is_held or None for is_held in days_of(held)])]
+    names = [*told.on[0], *told.periods[0]]
+    return (names, rows) if all(times(names, name) == 1 for name in names) else None
+
+
+def is_held(periods, day):
+    return any(start <= day < end for start, end in periods)
+
+
+def coalesce(frame, told):
+    return by_groups(frame, told, lambda held: [is_held(held, day) for day in range(OPEN)])
+
+
+def gaps(frame, told, within):
+    def free(held):
+        first, behind = within or (min(start for start, _ in held), max(end for _, end in held))
+        return [first <= day < behind and not is_held(held, day) for day in range(OPEN)]
+    return by_groups(frame, told, free)
+
+
+def overlaps(frame, told):
+    rows = list(zip(periods(frame, told.periods[0]), keys(frame, told.on[0])))
+    found = sorted(
+        (max(one[0], two[0]), min(one[1], two[1]), row, other)
+        for other, (two, other_key) in enumerate(rows) for row, (one, key) in enumerate(rows[:other])
+        if key == other_key and max(one[0], two[0]) < min(one[1], two[1])
+    )
+    return beside([frame, frame], found, told)
 
 
 def most(frame, period):

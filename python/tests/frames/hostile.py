@@ -47,8 +47,11 @@ OF_PAIRS = ["right_period", "left_period", "on", "left_on", "parts", "decimals",
 OF_CALL = {
     "join": [*OF_PAIRS, "labels", "suffixes", "how", "keep_periods"],
     "anti": OF_PAIRS, "agg": ["by", "parts", "decimals", "points_as"],
-    "dip": [],
+    "dip": [], **dict.fromkeys(("coalesce", "gaps"), ["by", "parts", "decimals", "points_as"]),
+    "overlaps": ["by", "parts", "decimals", "points_as", "labels", "suffixes", "keep_periods"],
 }
+# Calls of two frames; the others are of the first one.
+OF_TWO = ("join", "anti")
 NO_FUNCTIONS = [
     ("summ", "id"), (None, None), (["sum"], "id"), ("Count", None), ("sum", None), ("count", "id"), ("sum", ["id"]),
     ({},), ({"id": "sum"}, "id"), ({"id": ["sum", "sum"]},), ({"id": []},), ({"id": {"sum"}},), ({None: "count"},),
@@ -173,7 +176,7 @@ def columns_of(draw, period, keys, is_open):
 def cases(draw, call):
     is_shared, kind = draw(st.booleans()), draw(st.sampled_from(sorted(DAYS)))
     are_open, has_last_days = ([draw(st.booleans())] * 2 for _ in range(2))
-    if call in ("join", "anti"):
+    if call in OF_TWO:
         are_open, has_last_days = draw(BOTH), draw(BOTH)
     cells = draw(st.lists(st.sampled_from(KEYS), max_size=2))
     periods = [draw(st.just(["from", "to"]) | some_names(2))] * 2
@@ -191,7 +194,7 @@ def cases(draw, call):
     of_answer = draw(st.booleans()), draw(SUFFIXES), draw(HOWS), draw(st.booleans())
     case = Case(kind, has_last_days, periods, on, is_shared, *of_answer, columns)
     case.frames = [case.frame(0), case.frame(1)]
-    given = [by_rows.periods(*told) for told in zip(columns, periods)][:2 if call in ("join", "anti") else 1]
+    given = [by_rows.periods(*told) for told in zip(columns, periods)][:2 if call in OF_TWO else 1]
     case.is_right = all(start < end for frame in given for start, end in frame)
     case.options = draw(options(call, case, are_open))
     if call == "agg":
@@ -215,14 +218,15 @@ def options(draw, call, case, are_open):
     flag, several = draw(st.sampled_from([bool, np.bool_])), draw(st.sampled_from([list, tuple]))
     told = {"open_end": one_sided(flag, are_open), "last_day": one_sided(flag, case.has_last_days)}
     own, other = ("period", "right_period") if draw(st.booleans()) else ("left_period", "period")
-    told[own if call in ("join", "anti") else "period"] = several(case.periods[0])
-    if call in ("join", "anti"):
+    told[own if call in OF_TWO else "period"] = several(case.periods[0])
+    if call in OF_TWO:
         told[other] = several(case.periods[1])
         told.update(compared(draw, case, several))
+    if call in ("join", "overlaps"):
+        told.update(labels=flag(case.labels), suffixes=several(case.suffixes), keep_periods=flag(case.keeps_periods))
     if call == "join":
-        told.update(labels=flag(case.labels), suffixes=several(case.suffixes), how=case.how)
-        told["keep_periods"] = flag(case.keeps_periods)
-    if call == "agg":
+        told["how"] = case.how
+    if "by" in OF_CALL[call]:
         told["by"] = one_or_all(draw, case.on[0], several)
     if draw(st.booleans()):
         told["workers"] = draw(st.sampled_from([1, np.int64(2)]))
@@ -270,5 +274,5 @@ def make_wrong(draw, call, case):
         name = draw(st.sampled_from([*OF_ALL, *OF_CALL[call]]))
         case.options[name] = draw(st.sampled_from(WRONG[name]))
     else:
-        place = draw(st.integers(0, 0 if call in ("agg", "dip") else 1))
+        place = draw(st.integers(0, 1 if call in OF_TWO else 0))
         case.frames[place] = draw(st.sampled_from(NO_FRAMES))

@@ -3,6 +3,7 @@
 Each either answers exactly the table that by_rows.py computes, or raises Refused or TypeError. hypothesis draws the
 frames, and makes small what fails; FRAMES_HOSTILE is how many for each test.
 """
+import dataclasses
 import importlib.util
 import os
 import unittest
@@ -12,7 +13,7 @@ import ruzgalt
 
 if not importlib.util.find_spec("hypothesis"):
     raise unittest.SkipTest("hypothesis isn't here: apt-get install python3-hypothesis")
-from hypothesis import HealthCheck, given, settings  # noqa: E402
+from hypothesis import HealthCheck, given, settings, strategies as st  # noqa: E402
 
 from hostile import MEANS, cases  # noqa: E402
 
@@ -79,6 +80,26 @@ class Hostile(unittest.TestCase):
 
         asked = lambda: ruzgalt.agg(case.frames[0], *case.asked, **case.options)  # noqa: E731
         self.is_as_by_rows(case, asked, wanted)
+
+    @MANY
+    @given(cases("coalesce"))
+    def test_united_periods(self, case):
+        asked = lambda: ruzgalt.coalesce(case.frames[0], **case.options)  # noqa: E731
+        self.is_as_by_rows(case, asked, lambda: by_rows.coalesce(case.columns[0], case))
+
+    @MANY
+    @given(cases("gaps"), st.none() | st.tuples(st.integers(0, 12), st.integers(13, 20)))
+    def test_gaps(self, case, within):
+        span = within and (case.point(within[0]), case.end(within[1]))
+        asked = lambda: ruzgalt.gaps(case.frames[0], within=span, **case.options)  # noqa: E731
+        self.is_as_by_rows(case, asked, lambda: by_rows.gaps(case.columns[0], case, within))
+
+    @MANY
+    @given(cases("overlaps"))
+    def test_overlaps(self, case):
+        case = dataclasses.replace(case, is_shared=True, periods=case.periods[:1] * 2, on=case.on[:1] * 2)
+        asked = lambda: ruzgalt.overlaps(case.frames[0], **case.options)  # noqa: E731
+        self.is_as_by_rows(case, asked, lambda: by_rows.overlaps(case.columns[0], case))
 
     @MANY
     @given(cases("dip"))

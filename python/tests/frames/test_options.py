@@ -22,10 +22,12 @@ WRONG = {
     "workers": (0, -1, 65, 1.0, "4", True, None), "parts": (0, -1, 2.0, True),
     "decimals": (2, "k", None, [("k", 2)], {"k": 2.0}, {"k": -1}, {"k": 19}, {"k": True}),
     "points_as": ("W", "", 5, ["S"]), "how": ("", "Left", "cross", True, None, ["left"]),
-    "mean_as": ("", "Float", float, None),
+    "mean_as": ("", "Float", float, None), "within": ("2024", 5, ("2024-01-01",), {"2024-01-01": "2025-01-01"}),
 }
 OF_AGG = ("by", "mean_as", "period", "open_end", "last_day", "workers", "parts", "decimals", "points_as")
 OF_DIP = ("period", "open_end", "last_day", "workers")
+# Of a frame's groups.
+CALLS = (ruzgalt.coalesce, ruzgalt.gaps, ruzgalt.overlaps)
 NO_FRAMES = (FRAME["k"], [1], {"from": [1]}, "pay.csv", Path("pay.csv"), None, FRAME.to_numpy())
 
 
@@ -43,11 +45,14 @@ class Types(unittest.TestCase):
                 words, start = {name: value}, f"{name}["[:-1]
                 if name in OF_AGG:
                     self.refuses((name, value), lambda: ruzgalt.agg(FRAME, "count", **words), start)
+                for call in CALLS:
+                    if name in inspect.signature(call).parameters:
+                        self.refuses((call, name, value), lambda: call(FRAME, **words), start)
                 if name in OF_DIP:
                     self.refuses((name, value), lambda: ruzgalt.dip(FRAME, **words), start)
-                if name not in ("by", "mean_as"):
+                if name not in ("by", "mean_as", "within"):
                     self.refuses((name, value), lambda: ruzgalt.join(FRAME, FRAME, **words), start)
-                if name not in ("by", "labels", "suffixes", "how", "mean_as", "keep_periods"):
+                if name not in ("by", "labels", "suffixes", "how", "mean_as", "keep_periods", "within"):
                     self.refuses((name, value), lambda: ruzgalt.anti(FRAME, FRAME, **words), start)
 
     def test_what_is_no_frame_is_refused(self):
@@ -81,7 +86,7 @@ class Types(unittest.TestCase):
 
 class Signatures(unittest.TestCase):
     def test_each_option_is_a_keyword_that_is_looked_at(self):
-        for call in (ruzgalt.join, ruzgalt.anti, ruzgalt.agg, ruzgalt.dip):
+        for call in (*CALLS, ruzgalt.join, ruzgalt.anti, ruzgalt.agg, ruzgalt.dip):
             with self.subTest(call):
                 kinds = {name: one.kind for name, one in inspect.signature(call).parameters.items()}
                 self.assertNotIn(inspect.Parameter.VAR_KEYWORD, kinds.values())

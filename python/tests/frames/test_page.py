@@ -94,6 +94,13 @@ class Page(unittest.TestCase):
             "`at(frame, POINT)`, `during(frame, START, END)`": lambda: (
                 ruzgalt.at(left, "2024-01-01").index.tolist(), len(ruzgalt.during(left, "2024-01-01", None)),
             ) == ([0], 2),
+            "`coalesce(frame, by=..)`": lambda: [len(ruzgalt.coalesce(left, by)) for by in (None, "k")] == [1, 2],
+            "`gaps(frame, by=.., within=..)`": lambda: [
+                len(ruzgalt.gaps(left, "k", within=within)) for within in (None, (FIRST, "2025-01-01"))
+            ] == [0, 3],
+            "`overlaps(frame, by=..)`": lambda: [
+                len(ruzgalt.overlaps(pd.concat([left, left]), by)) for by in (None, "k")
+            ] == [2, 2],
             "`dip(frame)`": lambda: (lambda parts: (
                 parts.tolist(), parts.count, str(parts.instant),
             ))(ruzgalt.dip(left)) == ([0, 0], 1, "2024-01-01 00:00:00"),

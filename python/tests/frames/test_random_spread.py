@@ -96,6 +96,9 @@ class Case:
         yield "agg", ruzgalt.agg(self.left, several, **words), ruzgalt.agg(left, several, **words, **parts)
         whole = ruzgalt.agg(self.left, function, *amount, **words)
         yield "agg", whole, ruzgalt.agg(left, function, *amount, **words, **parts)
+        yield "agg by", ruzgalt.coalesce(self.left, **by), ruzgalt.coalesce(left, **by, **parts)
+        yield "agg", ruzgalt.coalesce(self.left, **words), ruzgalt.coalesce(left, **words, **parts)
+        yield "agg by", ruzgalt.gaps(self.left, **by), ruzgalt.gaps(left, **by, **parts)
         if len(self.left):
             point = self.random.choice(self.left["from"].tolist())
             yield "at", ruzgalt.at(self.left, point, **words), ruzgalt.at(left, point, **words)
@@ -199,6 +202,7 @@ class Spread(unittest.TestCase):
     def test_what_cannot_be_split_is_refused(self):
         frame = dd.from_pandas(day_of(column(NUMBERS, "int64")), npartitions=3)
         asks = [lambda: ruzgalt.dip(frame), lambda: ruzgalt.join(frame, frame), lambda: ruzgalt.anti(frame, frame)]
+        asks += [lambda: ruzgalt.gaps(frame), lambda: ruzgalt.overlaps(frame)]
         for asked in asks:
             with self.assertRaises(ruzgalt.Refused) as caught:
                 asked()
@@ -216,6 +220,14 @@ class Spread(unittest.TestCase):
             with self.assertRaises(ruzgalt.Refused) as caught:
                 asked().compute(scheduler="sync")
             self.assertEqual((caught.exception.name, caught.exception.label), ("BadPeriod", 70))
+
+    def test_overlaps_are_those_of_the_whole(self):
+        """Which of two rows stands first is told by their places in a partition."""
+        cells = pd.concat([day_of(column(NUMBERS, "int64")).assign(x=number) for number in range(3)], ignore_index=True)
+        got = ruzgalt.overlaps(dd.from_pandas(cells, npartitions=4), "k").compute(scheduler="sync")
+        self.assertEqual(list(got.columns), ["from", "to", "k", "x_left", "x_right"])
+        pairs = {(k, *sorted(pair)) for k, *pair in got[["k", "x_left", "x_right"]].itertuples(index=False)}
+        self.assertEqual((len(got), pairs), (300, {(k, *two) for k in NUMBERS for two in ((0, 1), (0, 2), (1, 2))}))
 
     def test_labels_are_those_that_dask_gives_the_frame(self):
         moments = pd.date_range("2024-01-01", periods=100, tz="Asia/Tokyo", name="when")

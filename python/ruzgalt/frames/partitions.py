@@ -96,6 +96,17 @@ def parted(frame: Any, asked: Callable[..., Any], *given: Any) -> Any:
         return frame.map_partitions(sent(asked, *given), meta=frame._meta)
 
 
+def grouped(asked: Callable[..., Any], frame: Any, told: Sequence[Any], options: Options) -> Any:
+    """What is asked of each group's rows: of a frame of pandas, what else there is, and options."""
+    if not options.by:
+        raise Refused("BadCommand", "of a frame of Dask without groups all rows belong together: by= parts them")
+    doubts.of_decimals(options.decimals, frame)
+    meta = asked(frame._meta, *told, options)
+    with keeping_objects(meta, frame._meta):
+        rows = by_value(frame, options.by, options.decimals, options.parts or frame.npartitions)
+        return rows.map_partitions(sent(asked, *told, options), meta=meta, transform_divisions=False)
+
+
 def by_value(frame: Any, names: Sequence[Any], decimals: Mapping[Any, int], parts: int) -> Any:
     """The rows, those of equal values in one partition."""
     refuse_names(frame)

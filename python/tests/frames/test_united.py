@@ -1,0 +1,71 @@
+"""coalesce, gaps and overlaps of other shapes than the random ones: no rows, months, zones, rows past the limits."""
+import unittest
+from unittest import mock
+
+import pandas as pd
+
+import ruzgalt
+from ruzgalt.frames import split
+
+DAY = pd.to_datetime
+
+
+def frame(*rows):
+    starts, ends, *others = zip(*rows)
+    return pd.DataFrame({"from": DAY(list(starts)), "to": DAY(list(ends)), **dict(zip("kx", map(list, others)))})
+
+
+class United(unittest.TestCase):
+    def test_no_rows(self):
+        none = frame(("2024-01-01", "2024-01-02", "a")).iloc[:0]
+        for by in (None, "k"):
+            for call in (ruzgalt.coalesce, ruzgalt.gaps, ruzgalt.overlaps):
+                self.assertEqual(len(call(none, by)), 0, call)
+            self.assertEqual(len(ruzgalt.gaps(none, by, within=("2024-01-01", "2024-02-01"))), 0)
+
+    def test_months_stay_months(self):
+        months = pd.PeriodIndex(["2024-01", "2024-02", "2024-05"], freq="M")
+        told = pd.DataFrame({"from": months, "to": months})
+        self.assertEqual(ruzgalt.coalesce(told).astype(str).values.tolist(), [["2024-01", "2024-02"], ["2024-05"] * 2])
+        self.assertEqual(ruzgalt.gaps(told).astype(str).values.tolist(), [["2024-03", "2024-04"]])
+        within = {"within": ("2024-03-05", "2024-03-07")}
+        with self.assertRaises(ruzgalt.Refused) as caught:
+            ruzgalt.gaps(told, **within)
+        self.assertEqual(caught.exception.name, "WrongKind")
+        got = ruzgalt.gaps(told, points_as="D", **within)
+        self.assertEqual(got.astype(str).values.tolist(), [["2024-03-05", "2024-03-07"]])
+
+    def test_a_time_that_is_looked_at_has_no_end(self):
+        told = frame(("2024-01-01", "2024-02-01"), ("2024-03-01", None))
+        words = {"open_end": True, "within": ("2023-01-01", None)}
+        got = ruzgalt.gaps(told, **words)
+        self.assertEqual(got["to"].tolist(), list(DAY(["2024-01-01", "2024-03-01"])))
+        self.assertTrue(ruzgalt.gaps(told.iloc[:1], **words)["to"].isna().tolist()[1])
+
+    def test_periods_with_last_days(self):
+        told = frame(("2024-01-01", "2024-01-31"), ("2024-02-01", "2024-02-10"), ("2024-02-12", "2024-02-12"))
+        self.assertEqual(ruzgalt.coalesce(told, last_day=True)["to"].tolist(), list(DAY(["2024-02-10", "2024-02-12"])))
+        got = ruzgalt.gaps(told, last_day=True, within=("2024-01-01", "2024-02-29"))
+        self.assertEqual(got["from"].tolist(), list(DAY(["2024-02-11", "2024-02-13"])))
+        self.assertEqual(got["to"].tolist(), list(DAY(["2024-02-11", "2024-02-29"])))
+
+    def test_rows_past_the_limits(self):
+        days = pd.date_range("2024-01-01", periods=12)
+        told = pd.DataFrame({"from": days, "to": days + pd.Timedelta(days=2), "k": [1, 2] * 6})
+        asks = [
+            lambda: ruzgalt.coalesce(told), lambda: ruzgalt.coalesce(told, "k"), lambda: ruzgalt.overlaps(told),
+            lambda: ruzgalt.gaps(told, "k", within=("2023-12-01", "2024-02-01")),
+        ]
+        for asked in asks:
+            whole = asked()
+            with mock.patch.object(split, "ROWS", 4):
+                pd.testing.assert_frame_equal(asked(), whole)
+
+    def test_a_level_may_be_the_group(self):
+        told = frame(("2024-01-01", "2024-01-03", "a", 1), ("2024-01-02", "2024-01-05", "a", 2)).set_index("k")
+        self.assertEqual(ruzgalt.coalesce(told, "k").shape, (1, 3))
+        self.assertEqual(list(ruzgalt.overlaps(told, "k")), ["from", "to", "k", "x_left", "x_right"])
+
+
+if __name__ == "__main__":
+    unittest.main()
