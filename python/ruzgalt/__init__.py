@@ -26,7 +26,7 @@ from importlib.util import find_spec
 from typing import TYPE_CHECKING, Any, List
 
 __all__ = [
-    "join", "anti", "agg", "dip", "at", "during", "coalesce", "gaps", "overlaps",
+    "join", "anti", "agg", "dip", "at", "during", "coalesce", "gaps", "overlaps", "spread",
     "Store", "Script", "Division", "Changed", "Verdict", "Refused", "Stopped", "Doubt", "frames", "__version__",
 ]
 
@@ -34,7 +34,7 @@ if TYPE_CHECKING:
     from ruzgalt import frames
     from ruzgalt.frames import (
         Changed, Division, Doubt, Refused, Script, Stopped, Store, Verdict, agg, anti, at, coalesce, dip, during, gaps,
-        join, overlaps,
+        join, overlaps, spread,
     )
 
     __version__: str

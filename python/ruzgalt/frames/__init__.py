@@ -4,6 +4,7 @@
     at, during              the rows that hold then
     coalesce, gaps          the time in which some row of a group holds, and none
     overlaps                the rows of a group that hold at one time
+    spread                  what a group comes to by months
     Store                   tables with a past: changes, commits, questions
     Script                  its changes as a script, with the names of its columns
     Division                the fewest parts of rows of which no two overlap
@@ -28,7 +29,7 @@ A module stands on those above it:
     measures                what an aggregate tells: one function of rows, or several
     doubts                  what may not be meant
     pairs, groups, division join and anti; agg; dip
-    united                  coalesce, gaps and overlaps
+    united, amounts         coalesce, gaps and overlaps; spread
     partitions, clipping    the same of Dask, by value; rows for slices of time
     slices                  by time
     calls                   pandas or Dask
@@ -40,6 +41,7 @@ A module stands on those above it:
     opening, batches        a script as a store; changes that are tried together
     store                   the store
 """
+from ruzgalt.frames.amounts import spread
 from ruzgalt.frames.calls import agg, anti, dip, join
 from ruzgalt.frames.changes import Changed
 from ruzgalt.frames.division import Division
@@ -51,6 +53,6 @@ from ruzgalt.frames.store import Store
 from ruzgalt.frames.united import coalesce, gaps, overlaps
 
 __all__ = [
-    "join", "anti", "agg", "dip", "at", "during", "coalesce", "gaps", "overlaps",
+    "join", "anti", "agg", "dip", "at", "during", "coalesce", "gaps", "overlaps", "spread",
     "Store", "Script", "Division", "Changed", "Verdict", "Refused", "Stopped", "Doubt",
 ]

@@ -30,6 +30,9 @@ WORKERS = 4
 # Whose rows a join has: those of pairs, and the left ones, the right ones or all that are in none.
 HOWS = ("inner", "left", "right", "outer")
 INNER = HOWS[0]
+# Pieces of the calendar.
+PIECES = {"M": "month", "Q": "quarter", "Y": "year", "W": "week"}
+MONTH = "M"
 # As what a mean comes.
 MEANS = ("float", "Fraction", "Decimal")
 FLOAT = MEANS[0]
@@ -54,6 +57,8 @@ class Options:
     decimals: Mapping[Any, int] = field(default_factory=dict)
     missing: Mapping[Any, Any] = field(default_factory=dict)
     within: Optional[Pair] = None
+    each: str = MONTH
+    exact: bool = False
     suffixes: Suffixes = SUFFIXES
     how: str = INNER
     mean_as: str = FLOAT
@@ -110,6 +115,10 @@ def how_named(option: str, given: Any) -> str:
     return checks.one_of(option, given, HOWS)
 
 
+def piece_named(option: str, given: Any) -> str:
+    return checks.one_of(option, given, tuple(PIECES))
+
+
 def mean_named(option: str, given: Any) -> str:
     return checks.one_of(option, given, MEANS)
 
@@ -122,9 +131,10 @@ def kind_named(option: str, given: Any) -> str:
 CHECKS: Dict[str, Callable[[str, Any], Any]] = {
     **dict.fromkeys(("left_on", "right_on", "by"), checks.names),
     **dict.fromkeys(("period", "left_period", "right_period"), checks.period),
-    **dict.fromkeys(("open_end", "last_day", "labels", "keep_periods"), checks.flag),
+    **dict.fromkeys(("open_end", "last_day", "labels", "keep_periods", "exact"), checks.flag),
     "decimals": checks.digits, "missing": checks.stand_ins, "suffixes": checks.suffixes, "points_as": kind_named,
-    "workers": workers_of, "parts": parts_of, "within": checks.span, "how": how_named, "mean_as": mean_named,
+    "within": checks.span, "workers": workers_of, "parts": parts_of, "how": how_named, "mean_as": mean_named,
+    "each": piece_named,
 }
 # Those that may be None, as where they aren't given.
 OPTIONAL = ("left_on", "right_on", "by", "within", "left_period", "right_period", "points_as", "parts")

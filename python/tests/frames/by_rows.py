@@ -191,6 +191,35 @@ def gaps(frame, told, within):
     return by_groups(frame, told, free)
 
 
+def spread(frame, amounts, told, pieces_of, within):
+    """pieces_of: the first day of the piece that has a day, and the one behind it. Amounts are whole numbers."""
+    groups, rows = keys(frame, told.on[0]), []
+    held = [(max(start, within[0]), min(end, within[1])) if within else (start, end)
+            for start, end in periods(frame, told.periods[0])]
+    if any(start < end == OPEN for start, end in held):
+        return None
+    for group in sorted(set(groups), key=order):
+        sums = {}
+        for (start, end), own, amount in zip(held, groups, amounts):
+            for day in range(start, end) if own == group else ():
+                first, behind = pieces_of(day)
+                sums[first, behind] = sums.get((first, behind), 0) + Fraction(amount, behind - first)
+        found = sorted(sums)
+        rows += [[*group, *piece, told.sum_of(sums[piece], whole)] for piece, whole in zip(found, wholes(sums, found))]
+    return [*told.on[0], *told.periods[0], told.asked[0]], rows
+
+
+def wholes(sums, found):
+    """Whole numbers that add up to the sum, rounded: one after another is raised, that which lacks most."""
+    told = [sums[piece] // 1 for piece in found]
+    total = sum(sums.values())
+    sign = -1 if total < 0 else 1
+    for _ in range(sign * int(abs(total) + Fraction(1, 2)) - sum(told)):
+        place = max(range(len(found)), key=lambda one: (sums[found[one]] - told[one], -one))
+        told[place] += 1
+    return told
+
+
 def overlaps(frame, told):
     rows = list(zip(periods(frame, told.periods[0]), keys(frame, told.on[0])))
     found = sorted(

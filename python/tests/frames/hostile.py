@@ -40,7 +40,8 @@ WRONG = {
     "workers": [0, -1, 65, True, 1.0, "4", None, [4]], "parts": [0, -1, 2.0, "2", True],
     "decimals": [2, "id", None, [("id", 2)], {"id": 2.0}, {"id": True}, {"id": -1}, {"id": 19}, {"id": None}],
     "points_as": ["W", "", 1, ["S"], True], "onn": ["id"], "how": ["", "Left", "cross", True, None, ["left"], 1],
-    "mean_as": ["", "Float", float, None, True],
+    "mean_as": ["", "Float", float, None, True], "each": ["", "month", "m", "MQ", None, ["M"]], "exact": NO_FLAGS,
+    "within": ["2024", 5, (FIRST,), {FIRST: FIRST}, (None, None), (FIRST, FIRST)],
 }
 OF_ALL = ["period", "open_end", "last_day", "workers", "onn"]
 OF_PAIRS = ["right_period", "left_period", "on", "left_on", "parts", "decimals", "points_as"]
@@ -48,6 +49,7 @@ OF_CALL = {
     "join": [*OF_PAIRS, "labels", "suffixes", "how", "keep_periods"],
     "anti": OF_PAIRS, "agg": ["by", "parts", "decimals", "points_as"],
     "dip": [], **dict.fromkeys(("coalesce", "gaps"), ["by", "parts", "decimals", "points_as"]),
+    "spread": ["by", "parts", "decimals", "points_as", "each", "exact", "within"],
     "overlaps": ["by", "parts", "decimals", "points_as", "labels", "suffixes", "keep_periods"],
 }
 # Calls of two frames; the others are of the first one.
@@ -107,6 +109,25 @@ class Case:
 
     def end(self, day, side=0):
         return self.point(day - (self.has_last_days[side] and day != by_rows.OPEN))
+
+    def pieces_of(self, day):
+        """The first day of the piece of the calendar that has a day, and the one behind it, by their numbers."""
+        told = self.point(day)
+        told, each = datetime.date(told.year, told.month, told.day), self.options["each"]
+        first = told - datetime.timedelta(days=told.weekday() if each == "W" else told.day - 1)
+        length = {"M": 1, "Q": 3, "Y": 12}.get(each)
+        if length is None:
+            behind = first + datetime.timedelta(days=7)
+        else:
+            month = (told.month - 1) // length * length
+            first = first.replace(month=month + 1)
+            behind = first.replace(year=told.year + (month + length) // 12, month=(month + length) % 12 + 1)
+        return day + (first - told).days, day + (behind - told).days
+
+    def sum_of(self, exact, whole):
+        """As a sum comes; of floats in hundredths."""
+        unit = 100 if "decimals" in self.options else 1
+        return exact / unit if self.options["exact"] else whole / unit if unit > 1 else whole
 
     def kept(self, cell):
         """What stands for a cell of by_rows."""
@@ -186,7 +207,7 @@ def cases(draw, call):
         on = [on[0], draw(some_names(len(cells), periods[1]))]
     keys = [list(zip(own, cells)) for own in on]
     amount = draw(some_names(1, [*periods[0], *on[0]]))[0]
-    keys[0] += [(amount, draw(st.sampled_from(AMOUNTS)))] if call == "agg" else []
+    keys[0] += [(amount, draw(st.sampled_from(AMOUNTS)))] if call in ("agg", "spread") else []
     columns = [draw(columns_of(*told)) for told in zip(periods, keys, are_open)]
     if rarely(draw):
         periods, on, amount = leveled(periods), leveled(on), level(amount)
@@ -199,6 +220,8 @@ def cases(draw, call):
     case.options = draw(options(call, case, are_open))
     if call == "agg":
         draw_asked(draw, case, amount)
+    if call == "spread":
+        draw_pieces(draw, case, amount)
     if rarely(draw):
         make_wrong(draw, call, case)
     return case
@@ -265,6 +288,13 @@ def draw_asked(draw, case, amount):
     case.options["mean_as"] = draw(st.sampled_from(sorted(MEANS)))
     if rarely(draw):
         case.asked, case.is_right = draw(st.sampled_from(NO_FUNCTIONS)), False
+
+
+def draw_pieces(draw, case, amount):
+    case.asked, case.is_right = (amount,), case.is_right and amount is not None
+    case.options.update(each=draw(st.sampled_from("MQYW")), exact=draw(st.booleans()))
+    if dtype_of(by_rows.cells(case.columns[0], amount)) == "float64":
+        case.options["decimals"] = {amount: 2}
 
 
 def make_wrong(draw, call, case):

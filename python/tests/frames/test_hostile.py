@@ -95,6 +95,19 @@ class Hostile(unittest.TestCase):
         self.is_as_by_rows(case, asked, lambda: by_rows.gaps(case.columns[0], case, within))
 
     @MANY
+    @given(cases("spread"), st.none() | st.tuples(st.integers(0, 12), st.integers(13, 20)))
+    def test_sums_by_the_calendar(self, case, within):
+        def wanted():
+            unit = 100 if "decimals" in case.options else 1
+            amounts = [int(cell * unit) for cell in by_rows.cells(case.columns[0], case.asked[0])]
+            return by_rows.spread(case.columns[0], amounts, case, case.pieces_of, within)
+
+        if within and "within" not in case.options:
+            case.options["within"] = case.point(within[0]), case.end(within[1])
+        asked = lambda: ruzgalt.spread(case.frames[0], *case.asked, **case.options)  # noqa: E731
+        self.is_as_by_rows(case, asked, wanted)
+
+    @MANY
     @given(cases("overlaps"))
     def test_overlaps(self, case):
         case = dataclasses.replace(case, is_shared=True, periods=case.periods[:1] * 2, on=case.on[:1] * 2)

@@ -1,4 +1,5 @@
 """What may be told to a call: each option is taken in its types, and in others refused by its name."""
+import functools
 import inspect
 import unittest
 from pathlib import Path
@@ -23,11 +24,12 @@ WRONG = {
     "decimals": (2, "k", None, [("k", 2)], {"k": 2.0}, {"k": -1}, {"k": 19}, {"k": True}),
     "points_as": ("W", "", 5, ["S"]), "how": ("", "Left", "cross", True, None, ["left"]),
     "mean_as": ("", "Float", float, None), "within": ("2024", 5, ("2024-01-01",), {"2024-01-01": "2025-01-01"}),
+    "each": ("month", "", "m", None, ["M"]), "exact": NO_FLAGS,
 }
 OF_AGG = ("by", "mean_as", "period", "open_end", "last_day", "workers", "parts", "decimals", "points_as")
 OF_DIP = ("period", "open_end", "last_day", "workers")
 # Of a frame's groups.
-CALLS = (ruzgalt.coalesce, ruzgalt.gaps, ruzgalt.overlaps)
+CALLS = (ruzgalt.coalesce, ruzgalt.gaps, ruzgalt.overlaps, functools.partial(ruzgalt.spread, column="x"))
 NO_FRAMES = (FRAME["k"], [1], {"from": [1]}, "pay.csv", Path("pay.csv"), None, FRAME.to_numpy())
 
 
@@ -50,9 +52,9 @@ class Types(unittest.TestCase):
                         self.refuses((call, name, value), lambda: call(FRAME, **words), start)
                 if name in OF_DIP:
                     self.refuses((name, value), lambda: ruzgalt.dip(FRAME, **words), start)
-                if name not in ("by", "mean_as", "within"):
+                if name in inspect.signature(ruzgalt.join).parameters:
                     self.refuses((name, value), lambda: ruzgalt.join(FRAME, FRAME, **words), start)
-                if name not in ("by", "labels", "suffixes", "how", "mean_as", "keep_periods", "within"):
+                if name in inspect.signature(ruzgalt.anti).parameters:
                     self.refuses((name, value), lambda: ruzgalt.anti(FRAME, FRAME, **words), start)
 
     def test_what_is_no_frame_is_refused(self):
@@ -92,7 +94,7 @@ class Signatures(unittest.TestCase):
                 self.assertNotIn(inspect.Parameter.VAR_KEYWORD, kinds.values())
                 named = {name for name, kind in kinds.items() if kind is inspect.Parameter.KEYWORD_ONLY}
                 self.assertLessEqual({"period", "open_end", "last_day", "workers"}, named)
-                self.assertLessEqual(named, set(options.CHECKS))
+                self.assertLessEqual(named, {"column", *options.CHECKS})
         of_table = inspect.signature(ruzgalt.Store.table).parameters
         self.assertLessEqual(set(options.OF_TABLE), set(of_table))
 

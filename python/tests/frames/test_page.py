@@ -101,6 +101,9 @@ class Page(unittest.TestCase):
             "`overlaps(frame, by=..)`": lambda: [
                 len(ruzgalt.overlaps(pd.concat([left, left]), by)) for by in (None, "k")
             ] == [2, 2],
+            '`spread(frame, COLUMN, each="M", by=..)`': lambda: (
+                ruzgalt.spread(frame(x=[31, 62]), "x")["x"].tolist()
+            ) == [14 + 2 * 17],
             "`dip(frame)`": lambda: (lambda parts: (
                 parts.tolist(), parts.count, str(parts.instant),
             ))(ruzgalt.dip(left)) == ([0, 0], 1, "2024-01-01 00:00:00"),

@@ -98,6 +98,9 @@ class Case:
         yield "agg", whole, ruzgalt.agg(left, function, *amount, **words, **parts)
         yield "agg by", ruzgalt.coalesce(self.left, **by), ruzgalt.coalesce(left, **by, **parts)
         yield "agg", ruzgalt.coalesce(self.left, **words), ruzgalt.coalesce(left, **words, **parts)
+        if not self.is_open:
+            whole = ruzgalt.spread(self.left, "euros", each="W", points_as="S", **by)
+            yield "agg by", whole, ruzgalt.spread(left, "euros", each="W", points_as="S", **by, **parts)
         yield "agg by", ruzgalt.gaps(self.left, **by), ruzgalt.gaps(left, **by, **parts)
         if len(self.left):
             point = self.random.choice(self.left["from"].tolist())

@@ -67,5 +67,35 @@ class United(unittest.TestCase):
         self.assertEqual(list(ruzgalt.overlaps(told, "k")), ["from", "to", "k", "x_left", "x_right"])
 
 
+class Pieces(unittest.TestCase):
+    def refuses(self, name, told, **words):
+        with self.assertRaises(ruzgalt.Refused) as caught:
+            ruzgalt.spread(told, "x", **words)
+        self.assertEqual((caught.exception.name, caught.exception.label), (name, 0), caught.exception)
+
+    def test_a_row_without_an_end_counts_up_to_the_time_s(self):
+        told = frame(("2024-01-01", None, "a", 10))
+        self.refuses("BadPoint", told, open_end=True)
+        got = ruzgalt.spread(told, "x", open_end=True, within=("2023-01-01", "2024-02-16"))
+        self.assertEqual(got["x"].tolist(), [10, 5])
+
+    def test_times_count_by_seconds_and_in_a_zone_not_at_all(self):
+        told = frame(("2024-01-31T12:00", "2024-02-01", "a", 62))
+        self.assertEqual(ruzgalt.spread(told, "x", points_as="S")["x"].tolist(), [1])
+        zoned = told.assign(**{name: told[name].dt.tz_localize("Europe/Berlin") for name in ("from", "to")})
+        self.refuses("BadPoint", zoned)
+        got = ruzgalt.spread(zoned.assign(**{"from": zoned["from"].dt.floor("D")}), "x")
+        self.assertEqual((got["x"].tolist(), str(got["from"][0])), ([2], "2024-01-01 00:00:00+01:00"))
+
+    def test_weeks_of_months_are_days(self):
+        months = pd.PeriodIndex(["2024-02"], freq="M")
+        got = ruzgalt.spread(pd.DataFrame({"from": months, "to": months, "x": 7}), "x", each="W")
+        self.assertEqual((str(got["from"].dtype), got["x"].tolist()), ("period[D]", [4, 7, 7, 7, 4]))
+
+    def test_sums_may_be_long(self):
+        told = frame(*[("2024-01-01", "2024-02-01", "a", 2**62)] * 3)
+        self.assertEqual(ruzgalt.spread(told, "x")["x"].tolist(), [3 * 2**62])
+
+
 if __name__ == "__main__":
     unittest.main()
