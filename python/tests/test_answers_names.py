@@ -1,6 +1,7 @@
 """What the columns of an answer are called, whose names the table may have too."""
 import unittest
 from itertools import product
+from typing import Any, List, Tuple
 
 from ruzgalt.script import naming
 from ruzgalt.script.forms import is_name
@@ -33,14 +34,15 @@ class Names(ToolCase):
         self.assertEqual(naming.twice(["a", "b", "a"]), ["a"])
 
     def test_a_store_has_names_like_those_of_its_columns(self) -> None:
-        for given, wanted in (
+        cases: List[Tuple[List[Any], List[str]]] = [
             (["person", "Person", "PERSON"], ["person", "person_", "person_2"]),
             (["Löhne €", "loehne", "Straße"], ["lohne", "loehne", "strasse"]),
             (["by", "where_", "where", ""], ["by_", "where_", "where_2", "c"]),
             ([7, 1.5, None, ("a", 1), "a_1"], ["c7", "c1_5", "none", "a_1_", "a_1"]),
             (["x" * 33, "x" * 32, "x" * 4096], ["x" * 31 + "_", "x" * 32, "x" * 30 + "_2"]),
             (['a"b', "a\nb", "a,b", "\ud800"], ["a_b", "a_b_", "a_b_2", "c"]),
-        ):
+        ]
+        for given, wanted in cases:
             with self.subTest(given):
                 self.assertEqual(naming.of_store(given), wanted)
 

@@ -19,6 +19,6 @@
     spreadsheets        CSV for a spreadsheet
     databases           tables of an SQLite database
 """
-from ruzgalt.answers.reading import CHANGES, READERS, Answer, Listed, Reading, of, of_commands
+from ruzgalt.answers.reading import Answer, Listed, Reading, of, of_commands
 
-__all__ = ["CHANGES", "READERS", "Answer", "Listed", "Reading", "of", "of_commands"]
+__all__ = ["Answer", "Listed", "Reading", "of", "of_commands"]

@@ -10,11 +10,12 @@ from typing import Callable, DefaultDict, Iterator, List, Optional, Tuple
 from ruzgalt.answers import Answer
 from ruzgalt.errors import Misfit
 from ruzgalt.script.forms import next_second, printed
+from ruzgalt.script.language import Answered
 from ruzgalt.script.records import short
 from ruzgalt.script.schemas import PERIOD, Column, Kind, Table, unique
 
 # Ids are new after each change, so they are left out of what is compared.
-IDS = {"rows": ("row_id",), "at": ("row_id",), "anti": ("row_id",), "join": ("left_id", "right_id"), "agg": ()}
+IDS = {Answered.ROWS: ("row_id",), Answered.PAIRS: ("left_id", "right_id"), Answered.STEPS: ()}
 
 
 def between(before: Answer, after: Answer) -> Table:
@@ -28,7 +29,8 @@ def between(before: Answer, after: Answer) -> Table:
     if point_of(before) != point_of(after):
         raise Misfit(f"{both}: an `at` tells of its point alone: ask both for that, or both by `rows`")
     columns = unique([Column("change", Kind.TEXT), *PERIOD, *kept[0][0]])
-    found = sorted(changes(kept[0][1], kept[1][1]), key=order(kept[0][0], before.command.word == "agg"))
+    is_aggregate = before.command.form.answered is Answered.STEPS
+    found = sorted(changes(kept[0][1], kept[1][1]), key=order(kept[0][0], is_aggregate))
     return Table(columns, found)
 
 
@@ -42,12 +44,12 @@ def point_of(answer: Answer) -> Optional[str]:
 
 def compared(answer: Answer) -> Tuple[List[Column], List[Held]]:
     """The columns that are compared, and of each record the period and the values."""
-    if answer.command.word not in IDS:
+    if answer.command.form.answered not in IDS:
         command = short(answer.command.text)
         raise Misfit(f"{answer.place}: {command}: its records aren't periods with values, so none is compared")
     table = answer.table
     start = table.names.index("valid_from")
-    left_out = {start, start + 1, *(table.names.index(name) for name in IDS[answer.command.word])}
+    left_out = {start, start + 1, *(table.names.index(name) for name in IDS[answer.command.form.answered])}
     places = [place for place in range(len(table.columns)) if place not in left_out]
     # Of an `at` it is the second that was asked for, since what else held before or behind it isn't told.
     point = point_of(answer)

@@ -5,10 +5,11 @@ The records are by commit; those of a commit as in an answer to `changed`.
 from itertools import islice
 from typing import Dict, Iterable, Iterator, List, Optional, Sequence, Tuple
 
-from ruzgalt.answers import CHANGES, Answer
+from ruzgalt.answers import Answer
 from ruzgalt.answers.changes import Held, changes, order
 from ruzgalt.checking.replay import Replay, Version, behind
 from ruzgalt.errors import Misfit
+from ruzgalt.script.language import CHANGES
 from ruzgalt.script.schemas import PERIOD, Column, Kind, Schema, Table, ints, unique
 
 # So many commits are named of which a diary has no day.

@@ -5,6 +5,7 @@ from typing import Callable, Dict, List, Optional, Sequence, Set
 from ruzgalt.errors import Misfit
 from ruzgalt.script.commands import Command
 from ruzgalt.script.forms import is_printed, is_sum
+from ruzgalt.script.language import Answered
 from ruzgalt.script.reader import Reader
 from ruzgalt.script.records import Record, short
 from ruzgalt.script.schemas import Column, Kind
@@ -22,7 +23,7 @@ class Checks:
         self.command, self.columns, self.point = command, columns, point
         self.places = [(place, one) for place, one in enumerate(columns, 1) if one.kind in FORMS]
         # The open end of a version.
-        self.dash = {5: "-"} if command.word in ("between", "fromto") else {}
+        self.dash = {5: "-"} if command.form.answered is Answered.VERSIONS else {}
         self.known: Set[str] = set()
 
     def pass_over(self, piece: List[List[str]]) -> bool:

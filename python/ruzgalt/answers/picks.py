@@ -13,8 +13,6 @@ HELP = (
     "the N-th before that; with =NAME behind it, it gets that name"
 )
 FORM = re.compile(r"(?P<number>\d{1,9})|@(?P<line>\d{1,9})|last(-(?P<back>\d{1,9}))?", re.ASCII)
-# What these are answered is a number of a commit, and nothing that one would ask for.
-BARE = ("table", "load", "update", "delete", "together")
 
 
 @dataclass(frozen=True)
@@ -65,13 +63,14 @@ def is_pick(word: str) -> bool:
 
 
 def is_asked(answer: Answer) -> bool:
-    return not answer.refusal and answer.command.word not in BARE
+    """Whether it is a table. What others are answered is a number of a commit, and nothing that one would ask for."""
+    return not answer.refusal and answer.command.form.is_query
 
 
 def name_of(answer: Answer) -> str:
     """A name that no other answer has: the command's word, its tables, and the answer's number."""
     front = answer.command.front
-    tables = front[1:3] if front[0] in ("join", "anti") else front[1:2]
+    tables = front[1:1 + answer.command.form.tables]
     return "_".join([front[0], *tables, str(answer.number)])
 
 

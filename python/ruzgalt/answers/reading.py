@@ -9,6 +9,7 @@ from ruzgalt.errors import Misfit
 from ruzgalt.script import commands, schemas
 from ruzgalt.script.commands import Command
 from ruzgalt.script.forms import is_count, is_printed, printed
+from ruzgalt.script.language import NONE, Answered
 from ruzgalt.script.reader import PIECE, Block, Place, Reader, Row, Rows, Source, long_fields
 from ruzgalt.script.records import Record, short
 from ruzgalt.script.schemas import Column, Schema, Table
@@ -112,24 +113,25 @@ class Reading:
 
     def table(self, command: Command, first: Record) -> Table:
         """The answer that begins with this record, as a table."""
-        if command.word in CHANGES:
+        answered = command.form.answered
+        if answered is Answered.COMMIT:
             return self.accepted(command, first)
-        if command.word == "together":
+        if answered is Answered.TOGETHER:
             return self.opened(command, first)
-        if command.word not in READERS or not command.is_ended or not self.has_commits(command):
+        if answered not in READERS or not command.is_ended or not self.has_commits(command):
             raise misfit(command, "error,RECORD,NAME", first)
         try:
             columns = schemas.header(command, self.tables)
         except (KeyError, IndexError, Misfit):
             raise misfit(command, "error,RECORD,NAME, as its tables, columns or point aren't there", first) from None
-        return Table(columns, READERS[command.word](self, command, first, columns))
+        return Table(columns, READERS[answered](self, command, first, columns))
 
     def has_commits(self, command: Command) -> bool:
         """Whether the commits that a query tells are numbers, and that of its suffix is there."""
         if command.as_of is not None:
             newest = self.commits if self.held is None else self.held
             return is_count(command.as_of) and int(command.as_of) <= newest
-        if command.word not in ("between", "fromto"):
+        if command.form.answered is not Answered.VERSIONS:
             return True
         return len(command.front) == 4 and all(map(is_count, command.front[2:]))
 
@@ -166,7 +168,7 @@ class Reading:
 
     def listed(self, command: Command, first: Record, columns: List[Column]) -> Sequence[Row]:
         """The records of a list up to its end, which counts them. They are looked at, and read again where wanted."""
-        word = {"between": "version", "fromto": "version", "log": "commit"}.get(command.word, "row")
+        word = {Answered.VERSIONS: "version", Answered.LOG: "commit"}.get(command.form.answered, "row")
         place, count, record = self.place, 0, first
         if word == first.word and len(first.fields) == len(columns) + 1:
             checks = Checks(command, columns, printed(command.front[2]) if command.word == "at" else None)
@@ -222,9 +224,10 @@ VERDICTS = {
     "WrongCount": [0], "EmptyPart": [1], "Unknown": [2], "Twice": [2], "Missing": [2], "Overlap": [2, 3],
     "NotCrowded": [0],
 }
-CHANGES = ("table", "load", "update", "delete")
-LISTS = ("rows", "at", "between", "fromto", "join", "anti", "agg", "log")
-READERS = {**{word: Reading.listed for word in LISTS}, "dip": Reading.divided, "check": Reading.judged}
+LISTS = (Answered.ROWS, Answered.VERSIONS, Answered.PAIRS, Answered.STEPS, Answered.LOG)
+READERS = {
+    **dict.fromkeys(LISTS, Reading.listed), Answered.DIVISION: Reading.divided, Answered.VERDICT: Reading.judged,
+}
 
 
 class Listed(Rows):
@@ -265,33 +268,17 @@ def parts_at(source: Source, place: Place, parts: int, instant: str) -> Iterator
         yield from ([record.fields[1], row_id, instant] for row_id in record.fields[2:])
 
 
-OF_QUERIES = "BadCommand BadName BadNumber Future NoTable"
-OF_CHANGES = "BadCommand BadName BadPoint BadPeriod NoTable NoColumn BadNumber TooLong BadUtf8 Full"
-OF_VERSIONS = "BadCommand BadName BadNumber BadPeriod NoTable"
-OF_PARTS = {
-    "load": "BadCommand WrongWidth BadPoint BadPeriod BadNumber TooLong BadUtf8", "check": "BadCommand BadNumber",
-}
-# The names of refusals that each command can have, those of its records aside.
-NAMES = {
-    "table": "BadCommand BadName TooMany TwiceNamed NoColumn TableExists Full",
-    "load": "Unended BadCommand BadName NoTable Full KeyOverlap", "update": f"{OF_CHANGES} KeyOverlap",
-    "delete": OF_CHANGES, "rows": OF_QUERIES, "dip": OF_QUERIES, "at": f"{OF_QUERIES} BadPoint",
-    "between": OF_VERSIONS, "fromto": OF_VERSIONS, "check": f"{OF_QUERIES} Unended BadPoint",
-    "together": "BadCommand Unended",
-    **dict.fromkeys(("join", "anti", "agg"), f"{OF_QUERIES} NoColumn WrongKind"),
-}
-
-
 def is_refusable(name: str, record: Record, command: Command, there: Dict[str, Schema]) -> bool:
     """Whether the refusal can be the command's, and the table is there by whose key or columns it is explained."""
+    form = command.form
     if name == "NotInBlock":
-        return command.in_together and command.word in (*CHANGES, "log", "together")
-    told = NAMES if record is command.record else OF_PARTS
-    if (name == "Unended") is command.is_ended or name not in told.get(command.word, "BadCommand").split():
+        return command.in_together and form.is_barred
+    told = form.refusals if record is command.record else form.part_refusals or NONE.refusals
+    if (name == "Unended") is command.is_ended or name not in told.split():
         return False
     if name == "KeyOverlap":
-        return command.word in ("load", "update") and is_doable(command, there)
-    return name != "WrongWidth" or command.word == "load" and [*command.record.fields, ""][1] in there
+        return is_doable(command, there)
+    return name != "WrongWidth" or [*command.record.fields, ""][1] in there
 
 
 def is_doable(command: Command, there: Dict[str, Schema]) -> bool:

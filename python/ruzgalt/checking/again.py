@@ -7,9 +7,10 @@ from collections import defaultdict
 from heapq import heappop, heappush
 from typing import Callable, Dict, Iterable, Iterator, List, Optional, Sequence, Tuple, Union
 
-from ruzgalt.answers import CHANGES, Answer
+from ruzgalt.answers import Answer
 from ruzgalt.checking.replay import Replay, Version
 from ruzgalt.script.forms import printed
+from ruzgalt.script.language import CHANGES
 from ruzgalt.script.schemas import Kind, group_of
 
 Texts = List[str]

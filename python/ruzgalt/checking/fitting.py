@@ -6,7 +6,7 @@ from typing import Dict, Iterable, Optional, Sequence, Tuple
 
 from ruzgalt.answers import Answer
 from ruzgalt.checking.again import RECORDS, Keyed, Texts, logged, shared_times, sides_of
-from ruzgalt.checking.replay import Row, Replay, behind
+from ruzgalt.checking.replay import Replay, Row, behind
 from ruzgalt.errors import Misfit
 from ruzgalt.script.records import short, to_record
 

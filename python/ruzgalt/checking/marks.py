@@ -3,7 +3,7 @@ import re
 from collections import Counter, defaultdict
 from typing import Dict, Iterator, List, NamedTuple, Optional, Sequence, Set, Tuple
 
-from ruzgalt.answers import CHANGES, Answer
+from ruzgalt.answers import Answer
 from ruzgalt.checking import looks, quoting
 from ruzgalt.checking.loads import Loads
 from ruzgalt.checking.replay import Beginnings, Replay
@@ -12,12 +12,13 @@ from ruzgalt.loading.dates import NO_END, is_month_end
 from ruzgalt.periods.spans import overlapping
 from ruzgalt.script.fields import where_places
 from ruzgalt.script.forms import printed
+from ruzgalt.script.language import CHANGES, Fields, words_of
 from ruzgalt.script.reader import LOOKED_AT, Block
 from ruzgalt.script.schemas import Kind, Schema
 
 HOURS = re.compile(rb",\"?\d{4}-\d\d-\d\dT(?!00:00:00)\d\d:")
 LAST_SECOND = re.compile(rb"row,[^,\r\n]*,(?!9999)\d{4}-\d\d-\d\dT23:59:59")
-JOINS, PORTIONS = ("join", "anti"), ("update", "delete")
+JOINS, PORTIONS = words_of(Fields.TABLES), words_of(Fields.PORTION)
 Values = Set[Tuple[str, ...]]
 
 

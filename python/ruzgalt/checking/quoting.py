@@ -2,14 +2,16 @@
 import re
 from typing import Callable, Iterator, List, NamedTuple, Optional, Sequence
 
-from ruzgalt.checking.reasons import FORMS
 from ruzgalt.script.commands import Command
+from ruzgalt.script.language import COMMANDS, Fields, words_of
 from ruzgalt.script.reader import LOOKED_AT, Block
 from ruzgalt.script.records import Record, visible
 
 # A line of a field that looks like a record: a field that goes on to such lines may lack its second quote.
-WITH_FIELDS = "|".join(sorted({*FORMS, "row", "part"} - {"log", "together"}))
-TAKEN = re.compile(rf"[\r\n](?:(?:{WITH_FIELDS}),|(?:end|log|together)(?=[\r\n]|$))")
+ALONE = words_of(Fields.NOTHING)
+PARTS = [form.part for form in COMMANDS.values() if form.part]
+WITH_FIELDS, WITHOUT = "|".join(sorted({*COMMANDS, *PARTS} - set(ALONE))), "|".join(["end", *ALONE])
+TAKEN = re.compile(rf"[\r\n](?:(?:{WITH_FIELDS}),|(?:{WITHOUT})(?=[\r\n]|$))")
 BEHIND_BLANK = re.compile(r'[ \t]+".*', re.DOTALL)
 SINGLE = re.compile(r"\s*'.*'\s*", re.DOTALL)
 # A blank at an end of a field that no other kind has: one before a quote, or beside single quotes.

@@ -3,7 +3,8 @@ from typing import Callable, Dict, Optional
 
 from ruzgalt.answers import Answer
 from ruzgalt.script import forms
-from ruzgalt.script.fields import Field, Role
+from ruzgalt.script.fields import Field
+from ruzgalt.script.language import Answered, Fields, Role
 from ruzgalt.script.records import to_record, visible
 from ruzgalt.script.schemas import Kind, Schema
 
@@ -24,15 +25,6 @@ REASONS = {
     "BadUtf8": "isn't UTF-8; `iconv -f WINDOWS-1252 -t UTF-8` makes it of a file from Windows",
     "Full": "1,000,000 changes, or versions of one table, are all that there can be",
 }
-SIDES = "L,R[,on,LCOL,RCOL..][,asof,N]"
-FORMS = {
-    "table": "table,T,COLUMN,KIND..[,key,COLUMN..] (KIND is int or text)", "load": "load,T", "log": "log",
-    "update": "update,T,FROM,TO,set,COLUMN,VALUE..[,where,COLUMN,VALUE..]", "rows": "rows,T[,asof,N]",
-    "delete": "delete,T,FROM,TO[,where,COLUMN,VALUE..]", "at": "at,T,POINT[,asof,N]", "between": "between,T,M,N",
-    "fromto": "fromto,T,M,N", "join": f"join,{SIDES}", "anti": f"anti,{SIDES}", "dip": "dip,T[,asof,N]",
-    "agg": "agg,T,count[,by,COLUMN][,asof,N], or agg,T,FUNC,COLUMN[,by,COLUMN][,asof,N] (FUNC is sum, min or max)",
-    "check": "check,T,PARTS,INSTANT[,asof,N]", "together": "together",
-}
 
 
 def of_field(name: str, field: Field, answer: Answer) -> Optional[str]:
@@ -49,7 +41,7 @@ def named(field: Field) -> str:
 
 
 def bad_name(field: Field, answer: Answer) -> str:
-    if field.text == "asof" and answer.command.word in ("update", "delete"):
+    if field.text == "asof" and answer.command.form.fields is Fields.PORTION:
         return "is of queries alone: a change acts on the rows of the newest commit"
     if field.text in forms.RESERVED:
         *most, last = forms.RESERVED
@@ -73,7 +65,7 @@ def bad_number(field: Field, answer: Answer) -> str:
         return f"is no number from {low} to {high}"
     if field.role is Role.VALUE:
         return REASONS["BadNumber"]
-    is_commit = field.role is Role.SUFFIX or answer.command.word in ("between", "fromto")
+    is_commit = field.role is Role.SUFFIX or answer.command.form.answered is Answered.VERSIONS
     return "is no number of a commit, as `ok,2` and `log` tell it" if is_commit else "is no whole number from 0 on"
 
 

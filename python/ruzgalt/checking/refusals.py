@@ -6,8 +6,8 @@ from ruzgalt.checking import reasons
 from ruzgalt.checking.reasons import kind_of
 from ruzgalt.commands import called
 from ruzgalt.script import forms
-from ruzgalt.script.commands import BLOCKS
-from ruzgalt.script.fields import Field, Role, fields_of
+from ruzgalt.script.fields import Field, fields_of
+from ruzgalt.script.language import BLOCKS, COMMANDS, Role
 from ruzgalt.script.records import Record, short, to_record, visible
 from ruzgalt.script.schemas import Kind
 
@@ -46,16 +46,16 @@ def wrong_width(answer: Answer) -> str:
 def bad_command(answer: Answer) -> str:
     record, command = answer.refused.record, answer.command
     if record is not command.record:
-        wanted = "row" if command.word == "load" else "part"
+        wanted = command.form.part
         remedy = "; its end is the one word end" if is_like_end(record) else f"; each begins with the word {wanted}"
-        remedy = "; is its end missing before it?" if record.word in reasons.FORMS else remedy
+        remedy = "; is its end missing before it?" if record.word in COMMANDS else remedy
         return f"a {command.word} has {wanted} records alone, and not {visible(record.text)}{remedy}"
     if command.word == "end":
         return "an end without a block"
     if command.word == "table" and wrong_kinds(record):
         place = wrong_kinds(record)[0]
         return f"field {place + 1}, {visible(to_record([record.fields[place]]))}, is no KIND, int or text"
-    form = reasons.FORMS.get(command.word)
+    form = command.form.text
     if command.word == "agg" and "by" in command.front[3:-2]:
         return f"the form is {form}; behind `by` stands one column: load one that has the values of both"
     return f"the form is {form}" if form else f"field 1, {visible(to_record([command.word]))}, {no_word(command.word)}"
@@ -68,19 +68,19 @@ def no_word(word: str) -> str:
         return "begins with a byte order mark, which only a script's own beginning may have: `tail -c +4` leaves it out"
     if word == "csv-to-load failed":
         return f"stands in place of a load: {called.LOAD} has told why on standard error"
-    if plain in reasons.FORMS:
+    if plain in COMMANDS:
         return f"is no command, but {plain} is"
     if "\0" in word:
         return "isn't UTF-8; `iconv -f UTF-16 -t UTF-8` makes it of a file from Windows"
     mark = next((one for one in ";\t" if one in word), None)
-    if mark and word.partition(mark)[0] in reasons.FORMS:
+    if mark and word.partition(mark)[0] in COMMANDS:
         return "is no command: commas part the fields"
     if plain.startswith(("#", "--", "//")):
         return "is no command: a script has no comments"
     if plain.startswith("sep="):
         return "is no command, but a spreadsheet's first line: leave it out"
     other = next((told for words, told in OTHER_WORDS if plain.split(" ")[0] in words), None)
-    known = f"is no command: these are {', '.join(reasons.FORMS)}"
+    known = f"is no command: these are {', '.join(COMMANDS)}"
     return f"{known}; {other or f'of a CSV file with a header {called.LOAD} makes a load'}"
 
 

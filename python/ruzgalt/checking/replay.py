@@ -14,6 +14,7 @@ from ruzgalt.errors import Misfit
 from ruzgalt.script import fields
 from ruzgalt.script.commands import Command
 from ruzgalt.script.forms import printed
+from ruzgalt.script.language import CHANGES
 from ruzgalt.script.reader import Block, Reader
 from ruzgalt.script.records import Record
 from ruzgalt.script.schemas import Schema
@@ -101,7 +102,7 @@ class Replay:
     def do(self, answer: Answer) -> None:
         """Does what an answer says was done: nothing, where it is that of a query or a refusal."""
         word = answer.command.word
-        if answer.refusal or word not in ("table", "load", "update", "delete"):
+        if answer.refusal or word not in CHANGES:
             return
         name = answer.command.record.fields[1]
         if word == "table":
@@ -200,7 +201,7 @@ class Beginnings:
         """Tells the tables of a query that have no row yet at the commit which its suffix has."""
         if answer.command.as_of is None:
             return
-        names = answer.command.front[1:3 if answer.command.word in ("join", "anti") else 2]
+        names = answer.command.front[1:1 + answer.command.form.tables]
         for name in dict.fromkeys(names):
             if self.made[name] > answer.commit:
                 yield f"{name} was made by commit {self.made[name]}, so commit {answer.commit} shows no row of it"

@@ -5,7 +5,8 @@ from ruzgalt.answers import Answer
 from ruzgalt.answers.history import refuse_missing
 from ruzgalt.checking import refusals, replay
 from ruzgalt.errors import Misfit
-from ruzgalt.script.fields import Field, Role
+from ruzgalt.script.fields import Field
+from ruzgalt.script.language import Role
 
 
 def command_for(answers: Sequence[Answer], table: str, row_id: int, set_to: Sequence[Tuple[str, str]]) -> List[str]:

@@ -24,6 +24,7 @@ from ruzgalt.frames.sides import Side
 from ruzgalt.frames.tables import Table, coded, refuse_stand_ins, told_of
 from ruzgalt.frames.values import Texts, Values
 from ruzgalt.script import commands, naming
+from ruzgalt.script.language import CHANGES
 from ruzgalt.script.reader import Block, Source, long_fields
 from ruzgalt.script.schemas import Kind, Schema
 
@@ -36,7 +37,7 @@ NAMED = 10
 def book_of(given: Given, options: Any, empty: Book) -> Book:
     """The book of a script's accepted changes. Raises Refused, Stopped; warns of refused changes."""
     found = answers_of(bytes_of(given), empty.workers)
-    kept = [command_of(one) for one in found if one.command.word in answers.CHANGES and not one.refusal]
+    kept = [command_of(one) for one in found if one.command.word in CHANGES and not one.refusal]
     schemas = found[-1].tables if found else {}
     refuse_options(options, schemas)
     names = given.names if isinstance(given, Script) else {}
@@ -53,7 +54,7 @@ def answers_of(data: bytes, workers: int) -> List[Answer]:
             found = answers.of_commands(commands.commands(Source(data)), output, is_own=True)
         except Misfit as misfit:
             raise Stopped(f"the program's answers aren't those of the script: {misfit}") from None
-        told = told_of_refused([one for one in found if one.refusal and one.command.word not in answers.READERS])
+        told = told_of_refused([one for one in found if one.refusal and not one.command.form.is_query])
     if told:
         doubt(told)
     return found

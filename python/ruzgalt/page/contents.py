@@ -3,12 +3,13 @@ import json
 from itertools import islice
 from typing import Any, Dict, Iterator, List, NamedTuple, Optional, Sequence, Tuple, TypeVar
 
-from ruzgalt.answers import CHANGES, Answer, history, verdicts
-from ruzgalt.answers.picks import BARE
+from ruzgalt.answers import Answer, history, picks, verdicts
 from ruzgalt.commands import called
 from ruzgalt.commands.given import EMPTY
 from ruzgalt.page import drawings, findings, pairs
 from ruzgalt.page.sources import CLOSED, MADE, VALUES, Marked, Sources, Tally, tally
+from ruzgalt.pictures import figures
+from ruzgalt.script.language import CHANGES
 from ruzgalt.script.records import short
 from ruzgalt.script.schemas import Column, Schema, Table
 
@@ -47,7 +48,7 @@ def of(sources: Sources, diary: Optional[str]) -> Contents:
     """The contents. With a diary the commits have its days."""
     counts = tally(list(sources.versions.values()))
     parts = Parts(sources)
-    asked = [answer for answer in sources.answers if not answer.refusal and answer.command.word not in BARE]
+    asked = list(filter(picks.is_asked, sources.answers))
     kept = parts.first(asked, QUESTIONS, "questions")
     days = days_of(sources, diary)
     commits = list(commits_of(sources, counts, days))
@@ -91,7 +92,7 @@ class Parts:
         room, shown, drawn = Room(ROOM), shown_at_once(kept), 0
         for answer in kept:
             has_all = self.add_records(answer, room, shown)
-            is_past = drawn == PICTURES and answer.command.word in drawings.DRAWN
+            is_past = drawn == PICTURES and figures.is_drawn(answer)
             drawing = NO_ROOM if is_past else drawings.of(self.sources.answers, answer)
             drawn += drawing.tree is not None
             yield {

@@ -11,7 +11,6 @@ from ruzgalt.pictures import figures, svg
 
 # Of more records the table alone is shown, and a picture has so many pixels across.
 MOST, WIDTH = 400, 640
-DRAWN = ("dip", "rows", "at", "anti", "join", "agg", "between", "fromto")
 # What a drawing is made of. All else is left out, so none can have a script or ask a network.
 ELEMENTS = {
     "svg", "g", "defs", "pattern", "clipPath", "title", "desc", "text", "tspan", "line", "rect", "path", "circle",
@@ -33,7 +32,7 @@ class Drawing(NamedTuple):
 
 
 def of(found: Sequence[Answer], answer: Answer) -> Drawing:
-    if answer.command.word not in DRAWN:
+    if not figures.is_drawn(answer):
         return Drawing(None)
     count = len(answer.table.records)
     if count == 0:

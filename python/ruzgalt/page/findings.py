@@ -1,12 +1,13 @@
 """What an auditor looks at first: what was refused, what touched nothing, what may not be meant, each with a reason."""
 from typing import Iterator, List, NamedTuple, Optional, Sequence, Tuple
 
-from ruzgalt.answers import CHANGES, Answer
+from ruzgalt.answers import Answer
 from ruzgalt.checking import marks, overlaps, refusals
 from ruzgalt.checking.looks import fold
 from ruzgalt.checking.replay import Replay
 from ruzgalt.page.sources import CLOSED, MADE, VALUES, Sources, Tally
 from ruzgalt.script.fields import where_places
+from ruzgalt.script.language import CHANGES
 from ruzgalt.script.records import short, to_record, visible
 from ruzgalt.script.schemas import Table
 

@@ -11,42 +11,51 @@ from ruzgalt.pictures.squares import shaded, square
 from ruzgalt.pictures.timeline import Span
 from ruzgalt.pictures.wishes import Record, Wish, bar_of
 from ruzgalt.script.forms import read_point, seconds
+from ruzgalt.script.language import Answered
 from ruzgalt.script.records import short
 from ruzgalt.script.schemas import PERIOD, Kind, Table, group_of, ints, unique
 
-__all__ = ["NOTHING", "Bar", "Bars", "Groups", "Picture", "Steps", "Wish", "of"]
+__all__ = ["NOTHING", "Bar", "Bars", "Groups", "Picture", "Steps", "Wish", "is_drawn", "of"]
+
+DRAWN = (Answered.DIVISION, Answered.ROWS, Answered.PAIRS, Answered.STEPS, Answered.VERSIONS)
 
 
 def of(answers: Sequence[Answer], answer: Answer, wish: Wish) -> Picture:
     """The picture of an answer. Raises Misfit where there is none."""
     wish.limits()
     refuse_unused(answer, wish)
-    word = answer.command.word
-    if word == "dip":
+    answered = answer.command.form.answered
+    if answered is Answered.DIVISION:
         return division(answers, answer, wish)
-    if word not in ("between", "fromto", "rows", "at", "anti", "join", "agg"):
+    if not is_drawn(answer):
         drawn = "a division, rows, a join, an aggregate or versions"
         raise Misfit(f"{answer.place}: {short(answer.command.text)}: no picture; what is drawn is {drawn}")
     wish.amounts.refuse_strangers(answer.table)
-    if word in ("between", "fromto"):
+    if answered is Answered.VERSIONS:
         return square(answer, wish)
     if is_of_steps(answer):
         return steps(answer, wish)
     return groups(answer, wish) if is_of_groups(answer, wish) else by_value(answer, wish)
 
 
+def is_drawn(answer: Answer) -> bool:
+    """Whether there are pictures of such answers."""
+    return answer.command.form.answered in DRAWN
+
+
 def is_of_steps(answer: Answer) -> bool:
-    return answer.command.word == "agg" and group_of(answer.command.front) is None
+    return answer.command.form.answered is Answered.STEPS and group_of(answer.command.front) is None
 
 
 def is_of_groups(answer: Answer, wish: Wish) -> bool:
     """Whether it is a sum for each value of a column. Bars are drawn of it where their lanes or labels are told."""
-    return answer.command.word == "agg" and answer.command.front[2] == "sum" and not (wish.by or wish.label)
+    is_sum = answer.command.form.answered is Answered.STEPS and answer.command.front[2] == "sum"
+    return is_sum and not (wish.by or wish.label)
 
 
 def refuse_unused(answer: Answer, wish: Wish) -> None:
     """What a picture doesn't use would be taken for used."""
-    unused = {"dip": ["by"], "between": ["by"], "fromto": ["by"]}.get(answer.command.word, [])
+    unused = ["by"] if answer.command.form.answered in (Answered.DIVISION, Answered.VERSIONS) else []
     if is_of_steps(answer):
         unused = ["by", "label", "where"]
     for word in unused:
@@ -80,7 +89,7 @@ def by_value(answer: Answer, wish: Wish) -> Bars:
     """A lane for each value of a column; where rows of one value overlap, lanes below each other."""
     table = answer.table
     columns = [column for column in table.columns if column.kind is not Kind.POINT]
-    ids = {"join": 2, "agg": 0}.get(answer.command.word, 1)
+    ids = {Answered.PAIRS: 2, Answered.STEPS: 0}.get(answer.command.form.answered, 1)
     values = [column.name for column in columns[ids:]]
     by = wish.by or next(iter(values), None)
     if by is not None:
@@ -111,7 +120,7 @@ def lanes_of(table: Table, by: Optional[str], wish: Wish) -> Iterable[Tuple[str,
 def label_of(answer: Answer, record: Record, names: Sequence[str], wish: Wish) -> str:
     """The values of these columns; what an aggregate comes to has its thousands parted."""
     value = answer.table.names[-1]
-    if answer.command.word == "agg" and list(names) == [value]:
+    if answer.command.form.answered is Answered.STEPS and list(names) == [value]:
         return wish.amounts.parted(int(record[value]), wish.amounts.of(value) or 0)
     return wish.labelled(record, names)
 

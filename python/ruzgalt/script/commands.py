@@ -2,13 +2,9 @@
 from dataclasses import dataclass, replace
 from typing import Iterator, List, Optional, Sequence, Tuple
 
+from ruzgalt.script.language import BLOCKS, COMMANDS, NONE, Form
 from ruzgalt.script.reader import Block, Reader, Skipped, Source
 from ruzgalt.script.records import Record
-
-# Words whose records run to the next `end`, whatever their other fields are.
-BLOCKS = ("load", "check")
-# Those that may have the suffix `asof,N`.
-OF_A_COMMIT = ("rows", "at", "dip", "join", "anti", "agg", "check")
 
 
 @dataclass(frozen=True)
@@ -23,6 +19,11 @@ class Command:
     @property
     def word(self) -> str:
         return self.record.word
+
+    @property
+    def form(self) -> Form:
+        """What its word says of it."""
+        return COMMANDS.get(self.word, NONE)
 
     @property
     def line(self) -> int:
@@ -40,7 +41,7 @@ class Command:
     def as_of(self) -> Optional[str]:
         """The number in its suffix `asof,N`, where it has one."""
         fields = self.record.fields
-        has_suffix = self.word in OF_A_COMMIT and len(fields) > 2 and fields[-2] == "asof"
+        has_suffix = self.form.has_suffix and len(fields) > 2 and fields[-2] == "asof"
         return fields[-1] if has_suffix else None
 
     @property
@@ -87,7 +88,7 @@ def commands_within(reader: Reader) -> Tuple[List[Command], bool]:
 
 
 def command_of(opening: Record, reader: Reader) -> Command:
-    """The command that begins with this record, with its block where it is a load or a check."""
+    """The command that begins with this record; where it has a block that runs to the next `end`, whatever is in it."""
     if opening.word not in BLOCKS:
         return Command(opening, [])
     place = reader.place

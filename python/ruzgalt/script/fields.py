@@ -1,21 +1,11 @@
 """What each field of a record is to be, so that the one is found for which a record was refused."""
 from dataclasses import dataclass
-from enum import Enum, auto
 from typing import Dict, Iterator, List, Optional, Sequence
 
 from ruzgalt.script.commands import Command
+from ruzgalt.script.language import COMMANDS, NONE, Fields, Role
 from ruzgalt.script.records import Record
 from ruzgalt.script.schemas import Column, Kind, Schema
-
-
-class Role(Enum):
-    TABLE = auto()
-    COLUMN = auto()
-    KEY = auto()
-    POINT = auto()
-    COUNT = auto()
-    SUFFIX = auto()
-    VALUE = auto()
 
 
 @dataclass(frozen=True)
@@ -38,8 +28,7 @@ def fields_of(command: Command, record: Record, tables: Tables) -> List[Field]:
     if record is not command.record:
         return list(of_part(texts) if record.word == "part" else of_row(texts, tables.get(second(command))))
     front = command.front
-    reader = BY_WORD.get(command.word, of_query)
-    found = list(reader(front, tables))
+    found = list(READERS.get(command.form.fields, of_query)(front, tables))
     if command.as_of is not None:
         found.append(Field(len(texts) - 1, texts[-1], Role.SUFFIX))
     return found
@@ -62,9 +51,7 @@ def of_row(texts: Sequence[str], table: Optional[Schema]) -> Iterator[Field]:
 
 def of_query(texts: Sequence[str], tables: Tables) -> Iterator[Field]:
     """The table, and behind it points, or numbers."""
-    roles = {"at": [Role.POINT], "check": [Role.COUNT, Role.POINT]}
-    behind = roles.get(texts[0], [Role.COUNT] * 2 if texts[0] in ("between", "fromto") else [])
-    for place, role in enumerate([Role.TABLE, *behind], 1):
+    for place, role in enumerate([Role.TABLE, *COMMANDS.get(texts[0], NONE).behind], 1):
         if place < len(texts):
             yield Field(place, texts[place], role, tables.get(texts[place]))
 
@@ -122,7 +109,6 @@ def of_aggregate(texts: Sequence[str], tables: Tables) -> Iterator[Field]:
     yield from (Field(place, texts[place], Role.COLUMN, table) for place in places if place < len(texts))
 
 
-BY_WORD = {
-    "table": of_table, "update": of_change, "delete": of_change, "join": of_join, "anti": of_join,
-    "agg": of_aggregate,
+READERS = {
+    Fields.SCHEMA: of_table, Fields.PORTION: of_change, Fields.TABLES: of_join, Fields.AGGREGATE: of_aggregate,
 }

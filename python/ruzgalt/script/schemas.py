@@ -1,12 +1,13 @@
 """Which columns a table of the store has, and which the answer to each command."""
 from dataclasses import dataclass, field
 from enum import Enum
-from typing import Dict, Iterable, Iterator, List, Optional, Sequence, Tuple, Union
+from typing import Callable, Dict, Iterable, Iterator, List, Optional, Sequence, Tuple, Union
 
 from ruzgalt.errors import Misfit
 from ruzgalt.script import naming
 from ruzgalt.script.commands import Command
 from ruzgalt.script.forms import is_name, read_point
+from ruzgalt.script.language import Answered, Role
 
 
 class Kind(Enum):
@@ -106,33 +107,42 @@ DIVISION = [*ints("part", "row_id"), Column("instant", Kind.POINT)]
 
 
 def header(command: Command, tables: Dict[str, Schema]) -> List[Column]:
-    """The columns of the answer to a command that wasn't refused. Raises KeyError where its table or point is none."""
-    word, front = command.word, command.front
-    for name in front[1:{"join": 3, "anti": 3, "log": 1}.get(word, 2)]:
-        if name not in tables:
-            raise KeyError(name)
-    if word == "at" and (len(front) != 3 or read_point(front[2]) is None):
-        raise KeyError(word)
-    if word in ("rows", "at", "anti"):
-        return unique([*ints("row_id"), *PERIOD, *tables[front[1]].columns])
-    if word in ("between", "fromto"):
-        return unique([*ints("row_id"), *PERIOD, *ints("sys_from", "sys_to"), *tables[front[1]].columns])
-    if word == "join":
-        left, right = tables[front[1]].columns, tables[front[2]].columns
-        sides = [*prefixed("left", left), *prefixed("right", right)]
-        return unique([*PERIOD, *ints("left_id", "right_id"), *sides])
-    if word == "agg":
-        return aggregate_header(front, tables[front[1]])
-    return {"log": COMMIT, "dip": DIVISION, "check": VERDICT}.get(word, ints("commit"))
+    """The columns of the answer to a query that wasn't refused. Raises KeyError where its table or point is none."""
+    form, front = command.form, command.front
+    named = [tables[name] for name in front[1:1 + form.tables]]
+    if form.behind == (Role.POINT,) and (len(front) != 3 or read_point(front[2]) is None):
+        raise KeyError(command.word)
+    return HEADERS[form.answered](front, named)
 
 
-def aggregate_header(front: Sequence[str], table: Schema) -> List[Column]:
+def of_rows(_: Sequence[str], tables: Sequence[Schema]) -> List[Column]:
+    return unique([*ints("row_id"), *PERIOD, *tables[0].columns])
+
+
+def of_versions(_: Sequence[str], tables: Sequence[Schema]) -> List[Column]:
+    return unique([*ints("row_id"), *PERIOD, *ints("sys_from", "sys_to"), *tables[0].columns])
+
+
+def of_pairs(_: Sequence[str], tables: Sequence[Schema]) -> List[Column]:
+    sides = [*prefixed("left", tables[0].columns), *prefixed("right", tables[1].columns)]
+    return unique([*PERIOD, *ints("left_id", "right_id"), *sides])
+
+
+def of_steps(front: Sequence[str], tables: Sequence[Schema]) -> List[Column]:
     """The group's column under its own name, the period, and the value under that of what it is."""
+    table = tables[0]
     named = front[2] if front[2] == "count" else "_".join(front[2:4])
     group = [table.columns[table.place(front[-1])]] if group_of(front) else []
     # The period keeps its names, by which it is found, whatever the group's is.
     start, end, *others = unique([*PERIOD, *group, *ints(named)])
     return [*others[:-1], start, end, others[-1]]
+
+
+Header = Callable[[Sequence[str], Sequence[Schema]], List[Column]]
+HEADERS: Dict[Answered, Header] = {
+    Answered.ROWS: of_rows, Answered.VERSIONS: of_versions, Answered.PAIRS: of_pairs, Answered.STEPS: of_steps,
+    Answered.LOG: lambda *_: COMMIT, Answered.DIVISION: lambda *_: DIVISION, Answered.VERDICT: lambda *_: VERDICT,
+}
 
 
 def group_of(front: Sequence[str]) -> Optional[str]:

@@ -1,0 +1,144 @@
+"""The commands of the language, by their words: the one table that says what a command is made of, what it is answered,
+and for what it may be refused. docs/LANGUAGE.md defines them.
+
+A new command is a line in COMMANDS, where the fields behind its word, and its answer, are such as others have. All else
+that knows a command by its word does something of that one alone: done again, it is in checking/again.
+"""
+from dataclasses import dataclass
+from enum import Enum, auto
+from typing import Dict, Tuple
+
+
+class Role(Enum):
+    """What a field is to be."""
+
+    TABLE = auto()
+    COLUMN = auto()
+    KEY = auto()
+    POINT = auto()
+    COUNT = auto()
+    SUFFIX = auto()
+    VALUE = auto()
+
+
+class Fields(Enum):
+    """What stands behind a command's word."""
+
+    NOTHING = auto()
+    SCHEMA = auto()
+    # A table, and behind it what Command.behind says.
+    TABLE = auto()
+    # A table, a portion, and pairs of a column and a value.
+    PORTION = auto()
+    # Two tables, and pairs of their columns.
+    TABLES = auto()
+    AGGREGATE = auto()
+
+
+class Answered(Enum):
+    """What a command is answered, where it isn't refused."""
+
+    NOTHING = auto()
+    COMMIT = auto()
+    TOGETHER = auto()
+    ROWS = auto()
+    VERSIONS = auto()
+    PAIRS = auto()
+    STEPS = auto()
+    LOG = auto()
+    DIVISION = auto()
+    VERDICT = auto()
+
+
+@dataclass(frozen=True)
+class Form:
+    """A command as a person is told it, its answer, the names by which it may be refused, and what it is made of.
+
+    behind  the fields behind the table, where no word but that is before them
+    part    the word of each record of its block, which ends by `end`; refused by these names
+    """
+
+    text: str
+    answered: Answered
+    refusals: str
+    fields: Fields = Fields.TABLE
+    behind: Tuple[Role, ...] = ()
+    part: str = ""
+    part_refusals: str = ""
+
+    @property
+    def has_suffix(self) -> bool:
+        """Whether it may have the suffix asof,N."""
+        return "asof" in self.text
+
+    @property
+    def tables(self) -> int:
+        """How many tables stand behind its word."""
+        return {Fields.NOTHING: 0, Fields.TABLES: 2}.get(self.fields, 1)
+
+    @property
+    def is_query(self) -> bool:
+        """Whether it is answered by a table."""
+        return self.answered not in (Answered.NOTHING, Answered.COMMIT, Answered.TOGETHER)
+
+    @property
+    def is_barred(self) -> bool:
+        """Whether a block of questions has none, but for one load."""
+        return self.answered in (Answered.COMMIT, Answered.LOG, Answered.TOGETHER)
+
+
+OF_QUERIES = "BadCommand BadName BadNumber Future NoTable"
+OF_COLUMNS = f"{OF_QUERIES} NoColumn WrongKind"
+OF_VERSIONS = "BadCommand BadName BadNumber BadPeriod NoTable"
+OF_PORTIONS = "BadCommand BadName BadPoint BadPeriod NoTable NoColumn BadNumber TooLong BadUtf8 Full"
+SIDES = "L,R[,on,LCOL,RCOL..][,asof,N]"
+SPAN = (Role.COUNT, Role.COUNT)
+COMMANDS: Dict[str, Form] = {
+    "table": Form(
+        "table,T,COLUMN,KIND..[,key,COLUMN..] (KIND is int or text)", Answered.COMMIT,
+        "BadCommand BadName TooMany TwiceNamed NoColumn TableExists Full", Fields.SCHEMA,
+    ),
+    "load": Form(
+        "load,T", Answered.COMMIT, "Unended BadCommand BadName NoTable Full KeyOverlap",
+        part="row", part_refusals="BadCommand WrongWidth BadPoint BadPeriod BadNumber TooLong BadUtf8",
+    ),
+    "log": Form("log", Answered.LOG, "BadCommand", Fields.NOTHING),
+    "update": Form(
+        "update,T,FROM,TO,set,COLUMN,VALUE..[,where,COLUMN,VALUE..]", Answered.COMMIT, f"{OF_PORTIONS} KeyOverlap",
+        Fields.PORTION,
+    ),
+    "rows": Form("rows,T[,asof,N]", Answered.ROWS, OF_QUERIES),
+    "delete": Form("delete,T,FROM,TO[,where,COLUMN,VALUE..]", Answered.COMMIT, OF_PORTIONS, Fields.PORTION),
+    "at": Form("at,T,POINT[,asof,N]", Answered.ROWS, f"{OF_QUERIES} BadPoint", behind=(Role.POINT,)),
+    "between": Form("between,T,M,N", Answered.VERSIONS, OF_VERSIONS, behind=SPAN),
+    "fromto": Form("fromto,T,M,N", Answered.VERSIONS, OF_VERSIONS, behind=SPAN),
+    "join": Form(f"join,{SIDES}", Answered.PAIRS, OF_COLUMNS, Fields.TABLES),
+    "anti": Form(f"anti,{SIDES}", Answered.ROWS, OF_COLUMNS, Fields.TABLES),
+    "dip": Form("dip,T[,asof,N]", Answered.DIVISION, OF_QUERIES),
+    "agg": Form(
+        "agg,T,count[,by,COLUMN][,asof,N], or agg,T,FUNC,COLUMN[,by,COLUMN][,asof,N] (FUNC is sum, min or max)",
+        Answered.STEPS, OF_COLUMNS, Fields.AGGREGATE,
+    ),
+    "check": Form(
+        "check,T,PARTS,INSTANT[,asof,N]", Answered.VERDICT, f"{OF_QUERIES} Unended BadPoint",
+        behind=(Role.COUNT, Role.POINT), part="part", part_refusals="BadCommand BadNumber",
+    ),
+    "together": Form("together", Answered.TOGETHER, "BadCommand Unended", Fields.NOTHING),
+}
+# Of a word that is none of these.
+NONE = Form("", Answered.NOTHING, "BadCommand")
+
+
+def words_of(*fields: Fields) -> Tuple[str, ...]:
+    """The commands behind whose words this stands."""
+    return tuple(word for word, form in COMMANDS.items() if form.fields in fields)
+
+
+def answered_by(*kinds: Answered) -> Tuple[str, ...]:
+    """The commands with these answers."""
+    return tuple(word for word, form in COMMANDS.items() if form.answered in kinds)
+
+
+# Each has a block; each is a commit.
+BLOCKS = tuple(word for word, form in COMMANDS.items() if form.part)
+CHANGES = answered_by(Answered.COMMIT)

@@ -1,0 +1,47 @@
+"""The table of the language's commands: a command of fields and answers as others have needs no more than its line."""
+import re
+import unittest
+from unittest import mock
+
+from ruzgalt import answers
+from ruzgalt.answers import picks
+from ruzgalt.checking import again, refusals
+from ruzgalt.pictures import figures
+from ruzgalt.script.language import COMMANDS, Answered, Form, Role, answered_by
+from tests.support import TOP
+
+HOLDING = Form("holding,T,POINT[,asof,N]", Answered.ROWS, "BadCommand NoTable BadPoint Future", behind=(Role.POINT,))
+SCRIPT = b"""table,t,k,text
+load,t
+row,2024-01-01,2024-02-01,a
+end
+holding,t,2024-01-05,asof,2
+holding,t,2024-01-32
+holding,u,2024-01-05
+"""
+OUTPUT = b"ok,1\nok,2\nrow,1,2024-01-01,2024-02-01,a\nend,1\nerror,6,BadPoint\nerror,7,NoTable\n"
+
+
+class Language(unittest.TestCase):
+    def test_a_new_command_is_read_explained_picked_and_drawn_by_its_line(self) -> None:
+        with mock.patch.dict(COMMANDS, holding=HOLDING):
+            found = answers.of(SCRIPT, OUTPUT)
+            self.assertEqual(found[2].table.names, ["row_id", "valid_from", "valid_to", "k"])
+            self.assertEqual((found[2].commit, [one.answer.number for one in picks.pick(found, [], [], {})]), (2, [3]))
+            self.assertIsInstance(figures.of(found, found[2], figures.Wish()), figures.Bars)
+            self.assertIn("is no day that exists", refusals.reason(found[3]))
+            self.assertIn("is no table that is there: t", refusals.reason(found[4]))
+
+    def test_each_word_has_its_part_of_the_language_s_page(self) -> None:
+        page = TOP.joinpath("docs/LANGUAGE.md").read_text(encoding="utf-8")
+        headings = "".join(re.findall(r"^### .*$", page, re.MULTILINE))
+        self.assertEqual(set(re.findall(r"`(\w+)`", headings)), set(COMMANDS))
+
+    def test_each_query_is_done_again(self) -> None:
+        others = answered_by(Answered.PAIRS, Answered.LOG)
+        queries = {word for word, form in COMMANDS.items() if form.is_query}
+        self.assertEqual({*again.RECORDS, *others}, queries)
+
+
+if __name__ == "__main__":
+    unittest.main()
