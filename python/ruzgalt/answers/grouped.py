@@ -4,11 +4,12 @@ from typing import DefaultDict, List, NamedTuple, Sequence, Tuple
 
 from ruzgalt.answers import Answer
 from ruzgalt.errors import Misfit
+from ruzgalt.script.language import Answered
 from ruzgalt.script.records import short
 from ruzgalt.script.schemas import PERIOD, Column, Kind
 
 # Whose records are periods of one commit. Those of versions are of several.
-WORDS = ("rows", "anti", "join", "agg")
+PERIODS = (Answered.ROWS, Answered.PAIRS, Answered.STEPS)
 Values = Tuple[str, ...]
 
 
@@ -56,7 +57,7 @@ def refuse_others(answer: Answer) -> None:
     told = f"{answer.place}: {short(answer.command.text)}"
     if answer.command.word == "at":
         raise Misfit(f"{told}: an `at` tells of its point alone: ask by `rows`")
-    if answer.command.word in ("between", "fromto"):
+    if answer.command.form.answered is Answered.VERSIONS:
         raise Misfit(f"{told}: its records are versions of several commits: ask by `rows`, as of one of them")
-    if answer.command.word not in WORDS:
+    if answer.command.form.answered not in PERIODS:
         raise Misfit(f"{told}: its records aren't periods: ask by `rows`, `join`, `anti` or `agg`")

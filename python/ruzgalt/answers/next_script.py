@@ -56,14 +56,14 @@ def schema_of(answer: Answer, wish: Wish) -> Tuple[List[int], Schema]:
 
 def refuse_others(answer: Answer) -> None:
     """Refuses an answer whose records have no period, or are of several commits."""
-    if answer.command.word not in IDS:
+    if answer.command.form.answered not in IDS:
         told = f"{answer.place}: {short(answer.command.text)}"
         raise Misfit(f"{told}: its records aren't rows of one commit: ask by `rows`, `at`, `join`, `anti` or `agg`")
 
 
 def own_names(answer: Answer, has_ids: bool) -> List[str]:
     """The columns beside the period, without ids, which are those of the script behind."""
-    left_out = {column.name for column in PERIOD} | set(() if has_ids else IDS[answer.command.word])
+    left_out = {column.name for column in PERIOD} | set(() if has_ids else IDS[answer.command.form.answered])
     return [name for name in answer.table.names if name not in left_out]
 
 

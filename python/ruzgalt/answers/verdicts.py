@@ -1,5 +1,5 @@
 """What the verdict on a division says, in a sentence for a person."""
-from typing import Dict
+from typing import Dict, Mapping
 
 from ruzgalt.answers import Answer
 
@@ -18,13 +18,17 @@ NOT_CROWDED = "No: {parts} parts are enough, but {which}: it doesn't show that f
 
 def told(answer: Answer) -> str:
     """The sentence of a check's answer."""
-    verdict, reason, *numbers = next(answer.table.texts())
+    _, reason, *numbers = next(answer.table.texts())
     parts, instant = answer.command.front[2:4]
-    if verdict == "yes":
+    return sentence(reason, dict(zip(answer.table.names[2:], numbers)), parts, instant)
+
+
+def sentence(reason: str, numbers: Mapping[str, object], parts: object, instant: str) -> str:
+    """Of a verdict's reason, nothing of a `yes`; of its numbers by what they count; and of what is claimed."""
+    if not reason:
         why = "there are no rows" if instant == "-" else f"on {instant} as many rows hold"
         return YES.format(parts=parts, why=why)
-    names = dict(zip(answer.table.names[2:], numbers))
     if reason == "NotCrowded":
-        which = "no day is claimed" if instant == "-" else f"{instant} needs only {names['count']}"
+        which = "no day is claimed" if instant == "-" else f"{instant} needs only {numbers['count']}"
         return NOT_CROWDED.format(parts=parts, which=which)
-    return SENTENCES[reason].format(parts=parts, **names)
+    return SENTENCES[reason].format(parts=parts, **numbers)

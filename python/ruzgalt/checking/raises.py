@@ -8,7 +8,8 @@ from ruzgalt.answers.history import refuse_missing
 from ruzgalt.checking import refusals, replay
 from ruzgalt.errors import Misfit
 from ruzgalt.periods.rounding import Fraction, rounded
-from ruzgalt.script.fields import Field, Role
+from ruzgalt.script.fields import Field
+from ruzgalt.script.language import Role
 from ruzgalt.script.forms import is_integer, printed, read_point
 from ruzgalt.script.records import short
 from ruzgalt.script.schemas import Column, Kind, Schema, Table, ints, unique

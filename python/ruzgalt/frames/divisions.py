@@ -7,23 +7,17 @@ from typing import Any, List, Tuple
 import numpy as np
 import pandas as pd
 
+from ruzgalt.answers import verdicts
+from ruzgalt.answers.reading import VERDICTS
 from ruzgalt.frames import checks, classes, division, instants, script, values
 from ruzgalt.frames.arrays import NO_INTS, Ints
 from ruzgalt.frames.division import Division
 from ruzgalt.frames.errors import Refused, refuse
 from ruzgalt.frames.named import column_of
 from ruzgalt.frames.questions import Asked
+from ruzgalt.script.schemas import VERDICT
 
 COLUMNS = ("part", "row_id")
-
-
-# What each reason of a no says, with its numbers.
-REASONS = {
-    "WrongCount": "the number of parts is {}", "EmptyPart": "part {} has no row", "Unknown": "no row has the id {}",
-    "Twice": "the row of id {} stands twice", "Missing": "the row of id {} is in no part",
-    "Overlap": "the rows of ids {} and {} of one part overlap",
-    "NotCrowded": "the number of rows that hold at the instant is {}",
-}
 
 
 @dataclass(frozen=True, repr=False)
@@ -38,6 +32,8 @@ class Verdict:
         Where not, the word of the language: WrongCount, EmptyPart, Unknown, Twice, Missing, Overlap or NotCrowded.
     numbers : tuple of int
         The reason's numbers, as of Overlap the ids of two rows.
+    count, instant : int, str
+        What was claimed: how many parts there are, and when as many rows hold, as the language has it.
 
     Examples
     --------
@@ -48,20 +44,24 @@ class Verdict:
     commit 2: 2 added, 0 closed
     >>> division = store.dip("stay")
     >>> store.check("stay", division)
-    yes
+    Yes: no two rows of a part overlap, and fewer parts than 2 can't do: on 2024-01-03 as many rows hold.
     >>> store.check("stay", division.parts.assign(part=0), count=1, instant="2024-01-01")
-    no, Overlap: the rows of ids 1 and 2 of one part overlap
+    No: rows 1 and 2 are in one part, and overlap.
     """
 
     is_yes: bool
     reason: str = ""
     numbers: Tuple[int, ...] = ()
+    count: int = 0
+    instant: str = "-"
 
     def __bool__(self) -> bool:
         return self.is_yes
 
     def __repr__(self) -> str:
-        return "yes" if self.is_yes else f"no, {self.reason}: {REASONS[self.reason].format(*self.numbers)}"
+        places = VERDICTS.get(self.reason, ())
+        numbers = {VERDICT[2 + place].name: number for place, number in zip(places, self.numbers)}
+        return verdicts.sentence(self.reason, numbers, self.count, self.instant)
 
 
 def dip(asked: Asked, name: str) -> Division[Any]:
@@ -84,10 +84,11 @@ def check(asked: Asked, name: str, parts: Any, count: Any, instant: Any) -> Verd
     if count is None:
         raise Refused("BadCommand", "count= and instant= tell how many parts there are, when as many rows hold")
     point = "-" if instant is None else instants.text_of(instant)
-    fields = ["check", name, str(checks.whole("count", count, 0)), point]
+    claimed = checks.whole("count", count, 0)
+    fields = ["check", name, str(claimed), point]
     records = [["part", *map(str, ids.tolist())] for ids in lists]
     answer = asked.book.answer(script.block([*fields, *asked.suffix], records)).record()
-    return Verdict(answer[0] == "yes", "".join(answer[1:2]), tuple(map(int, answer[2:])))
+    return Verdict(answer[0] == "yes", "".join(answer[1:2]), tuple(map(int, answer[2:])), claimed, point)
 
 
 def lists_of(parts: Any) -> List[Ints]:

@@ -781,9 +781,9 @@ class Store:
         --------
         >>> division = store.dip("pay")
         >>> store.check("pay", division)
-        yes
+        Yes: no two rows of a part overlap, and fewer parts than 2 can't do: on 2024-03-01 as many rows hold.
         >>> store.check("pay", division.parts.assign(part=0), count=1, instant="2024-03-01")
-        no, Overlap: the rows of ids 3 and 2 of one part overlap
+        No: rows 3 and 2 are in one part, and overlap.
         """
         return divisions.check(self.asked(as_of), name, parts, count, instant)
 

@@ -13,7 +13,7 @@ def marks(then: Answer, now: Answer) -> Optional[List[str]]:
 
     So a row that was cut in two, and says the same, has 0. Nothing where such answers aren't compared by their times.
     """
-    if then.command.word not in IDS:
+    if then.command.form.answered not in IDS:
         return None
     sides = [compared(answer)[1] for answer in (then, now)]
     found = list(changes(*sides))
