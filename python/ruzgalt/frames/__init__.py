@@ -16,11 +16,12 @@
 A module stands on those above it:
 
     arrays, errors          arrays of numpy; the exceptions
-    checks, named           what is given to a call, by its type; a frame's columns by their names
+    named, checks           a frame's columns by their names; what is given to a call, by its type
     kinds, zones            the kinds of points; days in a time zone
     arrow                   columns in types of pyarrow
     points, values          columns as seconds, numbers and texts, and back
-    missing                 rows that may be none, whose cells are missing
+    intervals, missing      a period in one column; rows that may be none, whose cells are missing
+    printing                numbers, texts and points as bytes of a script
     sides, script           rows on their way; a script in pieces
     worker, running         where a task of Dask runs; a run of the program
     output                  its answers as columns
@@ -28,13 +29,15 @@ A module stands on those above it:
     options, answer         what may be given to a call; the columns of an answer, and their names
     measures                what an aggregate tells: one function of rows, or several
     doubts                  what may not be meant
+    classes                 a number in place of a row's compared values
     pairs, groups, division join and anti; agg; dip
     united, amounts         coalesce, gaps and overlaps; spread
     partitions, clipping    the same of Dask, by value; rows for slices of time
     slices                  by time
     calls                   pandas or Dask
     instants, rows          single points; at and during
-    tables                  a table of a store
+    singles, stand_ins      single values; those that stand for missing cells
+    tables, standing        a table of a store; the rows that it has now
     keys, changes, unmeant  why a key refuses; what a change is; what may not be meant by it
     book                    what a store holds at one moment
     questions, divisions    what is asked of it

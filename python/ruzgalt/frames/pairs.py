@@ -105,7 +105,7 @@ def overlaps(frame: Any, options: Options) -> Any:
     frame, side = by_groups(frame, options)
     doubts.of_decimals(options.decimals, frame)
     doubts.of_groups(side.columns)
-    doubts.of_ends(side, side.columns, options.period[1], options.form.has_last_days)
+    doubts.of_ends(side, side.columns, options.period[-1], options.form.has_last_days)
     return overlapping(frame, side, options)
 
 

@@ -49,6 +49,9 @@ class Intervals(unittest.TestCase):
             pd.testing.assert_series_equal(ruzgalt.dip(one, period="span").parts, ruzgalt.dip(left).parts)
             self.assertEqual(ruzgalt.dip(one, period="span").instant, ruzgalt.dip(left).instant)
             self.same(ruzgalt.at(one, "2024-01-09", period="span"), ruzgalt.at(left, "2024-01-09"))
+            self.same(ruzgalt.coalesce(one, "k", period="span"), ruzgalt.coalesce(left, "k"))
+            self.same(ruzgalt.gaps(one, "k", period="span"), ruzgalt.gaps(left, "k"))
+            self.same(ruzgalt.overlaps(one, "k", period="span"), ruzgalt.overlaps(left, "k"))
 
     def test_one_side_may_have_two_columns(self):
         for left, right in self.both:
