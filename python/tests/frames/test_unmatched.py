@@ -14,7 +14,7 @@ CELLS = {
     "bool": pd.Series([True, False, True]), "boolean": pd.Series([True, None, False], dtype="boolean"),
     "float32": pd.Series([1.5, float("nan"), 0.5], dtype="float32"), "str": pd.Series(["a", "", None], dtype=object),
     "string": pd.Series(["a", "b", None], dtype="string"), "category": pd.Series(["a", "b", None], dtype="category"),
-    "whole": pd.Series([3, 1, 3], dtype="category"), "ns": pd.Series(pd.to_datetime(["2024-01-05", None, "2025"])),
+    "whole": pd.Series([3, 1, 3], dtype="category"), "ns": pd.Series(pd.to_datetime(["2024-01-05", None, "2025-01-01"])),
     "zone": pd.Series(pd.to_datetime(["2024-01-05", None, "2025-01-01"])).dt.tz_localize("Europe/Berlin"),
     "day": pd.Series(pd.PeriodIndex(["2024-01-05", None, "2024-02-01"], freq="D")),
     "date": pd.Series([datetime.date(2024, 1, 5), None, (1, 2)], dtype=object),
