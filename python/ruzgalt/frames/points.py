@@ -29,6 +29,8 @@ LENGTHS = {"D": DAY, "S": 1}
 LAST_BUT_ONE = NO_END - DAY
 # The years of points in a time zone, by whether they are of datetime64[ns]: those before and behind are there too.
 ZONED = {False: ("0002", "9998"), True: ("1678", "2261")}
+# Tables of days begin at numbers of days that are so many times another; those of at most so many days are kept.
+YEARS, KEPT = 1 << 13, 1 << 18
 # What is behind the year of a day, by month and day.
 MONTH_DAYS: Cells = np.array([b"-%02d-%02d" % (month, day) for month in range(1, 13) for day in range(1, 32)], "S6")
 
@@ -304,8 +306,20 @@ def printed_days(days: Ints) -> Printed:
     if high - low > len(days):
         codes, found = pd.factorize(days)
         return Printed(table_of_days(found), codes)
-    codes = np.where(is_far, high + 1 - low, days - low)
-    return Printed(table_of_days(np.append(np.arange(low, high + 1), far)), codes)
+    # Columns of one call share a table, as they share their years.
+    low, high = low - low % YEARS, min(high - high % YEARS + YEARS, far)
+    table = kept_days(low, high) if high - low <= KEPT else days_between(low, high)
+    return Printed(table, np.where(is_far, high + 1 - low, days - low))
+
+
+def days_between(low: int, high: int) -> Cells:
+    """A table of these days, and behind them of the one that stands for no end."""
+    return table_of_days(np.append(np.arange(low, high + 1), NO_END // DAY))
+
+
+@lru_cache(maxsize=2)
+def kept_days(low: int, high: int) -> Cells:
+    return days_between(low, high)
 
 
 def table_of_days(days: Ints) -> Cells:
