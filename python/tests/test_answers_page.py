@@ -221,6 +221,30 @@ class Contents(ToolCase):
         told = [(one["name"], one["place"], one["command"]) for one in questions]
         self.assertEqual(told, [("all", "--ask", "rows,t")])
 
+    def test_a_question_of_the_script_gets_a_name(self) -> None:
+        words = ["tools/answers", "page", "examples/pay.csv", "--answers", "examples/pay.csv.stdout"]
+        status, page, said = run([*words, "@7=august", "--title", "<b>Löhne</b>", "--note", "First\nSecond"])
+        self.assertEqual((status, said), (0, ""))
+        data = data_of(page)["data"]
+        self.assertEqual([one["name"] for one in data["questions"]], ["august", "", "", ""])
+        self.assertEqual((data["title"], data["note"]), ("<b>Löhne</b>", "First\nSecond"))
+        self.assertIn("@7=august --answers pay.csv.stdout --title '<b>Löhne</b>' --note", data["command"])
+        self.check([*words, "@7"], "", 1, "answers: @7: the page has all answers, and @7=NAME names one of them")
+        self.check([*words, "@99=x"], "", 1, "answers: @99: no such answer")
+
+    def test_columns_say_how_their_fields_are_shown(self) -> None:
+        words = ["tools/answers", "page", "examples/pay.csv", "--answers", "examples/pay.csv.stdout"]
+        status, page, said = run([*words, "--decimals", "euros=2", "--last-day", "--german"])
+        self.assertEqual((status, said), (0, ""))
+        data = data_of(page)["data"]
+        shown = [["valid_from", "point"], ["last_day", "point", {"end": "valid_to"}]]
+        values = [["person", "text"], ["euros", "int", {"digits": 2}]]
+        self.assertEqual(data["questions"][0]["columns"], [["row_id", "int"], *shown, *values])
+        commits = [["sys_from", "int"], ["sys_to", "int"]]
+        self.assertEqual(data["tables"][0]["columns"], [["row_id", "int"], *shown, *commits, *values])
+        self.assertTrue(data["command"].endswith("--decimals euros=2 --german --last-day"))
+        self.check([*words, "--decimals", "cents=2"], "", 1, "--decimals cents: no column of numbers, but row_id")
+
     def test_checks_of_other_parts_are_no_pair(self) -> None:
         rows = f"table,t\nload,t\nrow,{TIME}\nend\nload,t\nrow,{TIME}\nend\n"
         then = "check,t,1,2024-01-01,asof,2\npart,1\nend\n"
@@ -333,7 +357,8 @@ class Programs(unittest.TestCase):
             program.write_text(FAKE.format(told))
             program.chmod(0o700)
             words = {"program": str(program), "go_on": True, "ask": ask or [], "once": once}
-            return sources.ask(Namespace(script=name, answers=None, diary=None, **words))
+            looks = Namespace(decimals=[], german=False, last_day=False, title="", note="", pick=[])
+            return sources.ask(Namespace(script=name, answers=None, diary=None, **words, **vars(looks)))
 
     def test_versions_are_asked_for_behind_the_script(self) -> None:
         self.assertEqual(sources.questions_for(b"table,t\ntable,u\ntable,t\ntable,asof\n"), [

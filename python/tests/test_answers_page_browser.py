@@ -344,6 +344,46 @@ class Times(BrowserCase):
         self.assertEqual([row[0] for row in self.cells("#pairs", 1)], ["only now"])
 
 
+class Shown(BrowserCase):
+    """Amounts with decimals, and ends as last days."""
+
+    def of(self, *words: str) -> None:
+        rows = "row,2024-01-01,2024-03-01,1234567\nrow,2024-03-01,9999-12-31,-5\n"
+        told = "row,1,2024-01-01,2024-03-01,1234567\nrow,2,2024-03-01,9999-12-31,-5\nend,2\n"
+        script = f"table,t,cents,int\nload,t\n{rows}end\nrows,t\n"
+        self.open(page_of(script, f"ok,1\nok,2\n{told}", "--decimals", "cents=2", "--last-day", *words))
+
+    def test_amounts_and_last_days_stand_in_all_tables(self) -> None:
+        self.of()
+        wanted = [["1", "2024-01-01", "2024-02-29", "12,345.67"], ["2", "2024-03-01", "9999-12-31", "-0.05"]]
+        self.assertEqual(self.cells("#questions"), wanted)
+        heads = self.value("[...document.querySelectorAll('#questions th button')].map((one) => one.textContent)")
+        self.assertEqual(heads, ["row_id", "valid_from", "last_day", "cents"])
+        self.assertEqual(self.cells("#tables", 1)[0][:5], ["2024-03-01", "9999-12-31", "2", "", "-0.05"])
+        self.of("--german")
+        self.assertEqual([row[3] for row in self.cells("#questions")], ["12.345,67", "-0,05"])
+
+    def test_what_is_saved_is_exact_or_for_a_spreadsheet(self) -> None:
+        self.of("--german")
+        grid = "blockOf('records-3'), data.questions[0].columns"
+        saved = "((records, columns) => FORMS.map((form) => csvOf(columns, records, form)))"
+        made = self.value(f"{saved}({grid})")
+        first, second = "1,2024-01-01", "2,2024-03-01"
+        exact = f"row_id,valid_from,valid_to,cents\n{first},2024-03-01,1234567\n{second},9999-12-31,-5\n"
+        self.assertEqual(made[0], exact)
+        head = "\ufeffrow_id,valid_from,last_day,cents\r\n"
+        self.assertEqual(made[1], f"{head}{first},2024-02-29,12345.67\r\n{second},9999-12-31,-0.05\r\n")
+        german = made[1].replace(",", ";").replace(".", ",")
+        self.assertEqual(made[2], german)
+
+    def test_a_title_and_a_note_stand_above_all(self) -> None:
+        self.of("--title", "<i>May</i>", "--note", "One\n\nTwo", "3=all")
+        self.assertEqual(self.value("[document.title, document.querySelector('h1').textContent]"), ["<i>May</i>"] * 2)
+        notes = self.value("[...document.querySelectorAll('header p.note')].map((one) => one.textContent)")
+        self.assertEqual(notes, ["One", "Two"])
+        self.assertEqual(self.value("document.querySelector('#questions h3').textContent"), "all: rows,t")
+
+
 class Looks(BrowserCase):
     def keep(self, name: str, data: bytes) -> None:
         if "PICTURES" in os.environ:

@@ -29,6 +29,12 @@ class Amounts:
             if not any(Amounts([(name, 0)]).of(one) == 0 for one in known):
                 raise Misfit(f"--decimals {name}: no column of numbers, but {', '.join(known) or 'none is one'}")
 
+    def known_to(self, table: Table) -> "Amounts":
+        """Only the columns that the table has."""
+        names = [column.name for column in table.columns if column.kind is Kind.INT]
+        known = [one for one in self.digits if any(Amounts([one]).of(name) is not None for name in names)]
+        return Amounts(known, self.is_german)
+
     def parted(self, number: int, digits: int) -> str:
         """A whole number of the smallest unit: with two digits, 123450 is 1,234.50."""
         whole, rest = divmod(abs(number), 10 ** digits)

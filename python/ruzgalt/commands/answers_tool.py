@@ -266,10 +266,14 @@ def words_of_picture(parser: ArgumentParser) -> None:
 
 
 def words_of_page(parser: ArgumentParser) -> None:
+    parser.add_argument("pick", nargs="*", metavar="PICK=NAME", default=[], help="gives an answer's question a name")
+    parser.add_argument("--title", default="", metavar="TEXT", help="what stands above all")
+    parser.add_argument("--note", default="", metavar="TEXT", help="what is to be read first")
     parser.add_argument("--diary", metavar="TABLE", help="a table whose first column is the newest commit of a time")
     parser.add_argument(
         "--once", action="store_true", help="doesn't do the program's answers again, which the page then tells",
     )
+    words_of_looks(parser, "amounts are as 1.234,50")
 
 
 def words_of_overlaps(parser: ArgumentParser) -> None:

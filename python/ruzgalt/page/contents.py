@@ -4,6 +4,7 @@ from itertools import islice
 from typing import Any, Dict, Iterator, List, NamedTuple, Optional, Sequence, Tuple, TypeVar
 
 from ruzgalt.answers import Answer, history, picks, verdicts
+from ruzgalt.answers.shown import Look
 from ruzgalt.commands import called
 from ruzgalt.commands.given import EMPTY
 from ruzgalt.page import drawings, findings, pairs
@@ -11,7 +12,7 @@ from ruzgalt.page.sources import CLOSED, MADE, VALUES, Marked, Sources, Tally, t
 from ruzgalt.pictures import figures
 from ruzgalt.script.language import CHANGES
 from ruzgalt.script.records import short
-from ruzgalt.script.schemas import Column, Schema, Table
+from ruzgalt.script.schemas import Schema, Table
 
 # So many records of a table are shown; so many questions, pictures, commits, and parts of a check are there at most.
 SHOWN, QUESTIONS, PICTURES, COMMITS, PARTS = 1_000, 1_000, 200, 50_000, 1_000
@@ -54,7 +55,10 @@ def of(sources: Sources, diary: Optional[str]) -> Contents:
     commits = list(commits_of(sources, counts, days))
     found = findings.of(sources, counts)
     doubtful = [*doubts_of(sources, diary, days), *found.doubtful]
+    sources.look.refuse_strangers(*(answer.table for answer in kept), *sources.versions.values())
     data = {
+        "title": sources.title, "note": sources.note, "isGerman": sources.look.amounts.is_german,
+        "hasLastDays": sources.look.has_last_days,
         "script": as_object(sources.script), "scriptWord": sources.word, "command": sources.command,
         "files": [as_object(file) for file in sources.files],
         "isOwn": sources.is_own, "isDoneAgain": sources.is_done_again, "hasPrinted": sources.has_printed,
@@ -93,11 +97,12 @@ class Parts:
         for answer in kept:
             has_all = self.add_records(answer, room, shown)
             is_past = drawn == PICTURES and figures.is_drawn(answer)
-            drawing = NO_ROOM if is_past else drawings.of(self.sources.answers, answer)
+            drawing = NO_ROOM if is_past else drawings.of(self.sources.answers, answer, self.sources.look.amounts)
             drawn += drawing.tree is not None
             yield {
                 "number": answer.number, "place": answer.place, "command": short(answer.command.text),
-                "word": answer.command.word, "commit": answer.commit, "columns": columns_of(answer.table.columns),
+                "word": answer.command.word, "commit": answer.commit,
+                "columns": columns_of(answer.table, self.sources.look),
                 "count": len(answer.table.records), "hasAll": has_all, "shown": shown,
                 "name": self.sources.names.get(answer.number, ""), "told": told_of(answer), "parts": parts_of(answer),
                 "picture": drawing.tree, "noPicture": drawing.why,
@@ -124,7 +129,8 @@ class Parts:
             else:
                 self.left_out.append(f"the {count:,} versions of {name}, and so what held on each day")
             yield {
-                "name": name, "columns": columns_of(table.columns), "key": key_places(self.sources.tables[name]),
+                "name": name, "columns": columns_of(table, self.sources.look),
+                "key": key_places(self.sources.tables[name]),
                 "count": count, "isThere": is_there, "number": number,
             }
 
@@ -178,8 +184,14 @@ def as_json(table: Table, most: Optional[int] = None) -> str:
     return json.dumps(list(islice(table.texts(), most)), separators=(",", ":"))
 
 
-def columns_of(columns: Sequence[Column]) -> List[List[str]]:
-    return [[column.name, column.kind.value] for column in columns]
+def columns_of(table: Table, look: Look) -> List[List[Any]]:
+    """The name of each column, its kind, and how its fields are shown where that isn't as they are."""
+    found: List[List[Any]] = []
+    for own, column in zip(table.columns, look.columns(table)):
+        how = look.look_of(own)
+        shown = [] if how.digits is None else [{"digits": how.digits}]
+        found.append([column.name, column.kind.value, *shown, *([{"end": own.name}] if how.is_end else [])])
+    return found
 
 
 def told_of(answer: Answer) -> str:

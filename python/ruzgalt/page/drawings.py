@@ -5,6 +5,7 @@ from typing import Any, Dict, List, NamedTuple, Optional, Sequence
 from xml.etree.ElementTree import Element
 
 from ruzgalt.answers import Answer
+from ruzgalt.answers.amounts import Amounts
 from ruzgalt.commands import called
 from ruzgalt.errors import Misfit
 from ruzgalt.pictures import figures, svg
@@ -31,7 +32,7 @@ class Drawing(NamedTuple):
     why: str = ""
 
 
-def of(found: Sequence[Answer], answer: Answer) -> Drawing:
+def of(found: Sequence[Answer], answer: Answer, amounts: Amounts) -> Drawing:
     if not figures.is_drawn(answer):
         return Drawing(None)
     count = len(answer.table.records)
@@ -41,7 +42,8 @@ def of(found: Sequence[Answer], answer: Answer) -> Drawing:
         told = f"No picture: {count:,} records are more than {MOST}. `{called.ANSWERS} picture` draws some of them."
         return Drawing(None, told)
     try:
-        text = svg.draw(figures.of(of_one_table(found, answer), answer, figures.Wish()), WIDTH)
+        wish = figures.Wish(amounts=amounts.known_to(answer.table))
+        text = svg.draw(figures.of(of_one_table(found, answer), answer, wish), WIDTH)
     except Misfit:
         return Drawing(None, "No picture of several facts in one: each has its own under Tables over time.")
     prefix = f"p{answer.number}-"

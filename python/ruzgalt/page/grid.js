@@ -59,6 +59,35 @@ function counted(count, what) {
   return `${grouped(count)} ${what}${count === 1 ? "" : "s"}`;
 }
 
+// --- How fields are shown ---
+
+// The whole number of the smallest unit with its decimals: of 2, 123450 is 1,234.50; without a mark between thousands
+// where that is the empty text.
+function money(field, digits, [thousands, decimals]) {
+  const sign = field.startsWith("-") ? "-" : "", number = field.slice(sign.length).padStart(digits + 1, "0");
+  const end = number.length - digits, whole = number.slice(0, end).replace(/\B(?=(\d{3})+$)/g, thousands);
+  return `${sign}${whole}${digits ? decimals + number.slice(end) : ""}`;
+}
+
+// The day before an end. One in the year 9999 isn't known, and stays.
+function lastDay(end) {
+  const day = new Date(`${end}T00:00:00Z`);
+  day.setUTCDate(day.getUTCDate() - 1);
+  return end >= OPEN ? end : day.toISOString().slice(0, 10);
+}
+
+// A field as a column shows it, which may have decimals, or ends that are shown as last days.
+function shownAs([, , look], field, marks) {
+  if (look === undefined || field === "") {
+    return field;
+  }
+  return look.end === undefined ? money(field, look.digits, marks) : lastDay(field);
+}
+
+function shownField(column, field) {
+  return shownAs(column, field, data.isGerman ? [".", ","] : [",", "."]);
+}
+
 // --- Orders ---
 
 function byNumber(one, other) {
@@ -142,7 +171,7 @@ class Grid {
   found() {
     const { words, sorted, only } = this;
     const isWanted = (record) => (!only || record[only.place] === only.field)
-      && (!words || record.some((field) => field.toLowerCase().includes(words)));
+      && (!words || record.some((field, place) => shownField(this.columns[place], field).toLowerCase().includes(words)));
     const found = this.records.filter(isWanted);
     if (sorted !== null) {
       const compare = orderOf(this.columns[sorted][1]), sign = this.isFalling ? -1 : 1;
@@ -163,14 +192,15 @@ class Grid {
       this.told.append(make("span", { class: "on-paper" }, `; on paper the first ${ON_PAPER}`));
     }
     this.all.hidden = only === null;
-    this.all.textContent = only ? `${this.columns[only.place][0]}: ${seen(only.field) || "empty"} \u00d7` : "";
+    const told = only ? seen(shownField(this.columns[only.place], only.field)) || "empty" : "";
+    this.all.textContent = only ? `${this.columns[only.place][0]}: ${told} \u00d7` : "";
     this.all.setAttribute("aria-label", "Show all records again");
     this.more.hidden = limit >= data.shown || found.length <= limit;
   }
 
   rowOf(record) {
     const kinds = record.map((field, place) => `${this.columns[place][1]}${field.length <= BRIEF ? " brief" : ""}`);
-    const cells = record.map((field, place) => make("td", { class: kinds[place] }, field));
+    const cells = record.map((field, place) => make("td", { class: kinds[place] }, shownField(this.columns[place], field)));
     return make("tr", { class: this.look(record) }, ...cells);
   }
 

@@ -33,8 +33,11 @@ function againTold() {
 
 function showHead() {
   const { name } = data.script;
-  document.title = `Answers to ${seen(name)}`;
-  document.getElementById("name").textContent = seen(name);
+  const title = seen(data.title || `Answers to ${name}`);
+  document.title = title;
+  document.querySelector("h1").textContent = title;
+  const notes = data.note.split("\n").filter((line) => line.trim());
+  document.querySelector("h1").after(...notes.map((line) => make("p", { class: "note" }, line)));
   const findings = [[data.refused, "refused"], [data.idle, "touched nothing"], [data.doubtful, "may not be meant"]];
   const short = findings.map(([found, what]) => `${grouped(found.length)} ${what}`).join(", ");
   const counts = `${counted(data.newest, "commit")}, ${counted(data.questions.length, "question")}; ${short}.`;
@@ -225,6 +228,8 @@ function showAbout() {
     make("p", {}, "A period begins with its first point and ends before its second; 9999-12-31 stands for an end that isn't "
       + "known. Records are sorted and filtered in the page alone. What is saved as CSV has all records of a table that are in "
       + "the page, in the order of the answer."),
+    ...(data.hasLastDays ? [make("p", {}, "In a column last_day stands the last day on which a record holds, and not its end; "
+      + "what is saved as the program prints it has ends.")] : []),
     make("h3", {}, "Left out of this page"), make("ul", {}, ...left.map((one) => make("li", {}, one))));
 }
 

@@ -20,8 +20,12 @@ function csvField(text, isAlone, mark) {
 }
 
 function csvOf(columns, records, { mark, end, isGuarded }) {
-  const guarded = (row) => row.map((field, place) => (isGuarded && isRun(field, columns[place]) ? GUARD + field : field));
-  const rows = [columns.map(([name]) => name), ...records.map(guarded)];
+  const marks = ["", mark === ";" ? "," : "."];
+  const saved = (field, column) => (isRun(field, column) ? GUARD + field : shownAs(column, field, marks));
+  const guarded = (row) => row.map((field, place) => (isGuarded ? saved(field, columns[place]) : field));
+  // As the program prints them, ends are no last days.
+  const names = columns.map(([name, , look]) => (isGuarded || !look?.end ? name : look.end));
+  const rows = [names, ...records.map(guarded)];
   const lines = rows.map((row) => `${row.map((field) => csvField(field, row.length === 1, mark)).join(mark)}${end}`);
   return (isGuarded ? BYTE_ORDER_MARK : "") + lines.join("");
 }

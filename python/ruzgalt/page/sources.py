@@ -6,12 +6,14 @@ from pathlib import Path
 from typing import Counter as Counts
 from typing import Dict, List, NamedTuple, Optional, Sequence
 
-from ruzgalt.answers import Answer
+from ruzgalt.answers import Answer, picks
+from ruzgalt.answers.shown import Look
 from ruzgalt.checking import fitting
 from ruzgalt.checking.again import texts_of
 from ruzgalt.checking.replay import Replay, behind
 from ruzgalt.commands import called, shell
 from ruzgalt.commands.given import Found, bytes_of, read
+from ruzgalt.commands.words import look_of
 from ruzgalt.errors import Misfit
 from ruzgalt.script.commands import commands
 from ruzgalt.script.forms import is_name
@@ -51,8 +53,12 @@ class Sources(NamedTuple):
     # The versions of each table, and whether the program printed them: else they are of the changes, done again.
     versions: Dict[str, Table]
     has_printed: bool
-    # The names of questions that were asked with one, by their answers' numbers.
+    # The names of questions that have one, by their answers' numbers.
     names: Dict[int, str]
+    # What stands above all, and how amounts and ends are shown.
+    title: str = ""
+    note: str = ""
+    look: Look = Look()
 
     @property
     def tables(self) -> Dict[str, Schema]:
@@ -107,15 +113,31 @@ def ask(options: Namespace) -> Sources:
     tables = own[-1].tables if own else {}
     made = {name: printed[name] if name in printed else done_again(replay, tables[name]) for name in tables}
     word, command = shell.quoted(word_of(options.script)), command_of(options, words)
-    mark = marked(options.script, script)
-    return Sources(mark, word, command, own, files, found.is_own, is_done_again, made, bool(printed), found.names)
+    mark, names = marked(options.script, script), named_by(own, options.pick, found.names)
+    kept = Sources(mark, word, command, own, files, found.is_own, is_done_again, made, bool(printed), names)
+    return kept._replace(title=options.title, note=options.note, look=look_of(options))
+
+
+def named_by(found: Sequence[Answer], words: Sequence[str], names: Dict[int, str]) -> Dict[int, str]:
+    """The names of questions, with those that words give to answers."""
+    given = dict(names)
+    for word in words:
+        if "=" not in word:
+            raise Misfit(f"{word}: the page has all answers, and {word}=NAME names one of them")
+        one = picks.picked(found, word, names)
+        given[one.answer.number] = one.name
+    return given
 
 
 def command_of(options: Namespace, asked: Sequence[str]) -> str:
-    words = [called.ANSWERS, "page", word_of(options.script)]
+    words = [called.ANSWERS, "page", word_of(options.script), *options.pick]
     words.extend(["--answers", word_of(options.answers)] if options.answers else [])
     words.extend(["--diary", options.diary] if options.diary else [])
     words.extend(word for question in asked for word in ("--ask", question))
+    words.extend(["--title", options.title] if options.title else [])
+    words.extend(["--note", options.note] if options.note else [])
+    words.extend(word for name, digits in options.decimals for word in ("--decimals", f"{name}={digits}"))
+    words.extend([*["--german"] * options.german, *["--last-day"] * options.last_day])
     return shell.joined([*words, *(["--once"] if options.once else [])])
 
 

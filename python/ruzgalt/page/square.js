@@ -15,6 +15,7 @@ function secondsOf(point) {
 class Square {
   constructor(versions, columns, fact) {
     this.versions = versions;
+    this.columns = columns;
     this.names = columns.map(([name]) => name);
     const commits = versions.flatMap((one) => [one[MADE], one[CLOSED]]).filter(Boolean).map(Number);
     this.commits = [...new Set(commits)].sort((one, other) => one - other);
@@ -79,7 +80,8 @@ class Square {
       .filter((place) => new Set(this.versions.map((one) => one[place])).size > 1);
     const shades = new Map();
     return this.versions.flatMap((version) => {
-      const label = different.map((place) => version[place]).join(" ") || version.slice(VALUES).join(" ") || `row ${version[0]}`;
+      const shown = version.map((field, place) => shownField(this.columns[place], field));
+      const label = different.map((place) => shown[place]).join(" ") || shown.slice(VALUES).join(" ") || `row ${version[0]}`;
       shades.set(label, shades.get(label) ?? shades.size % SHADES);
       return this.bar(version, label, shades.get(label));
     });

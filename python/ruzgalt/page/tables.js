@@ -142,7 +142,8 @@ class Fact {
     for (const version of this.versions) {
       const values = places.map((place) => version[place]), key = JSON.stringify(values);
       if (!facts.has(key)) {
-        facts.set(key, { key, label: values.join(", ") || "(the empty text)", versions: [] });
+        const shown = places.map((place) => shownField(this.table.columns[place], version[place]));
+        facts.set(key, { key, label: shown.join(", ") || "(the empty text)", versions: [] });
       }
       facts.get(key).versions.push(version);
     }
