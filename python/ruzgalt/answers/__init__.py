@@ -13,7 +13,7 @@
     calendar, unions    what they come to by month; the periods in which one of a group holds
     next_script         an answer as a table and a load of another script
     front               whether kept answers are still the front of today's
-    verdicts            verdicts on divisions in sentences
+    divided, verdicts   divisions with their rows, and by groups; verdicts in sentences
     amounts, shown      numbers with decimals; an answer as a person reads it
     export              CSV and JSON
     spreadsheets        CSV for a spreadsheet

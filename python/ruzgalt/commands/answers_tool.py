@@ -9,11 +9,11 @@ from pathlib import Path
 from typing import Callable, Dict, Iterator, NamedTuple, Optional, Sequence
 
 from ruzgalt import answers, which
-from ruzgalt.answers import asking, changes, databases, export, front, history, picks, spreadsheets
+from ruzgalt.answers import asking, changes, databases, divided, export, front, history, picks, spreadsheets
 from ruzgalt.checking import fitting, marks, overlaps, queries, refusals, single
 from ruzgalt.checking.replay import Replay
 from ruzgalt.commands import called, going_on, over_time, picture, streams
-from ruzgalt.commands.given import bytes_of, chosen, last, read, warn
+from ruzgalt.commands.given import Found, bytes_of, chosen, last, read, warn
 from ruzgalt.commands.progress import Progress
 from ruzgalt.commands.words import Words, look_of, pair, words_of_looks
 from ruzgalt.errors import Misfit
@@ -68,6 +68,8 @@ def do_csv(options: Namespace) -> None:
         raise Misfit("--replace replaces files of a --folder, and none is given: what is printed replaces no file")
     if options.german and not (options.for_spreadsheet or options.decimals):
         raise Misfit("--german is of a spreadsheet or of decimals, and stands beside --for-spreadsheet or --decimals")
+    if options.folder and (options.rows or options.by):
+        raise Misfit("--rows and --by are of one division, and not of a --folder")
     found, look = read(options), look_of(options)
     if options.folder:
         picked = chosen(found, options.pick)
@@ -76,9 +78,19 @@ def do_csv(options: Namespace) -> None:
         warn_of_formulas(options, [pick.answer.table for pick in picked])
     else:
         [answer] = last(found, options.pick, 1)
-        look.refuse_strangers(answer.table)
-        streams.show_records(printed(options, answer.table))
-        warn_of_formulas(options, [answer.table])
+        table = asked_table(options, found, answer)
+        look.refuse_strangers(table)
+        streams.show_records(printed(options, table))
+        warn_of_formulas(options, [table])
+
+
+def asked_table(options: Namespace, found: Found, answer: answers.Answer) -> Table:
+    """The answer's table, or that of a division with its rows, or with those of each group."""
+    if options.by:
+        if options.answers is not None:
+            raise Misfit("--by: each group's division is asked of the program, and with --answers none is run")
+        return divided.by_groups(found.answers, answer, options.by, options.program)
+    return divided.with_rows(found.answers, answer) if options.rows else answer.table
 
 
 def printed(options: Namespace, table: Table) -> Iterator[bytes]:
@@ -241,6 +253,11 @@ def words_of_csv(parser: ArgumentParser) -> None:
     parser.add_argument(
         "--for-spreadsheet", action="store_true",
         help="puts an apostrophe before texts that a spreadsheet would run as formulas, and a byte order mark in front",
+    )
+    parser.add_argument("--rows", action="store_true", help="of a division: each row's period and values too")
+    parser.add_argument(
+        "--by", action="append", default=[], metavar="COLUMN",
+        help="of a division: the own division of each group of equal values, with rows",
     )
     words_of_looks(parser, "decimals are as 1234,50; beside --for-spreadsheet: semicolons between fields")
 

@@ -1,0 +1,84 @@
+"""Divisions with their rows, and by groups, beside how many rows hold on each day."""
+import os
+import unittest
+from collections import Counter, defaultdict
+from datetime import date, timedelta
+from pathlib import Path
+from typing import Counter as Counts, DefaultDict, List, Tuple
+
+from tests.support import TOP, ToolCase, run
+
+try:
+    from hypothesis import given, settings
+    from hypothesis import strategies as st
+
+    from tests.test_answers_over_time import Case, cases, read
+except ModuleNotFoundError as error:
+    raise unittest.SkipTest("rows that hypothesis draws") from error
+
+PROGRAM = Path(os.environ.get("DIPQ", TOP / "crates/dipq/out/dipq")).resolve()
+EXAMPLES = int(os.environ.get("TOOLS_EXAMPLES", "100"))
+DRAWN = settings(max_examples=EXAMPLES, deadline=None, database=None, derandomize=EXAMPLES <= 150)
+OWN = ["part", "row_id", "instant", "valid_from", "valid_to"]
+
+
+def asked(script: str, *words: str) -> List[List[str]]:
+    status, text, said = run(["tools/answers", "csv", "-", "--ask", "dip,t", "--program", str(PROGRAM), *words], script)
+    if status:
+        raise AssertionError(said)
+    return read(text)
+
+
+def days(start: str, end: str) -> List[date]:
+    first = date.fromisoformat(start)
+    return [first + timedelta(more) for more in range((date.fromisoformat(end) - first).days)]
+
+
+@unittest.skipUnless(PROGRAM.exists(), "a built program to answer rows that hypothesis draws")
+class Divided(unittest.TestCase):
+    @DRAWN
+    @given(cases(), st.integers(0, 2))
+    def test_each_group_has_the_fewest_parts(self, case: Case, count: int) -> None:
+        names = [*case.texts, case.amounts]
+        by = [word for name in names[:count] for word in ("--by", name)]
+        header, *records = asked(case.script, *(by or ["--rows"]))
+        self.assertEqual(header, [*OWN, *(f"{name}_" if name in OWN else name for name in names)])
+        own = {str(number): row for number, row in enumerate(case.rows, 1)}
+        self.assertEqual(sorted(record[1] for record in records), sorted(own))
+        groups: DefaultDict[Tuple[str, ...], List[List[str]]] = defaultdict(list)
+        for record in records:
+            row = own[record[1]]
+            self.assertEqual(record[3:], [str(row.start), str(row.end), *row.group, str(row.amount)])
+            groups[tuple(record[5:5 + count])].append(record)
+        for rows in groups.values():
+            held: Counts[date] = Counter(day for record in rows for day in days(*record[3:5]))
+            within = Counter((record[0], day) for record in rows for day in days(*record[3:5]))
+            self.assertEqual(set(within.values()), {1})
+            fewest = max(held.values())
+            self.assertEqual({record[0] for record in rows}, {str(part) for part in range(fewest)})
+            first = min(day for day, number in held.items() if number == fewest)
+            self.assertEqual({record[2] for record in rows}, {str(first)})
+
+    def test_many_groups_are_asked_in_several_runs(self) -> None:
+        rows = "".join(f"row,2024-01-01,2024-01-0{2 + place % 3},{place % 150}\n" for place in range(300))
+        _, *records = asked(f"table,t,n,int\nload,t\n{rows}end\n", "--by", "n")
+        self.assertEqual([record[5] for record in records], [str(place // 2) for place in range(300)])
+        self.assertEqual([record[0] for record in records], ["0", "1"] * 150)
+
+
+class Words(ToolCase):
+    def test_only_a_division_has_parts(self) -> None:
+        pay = ["tools/answers", "csv", "examples/pay.csv", "--answers", "examples/pay.csv.stdout"]
+        self.check([*pay, "4", "--rows"], "", 1, "line 7: at,pay,2024-08-15: no division: ask by `dip`")
+        self.check([*pay, "4", "--by", "person"], "", 1, "with --answers none is run")
+        self.check([*pay, "4", "--rows", "--folder", "x"], "", 1, "--rows and --by are of one division")
+
+    def test_a_division_has_its_rows(self) -> None:
+        posts = ["tools/answers", "csv", "examples/posts.csv", "--answers", "examples/posts.csv.stdout", "--rows"]
+        head = "part,row_id,instant,valid_from,valid_to\n0,1,2024-02-05,2024-01-08,2024-03-01\n"
+        self.check(posts, "", 0, head)
+        self.check([*posts, "--last-day"], "", 0, "0,1,2024-02-05,2024-01-08,2024-02-29\n")
+
+
+if __name__ == "__main__":
+    unittest.main()
