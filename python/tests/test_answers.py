@@ -4,6 +4,7 @@ import io
 import os
 import sys
 import tempfile
+import time
 import unittest
 from pathlib import Path
 from typing import Iterator, List, Tuple
@@ -11,7 +12,7 @@ from unittest import mock
 
 from ruzgalt import which
 from ruzgalt.answers import reading
-from ruzgalt.commands import answers_tool
+from ruzgalt.commands import answers_tool, progress, streams
 from ruzgalt.commands.progress import Progress
 from ruzgalt.script import reader
 
@@ -358,14 +359,48 @@ class LongLists(unittest.TestCase):
 
 
 class Terminals(unittest.TestCase):
-    def test_a_line_tells_how_far_a_tool_is_after_two_seconds(self) -> None:
+    @contextlib.contextmanager
+    def terminal(self, is_one: bool = True) -> Iterator[io.StringIO]:
+        """Standard error, as a terminal where it is one, on which one needn't wait for two seconds."""
+        said = io.StringIO()
+        with contextlib.redirect_stderr(said), mock.patch.object(said, "isatty", return_value=is_one, create=True):
+            with mock.patch.multiple(Progress, PATIENCE=0.01, PAUSE=0.01):
+                yield said
+
+    def wait_for(self, said: io.StringIO, part: str) -> None:
+        for _ in range(1000):
+            if part in said.getvalue():
+                return
+            time.sleep(0.01)
+        self.fail(f"no {part!r}, but {said.getvalue()!r}")
+
+    def test_a_line_tells_how_far_a_tool_is(self) -> None:
+        with self.terminal() as said, Progress("answers list"):
+            self.wait_for(said, "\ranswers list: 0 s\033[K")
+            with Progress("answers") as tell:
+                tell(2000)
+                self.wait_for(said, "\ranswers: 2,000 records\033[K")
+            streams.report("something")
+            self.assertIn("\r\033[Ksomething\n", said.getvalue())
+        self.assertRegex(said.getvalue(), "(\n|\r\033\\[K)$")
+
+    def test_a_line_goes_where_something_is_printed_beside_it(self) -> None:
+        with self.terminal() as said, Progress("answers"):
+            self.wait_for(said, "\ranswers: 0 s\033[K")
+            progress.end()
+            told = said.getvalue()
+            time.sleep(0.1)
+            self.assertEqual((said.getvalue(), told[-4:]), (told, "\r\033[K"))
+
+    def test_no_line_stands_in_a_pipe_nor_where_it_takes_no_time(self) -> None:
+        with self.terminal(is_one=False) as said, Progress("answers"):
+            time.sleep(0.1)
+        self.assertEqual(said.getvalue(), "")
         said = io.StringIO()
         with contextlib.redirect_stderr(said), mock.patch.object(said, "isatty", return_value=True, create=True):
-            with mock.patch("ruzgalt.commands.progress.monotonic", side_effect=[0.0, 1.0, 2.5, 2.5]):
-                with Progress("answers") as tell:
-                    tell(1000)
-                    tell(2000)
-        self.assertEqual(said.getvalue(), "\ranswers: 2,000 records\r\033[K")
+            with Progress("answers") as tell:
+                tell(1000)
+        self.assertEqual(said.getvalue(), "")
 
 
 class Fronts(unittest.TestCase):

@@ -419,7 +419,8 @@ def main(words: Sequence[str]) -> int:
     tool = TOOLS[command.parse_args(words[:1]).command]
     options = parser_of(words[0], tool).parse_intermixed_args(words[1:])
     try:
-        return tool.do(options) or 0
+        with Progress(f"{called.ANSWERS_SAY} {words[0]}"):
+            return tool.do(options) or 0
     except OSError as error:
         told = error.strerror or str(error)
         return fail(f"{error.filename}: {told}" if error.filename else told)

@@ -241,7 +241,8 @@ def main(arguments: Sequence[str]) -> int:
     pieces: List[bytes] = []
     try:
         options = words().parse_intermixed_args(arguments)
-        pieces, faults, notes, count = made(options)
+        with Progress(called.LOAD_SAYS):
+            pieces, faults, notes, count = made(options)
     except SystemExit as ended:
         sys.stdout.write(FAILED.decode() if ended.code else "")
         raise

@@ -5,7 +5,7 @@ import signal
 import sys
 from typing import Iterable
 
-from ruzgalt.commands import screen
+from ruzgalt.commands import progress, screen
 from ruzgalt.errors import Misfit
 from ruzgalt.script import records
 from ruzgalt.script.reader import LONGEST_FIELD
@@ -57,6 +57,8 @@ def show_text(text: str) -> None:
 
 
 def write(pieces: Iterable[bytes]) -> None:
+    if sys.stdout.isatty():
+        progress.end()
     sys.stdout.buffer.writelines(pieces)
     sys.stdout.flush()
 
@@ -64,4 +66,6 @@ def write(pieces: Iterable[bytes]) -> None:
 def report(line: str) -> None:
     """Prints a line on standard error. What is no UTF-8 there is shown by a question mark."""
     shown = screen.visible(line) if sys.stderr.isatty() else line
-    sys.stderr.write(f"{shown}\n".encode("utf-8", "replace").decode())
+    with progress.Progress.LOCK:
+        progress.take_away()
+        sys.stderr.write(f"{shown}\n".encode("utf-8", "replace").decode())
