@@ -338,20 +338,25 @@ def agg(frame: Any, function: Functions, column: Any = None, *, by: Names = None
     return groups.agg(frame, told, options)
 
 
-def dip(frame: pd.DataFrame, *, period: PeriodNames = PERIOD, open_end: bool = False, last_day: bool = False,
+def dip(frame: pd.DataFrame, by: Names = None, *, period: PeriodNames = PERIOD, open_end: bool = False,
+        last_day: bool = False, decimals: Mapping[Any, int] = NO_DECIMALS,
         workers: int = WORKERS) -> Division[pd.Series]:
     """The fewest parts into which the rows can be divided so that no two of a part hold at one time.
 
     Parameters
     ----------
     frame : DataFrame
-        A frame of pandas, of at most 1,000,000 rows.
+        A frame of pandas, of at most 1,000,000 rows, or of as many in each group.
+    by : name or list of names, optional
+        Columns whose equal values are a group; without any all rows are one.
     period : pair of names, or name, default ("from", "to")
         The columns of a row's start and of its end, the first point behind it; or one of intervals.
     open_end : bool, default False
         A missing end stands for 9999-12-31, and comes back as missing.
     last_day : bool, default False
         An end is a row's last day, in the answer too. No point has a time then.
+    decimals : dict, optional
+        How many decimals are compared of a column of floats or Decimals, as `{"hours": 2}`.
     workers : int, default 4
         Threads of the program, 1 to 64.
 
@@ -360,7 +365,8 @@ def dip(frame: pd.DataFrame, *, period: PeriodNames = PERIOD, open_end: bool = F
     Division
         Its parts are a Series, the number of each row's part, from 0 on, under its label: int64, of the name part. It
         has count, how many parts there are, and instant, the first point at which as many rows hold: why there can't be
-        fewer. It can be used as the Series.
+        fewer. It can be used as the Series. With `by` each group has its own parts, from 0 on, and count and instant
+        are Series by group.
 
     Raises
     ------
@@ -372,7 +378,7 @@ def dip(frame: pd.DataFrame, *, period: PeriodNames = PERIOD, open_end: bool = F
     Warns
     -----
     Doubt
-        Of ends that look like last days.
+        Of ends that look like last days, and of groups that look like one another.
 
     Examples
     --------
@@ -384,8 +390,12 @@ def dip(frame: pd.DataFrame, *, period: PeriodNames = PERIOD, open_end: bool = F
     2 parts of 3 rows, as many as hold at 2024-01-03 00:00:00
     >>> division.parts.to_dict(), division.count, division.instant
     ({'a': 0, 'b': 1, 'c': 0}, 2, Timestamp('2024-01-03 00:00:00'))
+    >>> ruzgalt.dip(stay.assign(ward=["A", "A", "B"]), by="ward").count.to_dict()
+    {'A': 2, 'B': 1}
     """
-    options = options_of(period=period, open_end=open_end, last_day=last_day, workers=workers)
+    options = options_of(
+        by=by, period=period, open_end=open_end, last_day=last_day, decimals=decimals, workers=workers,
+    )
     if are_spread(frame=frame):
         raise Refused("BadCommand", f"dip of a frame of Dask: a division isn't that of its parts; {division.OTHERWISE}")
-    return division.dip(frame, options)
+    return division.dip_by(frame, options) if options.by else division.dip(frame, options)

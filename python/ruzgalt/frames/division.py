@@ -1,20 +1,24 @@
 """A division: of a frame of pandas by dip, and what one is, of a store's table too."""
 from __future__ import annotations
 
-from dataclasses import dataclass
-from typing import Any, Generic, Iterator, Optional, Sequence, TypeVar
+from dataclasses import dataclass, replace
+from typing import Any, Generic, Iterator, List, Optional, Sequence, TypeVar
 
 import numpy as np
 import pandas as pd
 
-from ruzgalt.frames import ask, doubts, points, script, sides, split
+from ruzgalt.frames import ask, doubts, groups, instants, points, script, sides, split
 from ruzgalt.frames.arrays import Ints
 from ruzgalt.frames.errors import Refused
 from ruzgalt.frames.kinds import Kind
+from ruzgalt.frames.named import with_levels
 from ruzgalt.frames.options import Options
 from ruzgalt.frames.output import Output, reading
+from ruzgalt.frames.sides import Side
 from ruzgalt.script import forms
 
+# So many tables a run has.
+TABLES = 64
 OTHERWISE = "agg(frame, 'count') tells how many parts it has, the greatest count, and the instant, where that begins"
 # A Series of a frame's division, a DataFrame of a store's.
 Parts = TypeVar("Parts")
@@ -29,10 +33,10 @@ class Division(Generic[Parts]):
     parts : Series or DataFrame
         The part of each row, from 0 on: of ruzgalt.dip a Series, of Store.dip a frame of part and row_id.
     count : int
-        How many parts there are.
+        How many parts there are; of groups a Series of them, by group.
     instant : point or None
         The first point at which as many rows hold: why there can't be fewer parts. It is as the rows' starts are, and
-        None where there is no row.
+        None where there is no row; of groups a Series.
 
     Examples
     --------
@@ -48,10 +52,12 @@ class Division(Generic[Parts]):
     """
 
     parts: Parts
-    count: int
+    count: Any
     instant: Any
 
     def __repr__(self) -> str:
+        if isinstance(self.count, pd.Series):
+            return f"parts of {len(self)} rows in {len(self.count)} groups, in each as many as hold at one instant"
         told = f"{self.count} part{'s' * (self.count != 1)} of {len(self)} row{'s' * (len(self) != 1)}"
         return told if self.instant is None else f"{told}, as many as hold at {self.instant}"
 
@@ -84,16 +90,66 @@ def dip(frame: Any, options: Options) -> Division[Any]:
     if not split.means_of(options.workers).fits([side]):
         limit = f"{len(side):,} rows, and a table has {split.ROWS:,}; a division isn't that of its parts"
         raise Refused("Full", f"{limit}: {OTHERWISE}")
-    commands = [script.make("l", [], []), script.load("l", side), script.command("dip", "l")]
-    output = ask.answered(commands, options.workers)
+    parts = np.zeros(len(side), np.int64)
+    [told] = divided(side, [np.arange(len(side))], parts, options.workers)
+    return division_of(pd.Series(parts, frame.index, name="part"), told, side.kind)
+
+
+def dip_by(frame: Any, options: Options) -> Division[Any]:
+    """Of each group by itself: a run divides as many groups as it may have tables."""
+    frame = with_levels(frame, options.by or ())
+    side = groups.side_of(frame, [], options)
+    groups.tell(frame, side, options)
+    codes, firsts = groups.group_codes(side, len(options.by or ()))
+    order = np.argsort(codes.codes, kind="stable")
+    rows = np.split(order, np.flatnonzero(np.diff(codes.codes[order])) + 1) if len(order) else []
+    parts, told = np.zeros(len(side), np.int64), []
+    for batch in batches(rows, split.means_of(options.workers).cap_of([side])):
+        told += divided(side, batch, parts, options.workers)
+    index = groups.index_at(frame, options.by or (), firsts[:len(rows)])
+    seconds = np.array([instants.second_of(one[3]) for one in told], np.int64)
+    count = pd.Series([int(one[2]) for one in told], index, dtype="int64", name="count")
+    series = pd.Series(parts, frame.index, name="part")
+    return Division(series, count, points.series_of(seconds, side.kind, index).rename("instant"))
+
+
+def batches(rows: Sequence[Ints], cap: int) -> Iterator[List[Ints]]:
+    """The rows of groups, as many groups at a time as a run takes. Raises Refused (Full)."""
+    batch: List[Ints] = []
+    for one in rows:
+        if len(one) > cap:
+            told = f"a group of {len(one):,} rows, and a run takes {cap:,}; a division isn't that of its parts"
+            raise Refused("Full", f"{told}: {OTHERWISE}")
+        if len(batch) == TABLES or sum(map(len, batch)) + len(one) > cap:
+            yield batch
+            batch = []
+        batch.append(one)
+    if batch:
+        yield batch
+
+
+def divided(side: Side, batch: Sequence[Ints], parts: Ints, workers: int) -> List[Sequence[str]]:
+    """The records of the divisions of these rows, each of which gets the number of its part."""
+    names = [f"t{place}" for place, _ in enumerate(batch)]
+    tables = [replace(side, columns=[]).take(rows) for rows in batch]
+    loads = [one for name, rows in zip(names, tables) for one in (script.make(name, [], []), script.load(name, rows))]
+    asked = [script.command("dip", name) for name in names]
+    output = ask.output_of([*loads, *asked], workers)
+    found = ask.first_refused(output, loads)
+    if found is not None:
+        raise ask.refusal(loads[found[0]], found[1])
+    return [part_of(command, output, rows, parts) for command, rows in zip(asked, tables)]
+
+
+def part_of(command: script.Command, output: Output, rows: Side, parts: Ints) -> Sequence[str]:
+    """The record that begins a division, whose parts are written at the rows' places."""
     told = output.record()
     if told[0] != "dip":
-        raise ask.refusal(commands[-1], told)
-    parts = np.zeros(len(side), np.int64)
+        raise ask.refusal(command, told)
     with reading():
         for part in range(int(told[2])):
-            parts[ask.rows_of(side, ids_of(output))] = part
-    return division_of(pd.Series(parts, frame.index, name="part"), told, side.kind)
+            parts[rows.places[ask.rows_of(rows, ids_of(output))]] = part
+    return told
 
 
 def ids_of(output: Output) -> Ints:

@@ -5,6 +5,7 @@ from dataclasses import replace
 from typing import Any, List, Mapping, Sequence, Tuple
 
 import numpy as np
+import pandas as pd
 
 from ruzgalt.frames import classes, doubts, measures, sides
 from ruzgalt.frames.answer import Column, Columns
@@ -60,6 +61,14 @@ def amounts_in(side: Side, asked: Measures) -> Mapping[Any, Values]:
 def groups_at(frame: Any, names: Sequence[Any], rows: Ints) -> List[Column]:
     """The cells of these rows in the columns of a group."""
     return [(name, column_of(with_labels_twice(frame), name).take(rows).reset_index(drop=True)) for name in names]
+
+
+def index_at(frame: Any, names: Sequence[Any], rows: Ints) -> Any:
+    """An index of the groups of these rows."""
+    columns = groups_at(frame, names, rows)
+    if len(columns) == 1:
+        return pd.Index(columns[0][1], name=columns[0][0])
+    return pd.MultiIndex.from_arrays([cells for _, cells in columns], names=[name for name, _ in columns])
 
 
 def side_of(frame: Any, asked: Measures, options: Options) -> Side:

@@ -48,7 +48,8 @@ OF_PAIRS = ["right_period", "left_period", "on", "left_on", "parts", "decimals",
 OF_CALL = {
     "join": [*OF_PAIRS, "labels", "suffixes", "how", "keep_periods"],
     "anti": OF_PAIRS, "agg": ["by", "parts", "decimals", "points_as"],
-    "dip": [], **dict.fromkeys(("coalesce", "gaps"), ["by", "parts", "decimals", "points_as"]),
+    "at": [], "dip": ["by", "decimals"],
+    **dict.fromkeys(("coalesce", "gaps"), ["by", "parts", "decimals", "points_as"]),
     "spread": ["by", "parts", "decimals", "points_as", "each", "exact", "within"],
     "overlaps": ["by", "parts", "decimals", "points_as", "labels", "suffixes", "keep_periods"],
 }

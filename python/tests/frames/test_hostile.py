@@ -117,18 +117,27 @@ class Hostile(unittest.TestCase):
     @MANY
     @given(cases("dip"))
     def test_divisions(self, case):
-        told = lambda: by_rows.most(case.columns[0], case.periods[0])  # noqa: E731
+        frame = case.columns[0]
+        told = lambda: by_rows.most(frame, case.periods[0])  # noqa: E731
         found = self.answered(case, lambda: ruzgalt.dip(case.frames[0], **case.options), told)
         if found is None:
             return
-        parts, count = found
-        self.assertEqual((parts.count, parts.max() + 1), (count, count))
-        rows = list(zip(by_rows.periods(case.columns[0], case.periods[0]), parts))
-        overlaps = [
-            (one, other) for place, (one, part) in enumerate(rows) for other, own in rows[:place]
-            if part == own and max(one[0], other[0]) < min(one[1], other[1])
-        ]
-        self.assertEqual(overlaps, [])
+        division, count = found
+        rows = list(zip(by_rows.keys(frame, case.on[0]), by_rows.periods(frame, case.periods[0]), division.parts))
+        if case.on[0]:
+            self.assertLessEqual(division.count.max(), count)
+        else:
+            self.assertEqual((division.count, division.parts.max() + 1), (count, count))
+        self.are_fewest(rows)
+
+    def are_fewest(self, rows):
+        """Of a group's rows no two of a part hold on one day, and on some day as many hold as there are parts."""
+        for group in {group for group, _, _ in rows}:
+            own = [(period, part) for key, period, part in rows if key == group]
+            held = [[part for (start, end), part in own if start <= day < end] for day in range(by_rows.OPEN)]
+            self.assertTrue(all(len(set(parts)) == len(parts) for parts in held))
+            self.assertEqual(max(map(len, held)), len({part for _, part in own}))
+            self.assertEqual({part for _, part in own}, set(range(max(map(len, held)))))
 
 
 if __name__ == "__main__":

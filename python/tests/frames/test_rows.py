@@ -37,13 +37,13 @@ class Hostile(unittest.TestCase):
         pd.testing.assert_frame_equal(got, case.frames[0].iloc[rows])
 
     @MANY
-    @given(cases("dip"), st.integers(-1, 20))
+    @given(cases("at"), st.integers(-1, 20))
     def test_rows_at_a_day(self, case, day):
         asked = lambda frame: ruzgalt.at(frame, case.point(day), **case.options)  # noqa: E731
         self.is_as_by_days(case, asked, lambda one: one == day)
 
     @MANY
-    @given(cases("dip"), st.integers(-1, 12), st.integers(1, 20))
+    @given(cases("at"), st.integers(-1, 12), st.integers(1, 20))
     def test_rows_during_days(self, case, day, count):
         span = case.point(day), case.end(day + count)
         asked = lambda frame: ruzgalt.during(frame, *span, **case.options)  # noqa: E731

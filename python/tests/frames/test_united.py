@@ -67,6 +67,30 @@ class United(unittest.TestCase):
         self.assertEqual(list(ruzgalt.overlaps(told, "k")), ["from", "to", "k", "x_left", "x_right"])
 
 
+class Divisions(unittest.TestCase):
+    def test_each_group_has_its_own_division(self):
+        """As many groups as take several runs, beside a division of each."""
+        days = pd.date_range("2024-01-01", periods=400).to_series().reset_index(drop=True)
+        told = pd.DataFrame({"from": days, "to": days + pd.Timedelta(days=200), "k": [one % 130 for one in range(400)]})
+        for rows in (1_000_000, 5):
+            with mock.patch.object(split, "ROWS", rows):
+                got = ruzgalt.dip(told, "k")
+            wanted = {k: ruzgalt.dip(own) for k, own in told.groupby("k") if k % 40 == 0}
+            for k, one in wanted.items():
+                self.assertEqual((got.count[k], got.instant[k]), (one.count, one.instant))
+                self.assertEqual(got.parts[told["k"] == k].tolist(), one.parts.tolist())
+        self.assertEqual((len(got.count), str(got.instant.dtype)), (130, "datetime64[ns]"))
+
+    def test_groups_of_several_columns(self):
+        told = frame(("2024-01-01", "2024-01-03", "a", 1), ("2024-01-02", "2024-01-05", "a", 2))
+        self.assertEqual(ruzgalt.dip(told, ["k", "x"]).count.to_dict(), {("a", 1): 1, ("a", 2): 1})
+        self.assertEqual(ruzgalt.dip(told.set_index("k"), "k").count.to_dict(), {"a": 2})
+        self.assertEqual(len(ruzgalt.dip(told.iloc[:0], "k").count), 0)
+        with mock.patch.object(split, "ROWS", 1), self.assertRaises(ruzgalt.Refused) as caught:
+            ruzgalt.dip(told, "k")
+        self.assertEqual(caught.exception.name, "Full")
+
+
 class Pieces(unittest.TestCase):
     def refuses(self, name, told, **words):
         with self.assertRaises(ruzgalt.Refused) as caught:
