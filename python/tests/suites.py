@@ -20,7 +20,7 @@ OF_FRAMES = sorted(HERE.glob("frames/test_*.py"))
 # What of frames needs neither pandas nor a program.
 ALONE = "test_without_pandas"
 # Where frames are random, what may not be meant comes too.
-RANDOM = "test_random_|test_split|test_hostile|test_rows"
+RANDOM = "test_random_|test_split|test_hostile|test_rows|test_classes|test_slices|test_standing"
 
 
 class LeftOut(unittest.TestCase):
