@@ -182,7 +182,7 @@ class Refusals(unittest.TestCase):
 
     def test_an_option_of_another_call_is_a_type_error(self):
         self.assertRaises(TypeError, lambda: ruzgalt.anti(OK, OK, labels=True))
-        self.assertRaises(TypeError, lambda: ruzgalt.dip(OK, by="k"))
+        self.assertRaises(TypeError, lambda: ruzgalt.dip(OK, labels=True))
         self.assertRaises(TypeError, lambda: ruzgalt.join(OK, OK, onn="k"))
 
     def test_what_is_told_of_decimals(self):

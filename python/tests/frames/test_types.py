@@ -44,7 +44,7 @@ ruzgalt.join(frame, [frame])  # refused
 ruzgalt.join(frame, frame, workers="4")  # refused
 ruzgalt.anti(frame, frame, labels=True)  # refused
 ruzgalt.agg(spread, "count", open_ends=True)  # refused
-ruzgalt.dip(frame, by="k")  # refused
+ruzgalt.dip(frame, on="k")  # refused
 ruzgalt.dip(spread)  # refused
 none: dd.DataFrame = ruzgalt.join(frame, frame)  # refused
 store.table("pay", frame, opened=True)  # refused
