@@ -15,7 +15,8 @@ try:
 except ImportError:
     raise unittest.SkipTest("Dask isn't here: apt-get install python3-dask python3-distributed") from None
 
-FIRST, DAYS = np.datetime64("2000-01-01"), 30
+# Of no month the first day, nor the last one, where ends are doubted.
+FIRST, DAYS = np.datetime64("2000-01-10"), 30
 FUNCTIONS = {"count": len, "sum": sum, "min": min, "max": max}
 
 
