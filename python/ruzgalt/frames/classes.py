@@ -7,7 +7,7 @@ from __future__ import annotations
 
 from dataclasses import replace
 from functools import reduce
-from typing import Iterable, List, Sequence, Tuple
+from typing import Dict, Iterable, List, Sequence, Tuple
 
 import numpy as np
 import pandas as pd
@@ -42,9 +42,12 @@ def together(columns: Iterable[Sequence[Values]], sort: bool = False) -> Numbere
 def numbered(column: Sequence[Values], sort: bool) -> Numbered:
     """Numbers of one column's cells. Texts are equal, and rise, as their UTF-8 does."""
     if column[0].kind == "text":
-        texts = dict.fromkeys(text for one in column for text in one.texts.cells)
-        places = {text: place for place, text in enumerate(sorted(texts) if sort else texts)}
-        codes = [np.array([places[text] for text in one.texts.cells], np.int64)[one.codes] for one in column]
+        places: Dict[str, int] = {}
+        if sort:
+            texts = sorted({text for one in column for text in one.texts.cells})
+            places = {text: place for place, text in enumerate(texts)}
+        tables = [[places.setdefault(text, len(places)) for text in one.texts.cells] for one in column]
+        codes = [np.array(table, np.int64)[one.codes] for table, one in zip(tables, column)]
         return np.concatenate(codes), len(places)
     cells = np.concatenate([one.codes for one in column])
     low, high = (int(cells.min()), int(cells.max())) if len(cells) else (0, 0)

@@ -136,9 +136,9 @@ def value_of(value: Cells, *count: Cells) -> Cells:
 
 def cut_at_all(found: Sequence[Found]) -> Found:
     """Aggregates of the same rows, each cut where one of them is: start, end and group, and the value of each."""
-    ranks, seconds, groups = ranked(found)
-    if len(found) == 1 or not len(seconds):
+    if len(found) == 1 or not len(found[0][0]):
         return (*found[0][:3], *(one[3] for one in found))
+    ranks, seconds, groups = ranked(found)
     points = np.arange(len(seconds))
     rows = [np.searchsorted(starts, points, "right") - 1 for starts, _ in ranks]
     held = points[(rows[0] >= 0) & (ranks[0][1][rows[0]] > points)]
