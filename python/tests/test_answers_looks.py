@@ -87,6 +87,21 @@ class Words(ToolCase):
             words = ["tools/answers", "csv", "-", "--last-day", "--answers", answers]
             self.check(words, script, 1, "--last-day: 2024-01-02T08:00:00 is no day")
 
+    def test_other_tables_of_time_are_shown_so_too(self) -> None:
+        words = ["--decimals", "euros=2", "--last-day"]
+        rows = "row,2024-01-01,2024-02-01,A,5\nrow,2024-03-01,2024-04-01,A,7\n"
+        script = f"table,pay,person,text,euros,int\nload,pay\n{rows}end\nrows,pay\nrows,pay,asof,1\n"
+        told = "ok,1\nok,2\nrow,1,2024-01-01,2024-02-01,A,5\nrow,2,2024-03-01,2024-04-01,A,7\nend,2\nend,0\n"
+        for command, wanted in [
+            (["gaps", "person", "--of", "3", "--last-day"], "2024-02-01,2024-02-29,A\n"),
+            (["coalesce", "person", "--of", "3", "--last-day"], "2024-01-01,2024-01-31,A\n2024-03-01,2024-03-31,A\n"),
+            (["changed", "4", "3", *words], "+,2024-01-01,2024-01-31,A,0.05\n+,2024-03-01,2024-03-31,A,0.07\n"),
+            (["history", "pay", *words], "2,line 2,+,2024-01-01,2024-01-31,A,0.05\n"),
+        ]:
+            with kept(told) as answers:
+                name, *others = command
+                self.check(["tools/answers", name, "-", *others, "--answers", answers], script, 0, wanted)
+
     def test_queries_print_money(self) -> None:
         sqlite = ["tools/answers", "sqlite", EXAMPLE, ":memory:", "--answers", EXAMPLE + ".stdout", "4=pay"]
         query = "select person, valid_to, sum(euros) as total from pay group by person"

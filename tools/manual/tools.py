@@ -33,6 +33,10 @@ ANSWERS_EXAMPLES = [
     ("A query of SQLite over all rows:",
      "dipq-answers sqlite pay.csv :memory: --ask pay=rows,pay \\\n"
      "    --query 'select person, max(euros) from pay group by person'"),
+    ("What each month comes to by person, as money and by last days; and what a raise would do, before it is one:",
+     "dipq-answers months pay.csv --ask rows,pay --sum cents --by person --to 2025-01-01 \\\n"
+     "    --decimals cents=2 --last-day\n"
+     "dipq-answers raise pay.csv pay cents --percent 2.5 --from 2025-01-01 --round half-up --dry-run"),
     ("The last division of a script as a picture for a browser:", "dipq-answers picture posts.csv --svg > posts.svg"),
 ]
 LOAD_EXAMPLES = [
@@ -40,6 +44,8 @@ LOAD_EXAMPLES = [
      "(echo table,rent,flat,text,cents,int,key,flat\n"
      " dipq-load rent Von Bis Wohnung Miete --german --last-day --open --decimals Miete=2 < miete.csv\n"
      " echo at,rent,2024-06-30) | dipq"),
+    ("A sheet of a workbook, whose columns have other names than the table's:",
+     "dipq-load pay Von Bis person=Wer cents=Gehalt --decimals cents=2 --last-day --file loehne.xlsx --sheet 2024"),
 ]
 
 

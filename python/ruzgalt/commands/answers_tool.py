@@ -143,22 +143,29 @@ def asked(
     return answer
 
 
+def show_table(options: Namespace, table: Table) -> None:
+    """Prints a table as CSV, as a person reads it where that is wanted."""
+    look = look_of(options)
+    look.refuse_strangers(table)
+    streams.show_records(export.to_csv(look.of(table)))
+
+
 def do_changed(options: Namespace) -> None:
     before, after = last(read(options), options.pick, 2)
     if before.commit > after.commit:
         both = f"the first of the two reads commit {before.commit}, and the second {after.commit}"
         warn(f"{both}: `-` is what the first has alone, which is later")
-    streams.show_records(export.to_csv(changes.between(before, after)))
+    show_table(options, changes.between(before, after))
 
 
 def do_overlaps(options: Namespace) -> None:
     [answer] = last(read(options), options.of, 1)
-    streams.show_records(export.to_csv(overlaps.in_answer(answer, options.column)))
+    show_table(options, overlaps.in_answer(answer, options.column))
 
 
 def do_gaps(options: Namespace) -> None:
     [answer] = last(read(options), options.of, 1)
-    streams.show_records(export.to_csv(overlaps.gaps_in_answer(answer, options.column)))
+    show_table(options, overlaps.gaps_in_answer(answer, options.column))
 
 
 def do_history(options: Namespace) -> None:
@@ -177,7 +184,7 @@ def do_history(options: Namespace) -> None:
     if options.where and not table.records:
         warn(f"no row of {options.table} ever had what --where tells")
     table = history.retroactive(table) if options.retroactive else table
-    streams.show_records(export.to_csv(table if options.commit is None else history.of_commit(table, options.commit)))
+    show_table(options, table if options.commit is None else history.of_commit(table, options.commit))
 
 
 def do_front(options: Namespace) -> int:
@@ -296,6 +303,12 @@ def words_of_page(parser: ArgumentParser) -> None:
 def words_of_overlaps(parser: ArgumentParser) -> None:
     parser.add_argument("column", nargs="+", metavar="COLUMN", help="a column of the key")
     parser.add_argument("--of", action="append", default=[], metavar="PICK", help="the answer, where it isn't the last")
+    words_of_looks(parser)
+
+
+def words_of_changed(parser: ArgumentParser) -> None:
+    with_picks(parser)
+    words_of_looks(parser)
 
 
 def words_of_history(parser: ArgumentParser) -> None:
@@ -306,6 +319,7 @@ def words_of_history(parser: ArgumentParser) -> None:
     parser.add_argument("--diary", metavar="TABLE", help="a table whose first column is the newest commit of a time")
     parser.add_argument("--commit", type=int, metavar="N", help="only what this commit changed")
     parser.add_argument("--retroactive", action="store_true", help="only the time before the day that the diary tells")
+    words_of_looks(parser)
 
 
 def words_of_front(parser: ArgumentParser) -> None:
@@ -348,7 +362,7 @@ TOOLS: Dict[str, Tool] = {
     "json": Tool(do_json, "prints answers as JSON", with_picks),
     "picture": Tool(do_picture, "draws a division, rows, an aggregate or versions, as text or SVG", words_of_picture),
     "changed": Tool(
-        do_changed, "tells what really changed between two answers (the last two)", with_picks, more=OF_CHANGED,
+        do_changed, "tells what really changed between two answers (the last two)", words_of_changed, more=OF_CHANGED,
     ),
     "overlaps": Tool(do_overlaps, "finds the rows that a key of the columns would forbid", words_of_overlaps),
     "gaps": Tool(do_gaps, "finds the times between rows of one value without any", words_of_overlaps),

@@ -13,8 +13,8 @@ from ruzgalt.script import records
 OF_NEXT = """Its records are rows of the table, for their own time, in their order. Ids are those of this script, and
 are left out where --ids doesn't take them."""
 OF_RAISE = """It is an update for each amount that rows have, from a point on: of a row that began before, only its
-time from there on. The updates are in an order in which none touches what another one has raised. Behind the script, or
-in the next one, they do the raise."""
+time from there on. The updates are in an order in which none touches what another one has raised. Put behind the script
+they are the raise."""
 
 
 def words_of_next(parser: ArgumentParser) -> None:

@@ -40,8 +40,11 @@ def do_months(options: Namespace) -> None:
 def words_of_coalesce(parser: ArgumentParser) -> None:
     parser.add_argument("column", nargs="*", metavar="COLUMN", help="a column whose values make the groups")
     parser.add_argument("--of", action="append", default=[], metavar="PICK", help="the answer, where it isn't the last")
+    words_of_looks(parser)
 
 
 def do_coalesce(options: Namespace) -> None:
     [answer] = last(read(options), options.of, 1)
-    streams.show_records(export.to_csv(unions.united(answer, options.column)))
+    table, look = unions.united(answer, options.column), look_of(options)
+    look.refuse_strangers(table)
+    streams.show_records(export.to_csv(look.of(table)))
