@@ -27,14 +27,15 @@ from typing import TYPE_CHECKING, Any, List
 
 __all__ = [
     "join", "anti", "agg", "dip", "at", "during", "coalesce", "gaps", "overlaps", "spread",
-    "Store", "Script", "Division", "Changed", "Verdict", "Refused", "Stopped", "Doubt", "frames", "__version__",
+    "Store", "Script", "Picture", "Division", "Changed", "Verdict", "Refused", "Stopped", "Doubt",
+    "frames", "__version__",
 ]
 
 if TYPE_CHECKING:
     from ruzgalt import frames
     from ruzgalt.frames import (
-        Changed, Division, Doubt, Refused, Script, Stopped, Store, Verdict, agg, anti, at, coalesce, dip, during, gaps,
-        join, overlaps, spread,
+        Changed, Division, Doubt, Picture, Refused, Script, Stopped, Store, Verdict, agg, anti, at, coalesce, dip,
+        during, gaps, join, overlaps, spread,
     )
 
     __version__: str

@@ -41,8 +41,9 @@ def subjects() -> Iterator[Tuple[str, Any]]:
 
 
 def methods(name: str, subject: type) -> Iterator[Tuple[str, Any]]:
-    """Those that a class defines itself, and that are for its users."""
-    for word, one in vars(subject).items():
+    """Those that a class of the package defines, and that are for its users; what it stands on comes behind."""
+    bases = [base for base in inspect.getmro(subject) if base.__module__.startswith("ruzgalt.")]
+    for word, one in (pair for base in bases for pair in vars(base).items()):
         is_method = inspect.isfunction(one) or isinstance(one, (classmethod, property))
         if is_method and not word.startswith("_") and word not in INNER:
             yield f"{name}.{word}", one if isinstance(one, property) else getattr(subject, word)

@@ -7,6 +7,7 @@
     spread                  what a group comes to by months
     Store                   tables with a past: changes, commits, questions
     Script                  its changes as a script, with the names of its columns
+    Picture                 a picture of an answer
     Division                the fewest parts of rows of which no two overlap
     Changed, Verdict        what a change of a store did; what a check of a division found
     Refused                 what all of them raise of a value or a call: name, reason, column, label
@@ -42,6 +43,7 @@ A module stands on those above it:
     book                    what a store holds at one moment
     questions, divisions    what is asked of it
     opening, batches        a script as a store; changes that are tried together
+    written                 the script of a store, a page and pictures of it
     store                   the store
 """
 from ruzgalt.frames.amounts import spread
@@ -54,8 +56,9 @@ from ruzgalt.frames.rows import at, during
 from ruzgalt.frames.script import Script
 from ruzgalt.frames.store import Store
 from ruzgalt.frames.united import coalesce, gaps, overlaps
+from ruzgalt.frames.written import Picture
 
 __all__ = [
     "join", "anti", "agg", "dip", "at", "during", "coalesce", "gaps", "overlaps", "spread",
-    "Store", "Script", "Division", "Changed", "Verdict", "Refused", "Stopped", "Doubt",
+    "Store", "Script", "Picture", "Division", "Changed", "Verdict", "Refused", "Stopped", "Doubt",
 ]

@@ -5,7 +5,7 @@ A wrong value is refused as BadCommand, by the option's name, with what was give
 from __future__ import annotations
 
 import sys
-from typing import Any, Hashable, Iterable, Mapping, Optional, Sequence, Tuple
+from typing import Any, Hashable, Iterable, List, Mapping, Optional, Sequence, Tuple
 
 import numpy as np
 import pandas as pd
@@ -96,6 +96,12 @@ def period(option: str, given: Any) -> Tuple[Any, ...]:
         wanted = "two different names are wanted, of the column of starts and of that of ends, or one of intervals"
         raise wrong(option, given, wanted)
     return told
+
+
+def texts(option: str, given: Any) -> List[str]:
+    if not isinstance(given, (list, tuple)) or not all(isinstance(one, str) for one in given):
+        raise wrong(option, given, "a list of texts is wanted")
+    return list(given)
 
 
 def span(option: str, given: Any) -> Pair:

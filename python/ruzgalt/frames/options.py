@@ -3,7 +3,7 @@ from __future__ import annotations
 
 from dataclasses import dataclass, field
 from types import MappingProxyType
-from typing import Any, Callable, Dict, List, Mapping, Optional, Sequence, Tuple, Union
+from typing import Any, Callable, Dict, List, Literal, Mapping, Optional, Sequence, Tuple, Union
 
 from ruzgalt.frames import checks, intervals, kinds
 from ruzgalt.frames.checks import Pair, Suffixes
@@ -18,7 +18,7 @@ Functions = Union[str, Mapping[Any, Union[str, Sequence[str]]]]
 PeriodNames = Union[str, int, Tuple[Any, Any], List[Any]]
 PairOfSuffixes = Union[Suffixes, List[Optional[str]]]
 # Of both frames of a pair, or of one of them alone.
-OneSided = Union[bool, str]
+OneSided = Union[bool, Literal["left", "right"]]
 Told = Optional[Tuple[Any, ...]]
 # What a call has where nothing else is given.
 PERIOD: Tuple[Any, Any] = ("from", "to")
@@ -105,7 +105,7 @@ def parts_of(option: str, given: Any) -> int:
 
 def one_sided(option: str, given: Any) -> OneSided:
     if isinstance(given, str) and given in SIDES:
-        return given
+        return "left" if given == "left" else "right"
     if not checks.is_flag(given):
         raise checks.wrong(option, given, "True or False is wanted, or 'left' or 'right' for the frame of which it is")
     return bool(given)

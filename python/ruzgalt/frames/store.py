@@ -26,11 +26,11 @@ from ruzgalt.frames.options import (
     options_of, workers_of,
 )
 from ruzgalt.frames.questions import Asked
-from ruzgalt.frames.script import Script
 from ruzgalt.frames.tables import Table
+from ruzgalt.frames.written import Written
 
 
-class Store:
+class Store(Written):
     """Tables with a past, in memory: each change is a commit, and each question may be asked as of any of them.
 
     What is refused changes nothing. Threads may share a store: a change is done alone, and a batch is one change.
@@ -161,26 +161,6 @@ class Store:
 
     def asked(self, as_of: Optional[int] = None, **options: Any) -> Asked:
         return Asked(self.seen(), as_of, options_of(**options))
-
-    def script(self) -> Script:
-        """All changes that were accepted, as ./dipq and tools/answers read them.
-
-        Returns
-        -------
-        Script
-            Bytes: a script of the language, CSV in UTF-8. Its `names` say what its columns are called in frames.
-
-        Examples
-        --------
-        >>> print(store.script().decode().strip())
-        table,pay,person,text,cents,int,key,person
-        load,pay
-        row,2024-01-01,2025-01-01,Ada,5000
-        row,2024-03-01,2024-10-01,Grace,4800
-        end
-        update,pay,2024-07-01,2025-01-01,set,cents,5400,where,person,Ada
-        """
-        return self.book.script
 
     # Changes. Each answers what it did, or within a batch None. It warns of what may not be meant (ruzgalt.Doubt).
 

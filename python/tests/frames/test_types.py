@@ -42,6 +42,7 @@ ruzgalt.join(frame, frame, onn="k")  # refused
 ruzgalt.join(frame, frame, "k", ["k"])  # refused
 ruzgalt.join(frame, [frame])  # refused
 ruzgalt.join(frame, frame, workers="4")  # refused
+ruzgalt.join(frame, frame, last_day="both")  # refused
 ruzgalt.anti(frame, frame, labels=True)  # refused
 ruzgalt.agg(spread, "count", open_ends=True)  # refused
 ruzgalt.dip(frame, on="k")  # refused

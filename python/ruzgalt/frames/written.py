@@ -1,0 +1,251 @@
+"""What a store gives to files and to browsers: its script, a page of it, a picture of an answer."""
+from __future__ import annotations
+
+import os
+import re
+import tempfile
+from contextlib import contextmanager
+from dataclasses import dataclass
+from pathlib import Path
+from typing import TYPE_CHECKING, Any, Iterator, Mapping, Optional, Sequence, Union
+
+from ruzgalt import answers
+from ruzgalt.answers import Answer
+from ruzgalt.commands import answers_tool
+from ruzgalt.errors import Misfit
+from ruzgalt.frames import checks, instants, running
+from ruzgalt.frames.ask import refusal
+from ruzgalt.frames.errors import Refused
+from ruzgalt.frames.script import Command, Script
+from ruzgalt.page import contents, document, sources
+from ruzgalt.pictures import figures, svg
+from ruzgalt.script import questions
+from ruzgalt.script.language import CHANGES
+
+if TYPE_CHECKING:
+    from ruzgalt.frames.book import Book
+
+AnyPath = Union[str, "os.PathLike[str]"]
+Where = Optional[Mapping[str, Any]]
+
+
+@dataclass(frozen=True, repr=False)
+class Picture:
+    """A picture of an answer of a store, which a notebook shows by itself.
+
+    Attributes
+    ----------
+    svg : str
+        The picture, as a browser shows it.
+
+    Examples
+    --------
+    >>> day = pd.to_datetime
+    >>> stay = pd.DataFrame({"from": day(["2024-01-01"]), "to": day(["2024-01-05"]), "desk": [7]})
+    >>> store = ruzgalt.Store()
+    >>> store.table("stay", stay)
+    commit 2: 1 added, 0 closed
+    >>> picture = store.picture("rows,stay")
+    >>> picture.svg.startswith("<svg")
+    True
+    """
+
+    svg: str
+
+    def __repr__(self) -> str:
+        return f"<Picture of {len(self.svg):,} characters of SVG>"
+
+    def _repr_svg_(self) -> str:
+        return self.svg
+
+
+class Written:
+    """What a store has of its script, beside changes and questions."""
+
+    book: Book
+
+    def script(self) -> Script:
+        """All changes that were accepted, as ./dipq and tools/answers read them.
+
+        Returns
+        -------
+        Script
+            Bytes: a script of the language, CSV in UTF-8. Its `names` say what its columns are called in frames.
+
+        Examples
+        --------
+        >>> print(store.script().decode().strip())
+        table,pay,person,text,cents,int,key,person
+        load,pay
+        row,2024-01-01,2025-01-01,Ada,5000
+        row,2024-03-01,2024-10-01,Grace,4800
+        end
+        update,pay,2024-07-01,2025-01-01,set,cents,5400,where,person,Ada
+        """
+        return self.book.script
+
+    def save(self, path: AnyPath) -> None:
+        """Writes the script to a file, in place of what was there.
+
+        Parameters
+        ----------
+        path : str or path
+            The file. Store.from_script(path) opens a store of it.
+
+        Returns
+        -------
+        None
+            An error of the system comes as Python's OSError; the file is there whole, or as it was.
+
+        Examples
+        --------
+        >>> import tempfile
+        >>> with tempfile.TemporaryDirectory() as folder:
+        ...     store.save(f"{folder}/pay.csv")
+        ...     ruzgalt.Store.from_script(f"{folder}/pay.csv")
+        <Store of 3 commits, tables: pay>
+        """
+        write(path, [self.script()])
+
+    def page(self, path: AnyPath, questions: Sequence[str] = (), *, title: str = "", note: str = "",
+             diary: Optional[str] = None) -> None:
+        """Writes a page for a browser, with the script's commits and tables, and answers to questions.
+
+        Parameters
+        ----------
+        path : str or path
+            The file, as pay.html.
+        questions : list of str, optional
+            Questions of the language, as `"agg,pay,sum,cents"`, or with a name `"cost=agg,pay,sum,cents"`. Columns have
+            their names of the script.
+        title : str, optional
+            What stands above all.
+        note : str, optional
+            What is to be read first.
+        diary : str, optional
+            A table whose first column is the newest commit of a time.
+
+        Returns
+        -------
+        None
+            An error of the system comes as Python's OSError; the file is there whole, or as it was.
+
+        Raises
+        ------
+        Refused
+            Where the store is empty, or a question can't be asked.
+        Stopped
+            Where the program ended without all answers.
+
+        Examples
+        --------
+        >>> import tempfile
+        >>> with tempfile.TemporaryDirectory() as folder:
+        ...     store.page(f"{folder}/pay.html", ["agg,pay,sum,cents"])
+        """
+        asked = checks.texts("questions", questions)
+        for question in asked:
+            answered(self.book, question)
+        words = [f"--title={title}", f"--note={note}", *([] if diary is None else [f"--diary={diary}"])]
+        words += [f"--ask={question}" for question in asked]
+        with kept(self.book, Path(path).with_suffix(".csv").name) as file, refusing():
+            options = answers_tool.parser_of("page", answers_tool.TOOLS["page"]).parse_intermixed_args([file, *words])
+            write(path, document.pieces(contents.of(sources.ask(options), diary)))
+
+    def picture(self, question: str, *, by: Optional[str] = None, label: Optional[str] = None, where: Where = None,
+                start: Any = None, end: Any = None, width: Optional[int] = None) -> Picture:
+        """A picture of the answer to a question, which a notebook shows.
+
+        Parameters
+        ----------
+        question : str
+            A question of the language, as `"rows,pay"`, `"dip,pay"`, `"agg,pay,sum,cents"` or `"between,pay,0,9"`.
+            Columns have their names of the script, here and below.
+        by : str, optional
+            The column of which each value has a lane, where not the first.
+        label : str, optional
+            The column that stands in the bars.
+        where : dict, optional
+            Columns with the values that records are to have.
+        start, end : str, date, datetime, Timestamp or Period, optional
+            The first point that is shown, and the end of what is shown.
+        width : int, optional
+            Pixels of its width, 40 to 100,000; without it as wide as it needs, up to 1,600.
+
+        Returns
+        -------
+        Picture
+            Its svg is a text; a notebook shows it.
+
+        Raises
+        ------
+        Refused
+            Where the question can't be asked, or there is no picture of its answer.
+        Stopped
+            Where the program ended without all answers.
+
+        Examples
+        --------
+        >>> store.picture("rows,pay", by="person").svg.count("<svg")
+        1
+        """
+        found = answered(self.book, question)
+        if width is not None:
+            width = checks.whole("width", width, 40, 100_000)
+        limits = [None if point is None else instants.text_of(point) for point in (start, end)]
+        told = [(name, str(value)) for name, value in ({} if where is None else where).items()]
+        with refusing():
+            wish = figures.Wish(by, label, told, limits[0], limits[1])
+            return Picture(svg.draw(figures.of(found, found[-1], wish), width, None))
+
+
+def answered(book: Book, question: Any) -> Sequence[Answer]:
+    """The answers to all changes, and to a question behind them. Raises Refused, Stopped."""
+    if not isinstance(question, str):
+        raise checks.wrong("question", question, "a question of the language is wanted, as 'rows,pay'")
+    with refusing():
+        told = questions.named(question)[1]
+        text, own_lines = questions.put_behind(book.script, [told])
+        begun = questions.commands_of(text, [told], own_lines)
+    if len(begun) != len(book.commands) + 1 or begun[-1].word in CHANGES:
+        raise checks.wrong("question", question, "one question is wanted, and no change")
+    output = running.answer([text], book.workers).tobytes()
+    found = answers.of_commands(begun, output, is_own=True)
+    if found[-1].refusal:
+        raise refusal(Command(begun[-1].record.fields, []), ["error", "", found[-1].refusal.name])
+    return found
+
+
+@contextmanager
+def refusing() -> Iterator[None]:
+    """Within, what the tools say of what they are given is a refusal."""
+    try:
+        yield
+    except Misfit as misfit:
+        # Words of a command line are options of a call here.
+        raise Refused("BadCommand", re.sub(r"--(\w+)", r"\1=", str(misfit))) from None
+
+
+@contextmanager
+def kept(book: Book, name: str) -> Iterator[str]:
+    """A file of this name that has the script."""
+    if not book.commands:
+        raise Refused("NoTable", "the store is empty, so there is nothing to show")
+    with tempfile.TemporaryDirectory() as folder:
+        file = Path(folder) / name
+        file.write_bytes(book.script)
+        yield str(file)
+
+
+def write(path: Any, pieces: Any) -> None:
+    """Writes a file beside its place, and puts it there when it is whole."""
+    if not isinstance(path, (str, os.PathLike)):
+        raise checks.wrong("path", path, "the path of a file is wanted")
+    place = Path(path)
+    beside = place.with_name(f".{place.name}.{os.getpid()}")
+    try:
+        with beside.open("wb") as file:
+            file.writelines(pieces)
+        beside.replace(place)
+    finally:
+        beside.unlink(missing_ok=True)

@@ -1,0 +1,81 @@
+"""Files of a store: its script, a page of it, and pictures."""
+import os
+import tempfile
+import unittest
+from pathlib import Path
+
+import pandas as pd
+
+import ruzgalt
+
+DAY = pd.to_datetime
+QUESTIONS = ["rows,pay", "dip,pay", "agg,pay,sum,cents", "agg,pay,count,by,person", "join,pay,pay"]
+NO_QUESTIONS = ["", "delete,pay,2024-01-01,2024-02-01", "rows,pay\nrows,pay", 'rows,"pay', "rows", "rows,none", "log"]
+
+
+class Written(unittest.TestCase):
+    def setUp(self):
+        pay = pd.DataFrame({"from": DAY(["2024-01-01", "2024-03-01"]), "to": DAY(["2024-07-01", "2024-10-01"]),
+                            "person": ["Ada <b>", "Grace"], "cents": [5000, 4800]})
+        self.store = ruzgalt.Store()
+        self.store.table("pay", pay, key="person")
+        folder = tempfile.TemporaryDirectory()
+        self.addCleanup(folder.cleanup)
+        self.folder = Path(folder.name)
+
+    def test_a_script_is_in_its_file(self):
+        file = self.folder / "pay.csv"
+        file.write_text("older")
+        self.assertIsNone(self.store.save(file))
+        self.assertEqual(file.read_bytes(), bytes(self.store.script()))
+        pd.testing.assert_frame_equal(
+            ruzgalt.Store.from_script(file).rows("pay").astype({"from": str, "to": str}),
+            self.store.rows("pay").astype({"from": str, "to": str}),
+        )
+        with self.assertRaises(OSError):
+            self.store.save(self.folder / "none" / "pay.csv")
+        with self.assertRaises(ruzgalt.Refused):
+            self.store.save(5)
+        self.assertEqual(os.listdir(self.folder), ["pay.csv"])
+
+    def test_a_page_has_tables_and_answers(self):
+        asked = [*QUESTIONS[:2], f"cost={QUESTIONS[2]}"]
+        self.store.page(str(self.folder / "pay.html"), asked, title="Wages", note="-x")
+        page = (self.folder / "pay.html").read_text()
+        for told in ("<!DOCTYPE html>", "rows,pay", "agg,pay,sum,cents", "Grace", "pay.csv", "Wages", "cost"):
+            self.assertIn(told.lower(), page.lower())
+        self.assertNotIn("Ada <b>", page)
+        for asked in (["rows,none"], ["rows,pay", "delete,pay,2024-01-01,2024-02-01"], "rows,pay"):
+            with self.subTest(asked), self.assertRaises(ruzgalt.Refused):
+                self.store.page(self.folder / "other.html", asked)
+        with self.assertRaises(ruzgalt.Refused):
+            ruzgalt.Store().page(self.folder / "other.html")
+        self.assertEqual(os.listdir(self.folder), ["pay.html"])
+
+    def test_pictures_are_of_each_answer_that_has_one(self):
+        for question in QUESTIONS:
+            with self.subTest(question):
+                picture = self.store.picture(question)
+                self.assertTrue(picture._repr_svg_().startswith("<svg"))
+                self.assertNotIn("<b>", picture.svg)
+        where = {"where": {"person": "Grace"}}
+        self.assertIn("<svg", self.store.picture("between,pay,0,9", **where).svg)
+        words = {"by": "person", "label": "cents", "start": DAY("2024-04-01"), "width": 300}
+        shown = self.store.picture("rows,pay", **words, **where).svg
+        self.assertTrue('width="300"' in shown and "4800" in shown and "5000" not in shown, shown)
+
+    def test_what_is_no_picture_is_refused(self):
+        for question in (*NO_QUESTIONS, 5):
+            with self.subTest(question), self.assertRaises(ruzgalt.Refused):
+                self.store.picture(question)
+        with self.assertRaises(ruzgalt.Refused) as caught:
+            self.store.picture("between,pay,0,9")
+        self.assertIn("where=", str(caught.exception))
+        for words in ({"by": "none"}, {"width": 5}, {"start": "x"}, {"where": {"none": 1}}):
+            with self.subTest(words), self.assertRaises(ruzgalt.Refused):
+                self.store.picture("rows,pay", **words)
+        self.assertEqual(len(self.store.log()), 2)
+
+
+if __name__ == "__main__":
+    unittest.main()
