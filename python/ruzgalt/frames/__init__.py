@@ -43,7 +43,7 @@ A module stands on those above it:
     book                    what a store holds at one moment
     questions, divisions    what is asked of it
     opening, batches        a script as a store; changes that are tried together
-    written                 the script of a store, a page and pictures of it
+    written, raising        the script of a store, a page and pictures of it; raises
     store                   the store
 """
 from ruzgalt.frames.amounts import spread

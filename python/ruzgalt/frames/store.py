@@ -26,11 +26,12 @@ from ruzgalt.frames.options import (
     options_of, workers_of,
 )
 from ruzgalt.frames.questions import Asked
+from ruzgalt.frames.raising import Raising
 from ruzgalt.frames.tables import Table
 from ruzgalt.frames.written import Written
 
 
-class Store(Written):
+class Store(Raising, Written):
     """Tables with a past, in memory: each change is a commit, and each question may be asked as of any of them.
 
     What is refused changes nothing. Threads may share a store: a change is done alone, and a batch is one change.

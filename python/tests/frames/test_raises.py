@@ -1,0 +1,71 @@
+"""Raises of a store beside what each row comes to."""
+import unittest
+from decimal import ROUND_HALF_UP, Decimal
+from random import Random
+
+import pandas as pd
+
+import ruzgalt
+
+DAY = pd.to_datetime
+
+
+def store_of(**cells):
+    made = ruzgalt.Store()
+    frame = pd.DataFrame(cells).assign(**{"from": DAY("2024-01-01"), "to": DAY("2025-01-01")})
+    made.table("pay", frame, decimals={"hours": 2} if "hours" in cells else {})
+    return made
+
+
+class Raises(unittest.TestCase):
+    def test_each_row_is_raised_once(self):
+        """Also where one amount comes to another one that is there."""
+        random = Random(1)
+        for percent in ("2.5", "100", "-50", "-3.25"):
+            amounts = [random.choice([-200, -100, -50, 0, 25, 50, 100, 200, 400, 401]) for _ in range(20)]
+            store = store_of(cents=amounts, n=range(20))
+            with self.subTest(percent):
+                store.raise_by("pay", "cents", percent, "2024-07-01", round="half-up")
+                factor = 1 + Decimal(percent) / 100
+                wanted = [int((one * factor).quantize(Decimal(1), ROUND_HALF_UP)) for one in amounts]
+                later = store.at("pay", "2024-07-01").sort_values("n")["cents"].tolist()
+                before = store.at("pay", "2024-06-30").sort_values("n")["cents"].tolist()
+                self.assertEqual((later, before), (wanted, amounts))
+
+    def test_of_some_rows_for_some_time(self):
+        store = store_of(cents=[100, 200], k=["a", "b"])
+        told = store.raise_by("pay", "cents", 10, "2024-03-01", "2024-04-01", where={"k": "b"})
+        self.assertEqual((told.added, told.closed), (3, 1))
+        days = ("2024-02-29", "2024-03-01", "2024-04-01")
+        found = [store.at("pay", day).set_index("k")["cents"].to_dict() for day in days]
+        self.assertEqual(found, [{"a": 100, "b": 200}, {"a": 100, "b": 220}, {"a": 100, "b": 200}])
+
+    def test_names_and_decimals_are_those_of_frames(self):
+        store = store_of(**{"Löhne €": [100], "hours": [1.25]})
+        store.raise_by("pay", "Löhne €", Decimal("2"), "2024-03-01")
+        store.raise_by("pay", "hours", 20, "2024-03-01")
+        self.assertEqual(store.at("pay", "2024-03-01")[["Löhne €", "hours"]].values.tolist(), [[102, 1.5]])
+
+    def test_what_is_refused_changes_nothing(self):
+        store = store_of(cents=[101], k=["a"])
+        for words in (
+            {"percent": "2.5"}, {"percent": "much"}, {"percent": 0}, {"round": "nearest"}, {"column": "k"},
+            {"column": "none"}, {"where": {"none": 1}}, {"dry_run": 1}, {"end": "2024-01-01"}, {"start": "soon"},
+        ):
+            told = {"name": "pay", "column": "cents", "percent": 100, "start": "2024-07-01", **words}
+            with self.subTest(words), self.assertRaises(ruzgalt.Refused):
+                store.raise_by(**told)
+        self.assertEqual(len(store.log()), 2)
+        with self.assertWarns(ruzgalt.Doubt):
+            self.assertIsNone(store.raise_by("pay", "cents", 1, "2030-01-01"))
+
+    def test_a_batch_has_raises_too(self):
+        store = store_of(cents=[100])
+        with store.batch() as changed:
+            store.raise_by("pay", "cents", 10, "2024-07-01")
+            store.raise_by("pay", "cents", 10, "2024-07-01")
+        self.assertEqual((len(changed), store.at("pay", "2024-07-01")["cents"].tolist()), (2, [121]))
+
+
+if __name__ == "__main__":
+    unittest.main()
