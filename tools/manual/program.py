@@ -15,8 +15,8 @@ ENVIRONMENT = """\
 Settings of the C library. Where there are none, dipq is run with those of the allocator that serve it well."""
 SEE_ALSO = r"""
 \fBdipq-answers\fR(1), \fBdipq-load\fR(1). In the repository of Ruzgalt, and in /usr/share/doc/dipq where its
-package is installed: docs/LANGUAGE.md, which lists usual mistakes too; docs/RECIPES.md, command lines that go
-further with the answers; examples/, scripts with their answers."""
+package is installed: docs/LANGUAGE.md, which lists usual mistakes too; docs/RECIPES.md and docs/LOADING.md,
+command lines that go further; examples/, scripts with their answers."""
 
 
 def language() -> Iterator[str]:

@@ -11,7 +11,7 @@ SHARED = ("script", "help", "program", "answers", "ask", "go_on")
 IN_A_REPOSITORY = "In a repository of Ruzgalt, and in its documents, the command is {}."
 SEE_ALSO = (
     r"\fBdipq\fR(1), {}. In the repository of Ruzgalt, and in /usr/share/doc/dipq where its package is installed: "
-    r"docs/RECIPES.md, each command with what it prints."
+    r"docs/RECIPES.md, docs/LOADING.md, docs/COMPUTING.md and docs/PICTURES.md, each command with what it prints."
 )
 DIPQ = "The program that answers scripts, in place of the dipq that is installed beside the tool."
 ANSWERS_STATUS = [
