@@ -14,8 +14,9 @@ INNER = ("accept", "asked", "change", "known", "seen")
 HEAD = [
     "# API", "",
     "For who calls `ruzgalt` from Python: what it offers, call by call. [FRAMES](FRAMES.md) is the page to read first: "
-    "what the calls are for, which kinds of columns there are, what is refused. `tools/make-api` makes this page of the docstrings, which "
-    "`help(ruzgalt.join)` prints; tests run the examples, behind `import pandas as pd` and `import ruzgalt`.",
+    "what the calls are for, which kinds of columns there are, what is refused. `tools/make-api` makes this page of "
+    "the docstrings, which `help(ruzgalt.join)` prints; tests run the examples, behind `import pandas as pd` and "
+    "`import ruzgalt`.",
 ]
 
 
