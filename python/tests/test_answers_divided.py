@@ -45,6 +45,7 @@ class Divided(unittest.TestCase):
         self.assertEqual(header, [*OWN, *(f"{name}_" if name in OWN else name for name in names)])
         own = {str(number): row for number, row in enumerate(case.rows, 1)}
         self.assertEqual(sorted(record[1] for record in records), sorted(own))
+        counts: List[List[str]] = [["0", "0", ""]] if not (by or case.rows) else []
         groups: DefaultDict[Tuple[str, ...], List[List[str]]] = defaultdict(list)
         for record in records:
             row = own[record[1]]
@@ -58,6 +59,8 @@ class Divided(unittest.TestCase):
             self.assertEqual({record[0] for record in rows}, {str(part) for part in range(fewest)})
             first = min(day for day, number in held.items() if number == fewest)
             self.assertEqual({record[2] for record in rows}, {str(first)})
+            counts.append([str(len(rows)), str(fewest), str(first), *rows[0][5:5 + count]])
+        self.assertCountEqual(asked(case.script, "--counts", *by)[1:], counts)
 
     def test_many_groups_are_asked_in_several_runs(self) -> None:
         rows = "".join(f"row,2024-01-01,2024-01-0{2 + place % 3},{place % 150}\n" for place in range(300))
@@ -71,7 +74,13 @@ class Words(ToolCase):
         pay = ["tools/answers", "csv", "examples/pay.csv", "--answers", "examples/pay.csv.stdout"]
         self.check([*pay, "4", "--rows"], "", 1, "line 7: at,pay,2024-08-15: no division: ask by `dip`")
         self.check([*pay, "4", "--by", "person"], "", 1, "with --answers none is run")
-        self.check([*pay, "4", "--rows", "--folder", "x"], "", 1, "--rows and --by are of one division")
+        self.check([*pay, "4", "--counts"], "", 1, "line 7: at,pay,2024-08-15: no division: ask by `dip`")
+        self.check([*pay, "4", "--rows", "--folder", "x"], "", 1, "--rows, --by and --counts are of one division")
+        self.check([*pay, "4", "--rows", "--counts"], "", 1, "one of them")
+
+    def test_a_division_is_counted(self) -> None:
+        posts = ["tools/answers", "csv", "examples/posts.csv", "--answers", "examples/posts.csv.stdout", "--counts"]
+        self.check(posts, "", 0, "rows,parts,instant\n7,3,2024-02-05\n")
 
     def test_a_division_has_its_rows(self) -> None:
         posts = ["tools/answers", "csv", "examples/posts.csv", "--answers", "examples/posts.csv.stdout", "--rows"]

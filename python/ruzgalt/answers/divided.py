@@ -1,5 +1,7 @@
-"""A division with its rows: their periods and values beside their parts, and the own division of each group of rows."""
-from typing import Dict, Iterable, Iterator, List, NamedTuple, Sequence, Tuple
+"""A division with its rows: their periods and values beside their parts; the own division of each group of rows; and
+how many parts there are.
+"""
+from typing import Dict, Iterable, Iterator, List, NamedTuple, Optional, Sequence, Tuple
 
 from ruzgalt import answers
 from ruzgalt.answers import Answer, asking
@@ -8,10 +10,11 @@ from ruzgalt.checking.replay import Version
 from ruzgalt.errors import Misfit
 from ruzgalt.script.reader import Row
 from ruzgalt.script.records import encode, short, to_text
-from ruzgalt.script.schemas import DIVISION, PERIOD, Kind, Schema, Table, unique
+from ruzgalt.script.schemas import DIVISION, PERIOD, Column, Kind, Schema, Table, ints, unique
 
 # A script has so many tables at most, and is kept to so many rows, which are far from its most bytes.
 TABLES, ROWS = 64, 500_000
+COUNTS = [*ints("rows", "parts"), Column("instant", Kind.POINT)]
 
 
 class Group(NamedTuple):
@@ -34,16 +37,44 @@ def by_groups(found: Sequence[Answer], answer: Answer, names: Sequence[str], pro
 
     Groups are by their values, columns from the left and numbers by size.
     """
-    refuse_others(answer)
-    schema = schema_of(answer)
-    groups = groups_of(replay.rows_of(found, answer), schema, names)
+    columns = schema_of(answer).columns
     records: List[Row] = []
-    for some in batches(groups):
-        for group, division in zip(some, divisions(some, program)):
-            for part, place, instant in division.texts():
-                version = group.rows[int(place) - 1]
-                records.append([part, str(version.row_id), instant, *fields_of(version)])
-    return Table(unique([*DIVISION, *PERIOD, *schema.columns]), records)
+    for group, division in of_groups(found, answer, names, program):
+        for part, place, instant in division.texts():
+            version = group.rows[int(place) - 1]
+            records.append([part, str(version.row_id), instant, *fields_of(version)])
+    return Table(unique([*DIVISION, *PERIOD, *columns]), records)
+
+
+def of_groups(
+    found: Sequence[Answer], answer: Answer, names: Sequence[str], program: str,
+) -> Iterator[Tuple[Group, Table]]:
+    """Each group of equal values in these columns with its own division."""
+    refuse_others(answer)
+    for some in batches(groups_of(replay.rows_of(found, answer), schema_of(answer), names)):
+        yield from zip(some, divisions(some, program))
+
+
+def counted(answer: Answer) -> Table:
+    """How many rows and parts a division has, and its instant, as one record."""
+    refuse_others(answer)
+    return Table(COUNTS, [counts_of(answer.table)])
+
+
+def counted_by_groups(found: Sequence[Answer], answer: Answer, names: Sequence[str], program: str) -> Table:
+    """The same of each group's own division, with the group's values. Groups are by their values."""
+    records = [
+        [*counts_of(division), *group.values] for group, division in of_groups(found, answer, names, program)
+    ]
+    schema = schema_of(answer)
+    return Table(unique([*COUNTS, *(schema.columns[schema.place(name)] for name in names)]), records)
+
+
+def counts_of(division: Table) -> List[Optional[str]]:
+    """Rows, parts, and the instant, which a division without rows hasn't."""
+    records = list(division.texts())
+    parts = {part for part, _, _ in records}
+    return [str(len(records)), str(len(parts)), records[0][2] if records else None]
 
 
 def refuse_others(answer: Answer) -> None:

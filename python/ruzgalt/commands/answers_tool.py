@@ -68,8 +68,10 @@ def do_csv(options: Namespace) -> None:
         raise Misfit("--replace replaces files of a --folder, and none is given: what is printed replaces no file")
     if options.german and not (options.for_spreadsheet or options.decimals):
         raise Misfit("--german is of a spreadsheet or of decimals, and stands beside --for-spreadsheet or --decimals")
-    if options.folder and (options.rows or options.by):
-        raise Misfit("--rows and --by are of one division, and not of a --folder")
+    if options.folder and (options.rows or options.by or options.counts):
+        raise Misfit("--rows, --by and --counts are of one division, and not of a --folder")
+    if options.rows and options.counts:
+        raise Misfit("--rows has a record for each row, and --counts one for all, or for each group: one of them")
     found, look = read(options), look_of(options)
     if options.folder:
         picked = chosen(found, options.pick)
@@ -85,11 +87,14 @@ def do_csv(options: Namespace) -> None:
 
 
 def asked_table(options: Namespace, found: Found, answer: answers.Answer) -> Table:
-    """The answer's table, or that of a division with its rows, or with those of each group."""
+    """The answer's table; or of a division that with its rows, or with those of each group, or its counts."""
     if options.by:
         if options.answers is not None:
             raise Misfit("--by: each group's division is asked of the program, and with --answers none is run")
-        return divided.by_groups(found.answers, answer, options.by, options.program)
+        by_groups = divided.counted_by_groups if options.counts else divided.by_groups
+        return by_groups(found.answers, answer, options.by, options.program)
+    if options.counts:
+        return divided.counted(answer)
     return divided.with_rows(found.answers, answer) if options.rows else answer.table
 
 
@@ -265,6 +270,10 @@ def words_of_csv(parser: ArgumentParser) -> None:
     parser.add_argument(
         "--by", action="append", default=[], metavar="COLUMN",
         help="of a division: the own division of each group of equal values, with rows",
+    )
+    parser.add_argument(
+        "--counts", action="store_true",
+        help="of a division, or with --by of each group's: how many rows and parts it has, and its instant",
     )
     words_of_looks(parser, "decimals are as 1234,50; beside --for-spreadsheet: semicolons between fields")
 
