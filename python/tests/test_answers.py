@@ -208,7 +208,10 @@ class Tables(unittest.TestCase):
         wanted = "commit,place,entered,change,valid_from,valid_to,person,euros\n"
         wanted += "3,line 6,2024-05-11,-,2024-05-01,2024-05-11,A,6\n3,line 6,2024-05-11,+,2024-05-01,2024-05-11,A,9\n"
         words = "history $S pay --answers $A --diary diary --retroactive --commit 3"
-        self.prints(wanted, words, script, "".join(f"ok,{number}\n" for number in range(1, 6)))
+        told = "".join(f"ok,{number}\n" for number in range(1, 6))
+        self.prints(wanted, words, script, told)
+        self.prints(wanted, f"{words}-", script, told)
+        self.prints(wanted, f"{words}-4", script, told)
 
     def test_a_diary_of_commits_that_aren_t_there_is_told(self) -> None:
         script = PAY + "table,diary,newest,int\nload,diary\nrow,2024-01-01,2024-02-01,1\n"
@@ -226,6 +229,9 @@ class Tables(unittest.TestCase):
         self.assertIn("no row of pay ever had what --where tells", said)
         status, _, said = answers("history $S pay --answers $A --commit 3", PAY, "ok,1\nok,2\n")
         self.assertEqual((status, "no commit that is there: the newest is 2" in said), (1, True))
+        for word, wanted in {"2-3": "2-3: no commits that are", "2-1": "2-1: no commits", "3-": "3-2: no"}.items():
+            status, _, said = answers(f"history $S pay --answers $A --commit {word}", PAY, "ok,1\nok,2\n")
+            self.assertEqual((status, wanted in said), (1, True), said)
 
     def test_a_name_of_a_question_is_that_of_its_table(self) -> None:
         words = "sqlite $S :memory: --answers $A --ask all=rows,pay"

@@ -118,5 +118,5 @@ def retroactive(table: Table) -> Table:
     return Table(table.columns, records)
 
 
-def of_commit(table: Table, commit: int) -> Table:
-    return Table(table.columns, [record for record in table.records if record[0] == str(commit)])
+def of_commits(table: Table, commits: range) -> Table:
+    return Table(table.columns, [record for record in table.records if record[0] and int(record[0]) in commits])

@@ -15,7 +15,7 @@ from ruzgalt.checking.replay import Replay
 from ruzgalt.commands import called, going_on, over_time, picture, streams
 from ruzgalt.commands.given import Found, bytes_of, chosen, last, read, warn
 from ruzgalt.commands.progress import Progress
-from ruzgalt.commands.words import Words, look_of, pair, words_of_looks
+from ruzgalt.commands.words import Words, look_of, pair, some_commits, words_of_looks
 from ruzgalt.errors import Misfit
 from ruzgalt.page import contents, document, sources
 from ruzgalt.script import commands, records
@@ -180,8 +180,7 @@ def do_history(options: Namespace) -> None:
     if not found.is_own:
         fitting.refuse_unfit(found.answers, found.answers)
     newest = max((answer.commits for answer in found.answers), default=0)
-    if options.commit is not None and not 1 <= options.commit <= newest:
-        raise Misfit(f"--commit {options.commit}: no commit that is there: the newest is {newest}")
+    wanted = commits_of(options, newest)
     days = history.days_in(found.answers, options.diary) if options.diary else None
     table = history.of_table(found.answers, options.table, options.where, days)
     for doubt in history.doubts_of(table, days, newest):
@@ -189,7 +188,19 @@ def do_history(options: Namespace) -> None:
     if options.where and not table.records:
         warn(f"no row of {options.table} ever had what --where tells")
     table = history.retroactive(table) if options.retroactive else table
-    show_table(options, table if options.commit is None else history.of_commit(table, options.commit))
+    show_table(options, table if wanted is None else history.of_commits(table, wanted))
+
+
+def commits_of(options: Namespace, newest: int) -> Optional[range]:
+    """The commits that are wanted, where not all."""
+    if options.commit is None:
+        return None
+    first, last = options.commit
+    last = newest if last is None else last
+    if not 1 <= first <= last <= newest:
+        told = f"{first}: no commit that is" if first == last else f"{first}-{last}: no commits that are"
+        raise Misfit(f"--commit {told} there: the newest is {newest}")
+    return range(first, last + 1)
 
 
 def do_front(options: Namespace) -> int:
@@ -326,7 +337,10 @@ def words_of_history(parser: ArgumentParser) -> None:
         "--where", type=pair, action="append", default=[], metavar="COLUMN=VALUE", help="only rows with this value",
     )
     parser.add_argument("--diary", metavar="TABLE", help="a table whose first column is the newest commit of a time")
-    parser.add_argument("--commit", type=int, metavar="N", help="only what this commit changed")
+    parser.add_argument(
+        "--commit", type=some_commits, metavar="N",
+        help="only what this commit changed; as N-M those from N to M, as N- all from N on",
+    )
     parser.add_argument("--retroactive", action="store_true", help="only the time before the day that the diary tells")
     words_of_looks(parser)
 

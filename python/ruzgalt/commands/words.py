@@ -1,7 +1,7 @@
 """Words of command lines that several tools take, as what they tell."""
 import sys
 from argparse import ArgumentParser, ArgumentTypeError, Namespace
-from typing import NoReturn, Tuple
+from typing import NoReturn, Optional, Tuple
 
 from ruzgalt.answers.amounts import Amounts
 from ruzgalt.answers.shown import Look
@@ -21,6 +21,14 @@ def pair(word: str) -> Tuple[str, str]:
     if not mark:
         raise ArgumentTypeError(f"{word}: not COLUMN=VALUE")
     return name, value
+
+
+def some_commits(word: str) -> Tuple[int, Optional[int]]:
+    """N, or FIRST-LAST of several, or FIRST- of all from there on: the first, and the last where it is given."""
+    first, mark, last = word.partition("-")
+    if not (first + last).isdigit() or not first:
+        raise ArgumentTypeError(f"{word}: not N, FIRST-LAST or FIRST-, as 7, 7-9 or 7-")
+    return int(first), int(last) if last else None if mark else int(first)
 
 
 def decimals(word: str) -> Tuple[str, int]:
