@@ -12,6 +12,7 @@ from ruzgalt.frames.errors import doubt
 from ruzgalt.frames.script import Command
 from ruzgalt.frames.written import answered, refusing
 from ruzgalt.periods.rounding import ROUNDINGS
+from ruzgalt.script import naming
 
 if TYPE_CHECKING:
     from ruzgalt.frames.book import Book
@@ -58,8 +59,8 @@ class Raising:
         Returns
         -------
         Changed or DataFrame
-            Of all updates together, in a batch None. Or a frame of rows, the amount, what it comes to exactly, and that
-            as it would be, in the column's smallest units.
+            Of all updates together, in a batch None. Or a frame of rows, the amount under its column's name, what it
+            comes to exactly, and that as it would be, in the column's smallest units.
 
         Raises
         ------
@@ -87,7 +88,8 @@ class Raising:
         with self.lock:
             made = raise_of(self.seen(), self.known(name), column, (str(percent), start, end), (where, round))
             if is_dry:
-                return pd.DataFrame(list(made.table().values()), columns=made.table().names)
+                names = naming.apart(["rows", "exact", "raised", column])
+                return pd.DataFrame(list(made.table().values()), columns=[names[0], names[3], *names[1:3]])
             commands = [Command(fields, [script.record(fields)]) for fields in made.updates()]
             if not commands:
                 doubt(f"raise of {name}: {'; '.join(made.notes())}")

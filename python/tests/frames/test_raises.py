@@ -41,7 +41,11 @@ class Raises(unittest.TestCase):
         self.assertEqual(found, [{"a": 100, "b": 200}, {"a": 100, "b": 220}, {"a": 100, "b": 200}])
 
     def test_names_and_decimals_are_those_of_frames(self):
-        store = store_of(**{"Löhne €": [100], "hours": [1.25]})
+        store = store_of(**{"Löhne €": [100], "hours": [1.25], "exact": [7]})
+        dry = {name: list(store.raise_by("pay", name, 2, "2024-03-01", round="up", dry_run=True))
+               for name in ("Löhne €", "exact")}
+        self.assertEqual(dry["Löhne €"], ["rows", "Löhne €", "exact", "raised"])
+        self.assertEqual(dry["exact"], ["rows", "exact_", "exact", "raised"])
         store.raise_by("pay", "Löhne €", Decimal("2"), "2024-03-01")
         store.raise_by("pay", "hours", 20, "2024-03-01")
         self.assertEqual(store.at("pay", "2024-03-01")[["Löhne €", "hours"]].values.tolist(), [[102, 1.5]])
