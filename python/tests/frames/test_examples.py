@@ -1,0 +1,39 @@
+"""examples/frames.py: each of its cells prints what stands below it, behind # |, and nothing is warned of."""
+import contextlib
+import io
+import unittest
+import warnings
+from pathlib import Path
+
+import pandas as pd
+
+NOTEBOOK = Path(__file__).resolve().parents[3] / "examples" / "frames.py"
+CELL, OUTPUT = "# %%", "# |"
+
+
+def cells():
+    """The notebook's cells: the lines of each, and what it is said to print."""
+    first, *others = NOTEBOOK.read_text(encoding="utf-8").split(f"\n{CELL}")
+    for text in others:
+        lines = f"{CELL}{text}".splitlines()
+        told = [line[len(OUTPUT):].removeprefix(" ") for line in lines if line.startswith(OUTPUT)]
+        yield "\n".join(line for line in lines if not line.startswith(OUTPUT)), told
+
+
+class Examples(unittest.TestCase):
+    def test_each_cell_prints_what_stands_below_it(self):
+        names = {"__file__": str(NOTEBOOK)}
+        found = list(cells())
+        with pd.option_context("display.width", 120, "display.max_columns", None), warnings.catch_warnings():
+            warnings.simplefilter("error")
+            for source, told in found:
+                printed = io.StringIO()
+                with contextlib.redirect_stdout(printed):
+                    exec(compile(source, str(NOTEBOOK), "exec"), names)
+                with self.subTest(source.splitlines()[0]):
+                    self.assertEqual([line.rstrip() for line in printed.getvalue().splitlines()], told)
+        self.assertGreater(sum(len(told) for _, told in found), 50)
+
+
+if __name__ == "__main__":
+    unittest.main()
