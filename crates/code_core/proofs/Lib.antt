@@ -1,0 +1,2 @@
+pub mod AntiCodeLemmas
+pub mod JoinCodeLemmas

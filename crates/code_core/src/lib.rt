@@ -1,0 +1,7 @@
+#![tactic(auto)]
+
+//! Laws of rows that have numbers in place of what is compared.
+
+mod laws;
+
+pub use laws::{anti_is_that_of_codes, join_is_that_of_codes};
