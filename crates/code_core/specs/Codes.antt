@@ -18,7 +18,8 @@ pub record StandsFor (row_of : Row → Row) (id_of : ℕ → ℕ) (rows : List R
   pub rises : (m n : ℕ) → m < n → id_of m < id_of n
 
 -- a left and a right row match exactly where those do that they stand for
-abbrev pub MatchAlike : (Row → Row → Type 0) → (Row → Row → Type 0) → (Row → Row) → (Row → Row) → List Row → List Row → Type 0
+abbrev pub MatchAlike : (Row → Row → Type 0) → (Row → Row → Type 0) → (Row → Row) → (Row → Row)
+    → List Row → List Row → Type 0
 MatchAlike here there left_of right_of left right =
     (x y : Row) → Contains left x → Contains right y → here x y ↔ there (left_of x) (right_of y)
 

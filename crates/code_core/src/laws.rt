@@ -9,7 +9,8 @@ pub fn join_is_that_of_codes()
     ensures { JoinIsOfCodes }
 {}
 
-/// The same holds of anti-joins.
+/// Rows can be anti-joined as others with numbers in place of what is compared, under the same conditions. The anti-join
+/// of those, with the ids given back, is the anti-join of these.
 pub fn anti_is_that_of_codes()
     ensures { AntiIsOfCodes }
 {}
