@@ -51,7 +51,7 @@ part_records-at k (part ∷ parts) (suc i) within =
     let same : k + 1 + i ≡ k + suc i = omega arith in
     part_records-at (k + 1) parts i (omega (arith, within)) ∙ ap (λ n. part_record n (part_at parts i)) same
 
--- parts tell of no refusal
+-- none of the records of parts is a refusal
 errors_in-part_records : (k : ℕ) (parts : List (List Item)) → errors_in (part_records k parts) ≡ 0
 errors_in-part_records k [] = refl
 errors_in-part_records k (c ∷ cs) =
@@ -112,7 +112,7 @@ pub bytes-piece : (a b : List ℕ) (records : List Record) (places : Range ℕ) 
 bytes-piece a b records places start end all before from =
     all ∙ ap (λ some. a ++ bytes_of some) (sym (piece-between places start end records before from))
 
--- a list of records of which none tells of a refusal, and its end
+-- a list of records of which none is a refusal, and its end
 errors_in-list : {T : Type 0} (record_of : T → Record) → ((x : T) → begins (codes "error") (record_of x) ≡ false)
     → (xs : List T) (count : ℕ)
     → errors_in (map record_of xs ++ end_record count ∷ []) ≡ 0
@@ -146,7 +146,7 @@ errors_in-agg_records rows = errors_in-list agg_record (λ row. refl) rows (leng
 errors_in-commit_records : (entries : List Entry) → errors_in (commit_records entries) ≡ 0
 errors_in-commit_records entries = errors_in-list commit_record (λ e. refl) entries (length entries)
 
--- a verdict tells of no refusal, whichever it is
+-- a verdict is no refusal, whichever it is
 errors_in-verdict : (v : Verdict) → errors_in (verdict_record v ∷ []) ≡ 0
 errors_in-verdict (WrongCount n) = refl
 errors_in-verdict (EmptyPart k) = refl

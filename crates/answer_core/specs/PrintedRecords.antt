@@ -163,7 +163,7 @@ verdict_record Yes = codes "yes" ∷ []
 
 -- ---- answers
 
--- the records of an answer; a division's tell its instant too
+-- the records of an answer; a division's have its instant too
 abbrev pub IsPrintedAs : Answer → List Record → Type 0
 IsPrintedAs (answer.Refused fault) records = records ≡ error_record fault ∷ []
 IsPrintedAs (answer.Committed commit) records = records ≡ ok_record commit ∷ []
@@ -177,6 +177,6 @@ IsPrintedAs (answer.Agg rows) records = records ≡ agg_records rows
 IsPrintedAs (answer.Verdict verdict) records = records ≡ verdict_record verdict ∷ []
 IsPrintedAs (answer.Log entries) records = records ≡ commit_records entries
 
--- how many of some records tell of a refusal
+-- how many of some records are refusals
 abbrev pub errors_in : List Record → ℕ
 errors_in records = count_by (begins (codes "error")) records

@@ -38,7 +38,7 @@ pub enum Answer {
 }
 
 impl Answer {
-    /// How many of its records tell of a refusal: one where it is one, else none.
+    /// How many of its records are refusals: one where it is one, else none.
     pub fn refusals(&self) -> u64
         ensures told { (records : List Record) → IsPrintedAs self.now records
             → errors_in records ≡ result }

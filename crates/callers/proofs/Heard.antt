@@ -12,7 +12,7 @@ own-within is-own h mine is =
     let same : length mine ≡ length (filter is-own h) = ap length (sym is) in
     omega (arith, same, length-filter is-own h, count_by-le-length is-own h)
 
--- no fewer than it had seen, or was told
+-- no fewer than it had seen, or has heard of
 pub front-within : (front h : History) → IsPrefix front h → length front ≤ length h
 front-within front h (rest, is) =
     let whole : length h ≡ length front + length rest = sym (ap length is) ∙ length-append front rest in

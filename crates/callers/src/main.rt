@@ -63,7 +63,7 @@ fn report<R: Print + Wait>(
     ensures { IsPassOf store.now auditor.new }
 {
     let log = store.log(rt, auditor)?;
-    // In range, since the note told of as many commits.
+    // In range, since the note names as many commits.
     let loaders = &log.as_slice()[..COMMITS as usize];
     let newest = store.snapshot(rt, auditor, None)?;
     println!(rt; "commits in the log: {}", log.len())?;

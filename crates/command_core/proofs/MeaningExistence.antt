@@ -1,4 +1,4 @@
--- Records tell a first command.
+-- Records have a first command.
 use Rattle.std.proofs.Common.{◌≡◌, ◌⊎◌, ℕ, ◌<◌, List, [], ◌∷◌, ◌++◌, false, true, length, arith, ap, sym, ◌∙◌, refl, inl, inr, append_assoc}
 use Rattle.std.proofs.lemmas.Bool.{cases_Bool}
 use Rattle.std.proofs.lemmas.List.{append-nil}

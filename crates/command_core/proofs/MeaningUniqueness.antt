@@ -1,4 +1,4 @@
--- Records tell at most one way to take the first command's from them, and one meaning.
+-- There is at most one way to take the first command's records from them, and one meaning.
 use Rattle.std.proofs.Common.{◌≡◌, ℕ, List, [], ◌∷◌, ◌++◌, false, true, ap, sym, ◌∙◌, refl, subst, inl, inr, append_assoc}
 use Rattle.std.proofs.lemmas.Bool.{both_ways}
 use Rattle.std.proofs.lemmas.List.{append-nil}

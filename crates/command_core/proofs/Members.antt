@@ -1,4 +1,4 @@
--- Records tell at most one way to take a block's commands from them.
+-- There is at most one way to take a block's commands from records.
 use Rattle.std.proofs.Common.{◌≡◌, ◌⊎◌, ℕ, ◌+◌, List, [], ◌∷◌, ◌++◌, length, false, true, ap, sym, ◌∙◌, refl, subst, inl, inr, append_assoc, arith}
 use Rattle.std.specs.Bool.{⊤}
 use Rattle.std.proofs.lemmas.Bool.{both_ways}

@@ -1,4 +1,4 @@
--- The aggregate that a record's fields tell, or why they tell none.
+-- The aggregate that a record's fields name, or why they name none.
 use Rattle.std.specs.Prelude.{ℕ, List, [], ◌∷◌, Option, Some, None, Result, Ok, bytes_eq, codes, option_map, if◌then◌else◌}
 use Rattle.std.specs.Option.{ok_or, option_and_then}
 use Rattle.row_core.specs.Refusals.{and_then, map_ok}
@@ -18,7 +18,7 @@ column_func word column =
     else if bytes_eq word (codes "max") then Some (Max column)
     else None
 
--- the column that rows are grouped by, told behind `by`; where there is no field at all, none is told
+-- the column that rows are grouped by, named behind `by`; none where there is no field at all
 abbrev pub group_told : Record → Option (Option (List ℕ))
 group_told [] = Some None
 group_told (word ∷ column ∷ []) = if bytes_eq word (codes "by") then Some (Some column) else None
@@ -28,7 +28,7 @@ group_told fields = None
 abbrev pub aggregate_by : List ℕ → Func → Option (List ℕ) → Aggregate
 aggregate_by table func by = record { table = table; func = func; by = by }
 
--- a function of a table's rows, and the grouping that the fields behind it tell
+-- a function of a table's rows, and the grouping that the fields behind it name
 abbrev pub grouped : List ℕ → Record → Func → Option Aggregate
 grouped table fields func = option_map (aggregate_by table func) (group_told fields)
 
@@ -62,6 +62,6 @@ named_aggregate aggregate =
     map_ok (λ told. aggregate_by told.0 told.1.0 told.1.1)
     (both_ok (name_in aggregate.table) (both_ok (named_func aggregate.func) (named_group aggregate.by)))
 
--- the aggregate that a record tells, or why there is none: its form comes before its names
+-- the aggregate that a record names, or why there is none: its form comes before its names
 abbrev pub aggregated : Record → Result Aggregate Refusal
 aggregated line = and_then (ok_or (aggregate_form line) BadCommand) named_aggregate

@@ -67,7 +67,7 @@ abbrev pub claimed : Record → Result (List ℕ × (ℕ × Option ℤ)) Refusal
 claimed (word ∷ name ∷ parts ∷ instant ∷ []) = both_ok (name_in name) (both_ok (natural_in parts) (instant_in instant))
 claimed line = Err BadCommand
 
--- two tables, and the pairs of their columns that are told behind `on`, if there are any
+-- two tables, and the pairs of their columns that are named behind `on`, if there are any
 abbrev pub compared : Record → Result Compared Refusal
 compared (word ∷ left ∷ right ∷ fields) =
     and_then (ok_or (paired_behind (codes "on") fields) BadCommand)
@@ -87,12 +87,12 @@ split_asof (word ∷ text ∷ []) =
     if bytes_eq word (codes "asof") then ([], Some text) else (word ∷ text ∷ [], None)
 split_asof (field ∷ word ∷ text ∷ fields) = field_before field (split_asof (word ∷ text ∷ fields))
 
--- the number that a suffix may have told: none where there is no suffix
+-- the number that a suffix gives: none where there is no suffix
 abbrev pub commit_told : Option (List ℕ) → Result (Option ℕ) Refusal
 commit_told None = Ok None
 commit_told (Some text) = map_ok Some (natural_in text)
 
--- what the record tells without its suffix, and the commit that the suffix tells; without one none, which
+-- what the record says without its suffix, and the commit that the suffix names; without one none, which
 -- is the newest
 abbrev pub with_asof : {T : Type 0} → (Record → Result T Refusal) → Record → Result (T × Option ℕ) Refusal
 with_asof read line = both_ok (read (split_asof line).0) (commit_told (split_asof line).1)

@@ -46,6 +46,6 @@ pub record Compared : Type 0 where
   pub right : List ℕ
   pub on : List NamePair
 
--- the two tables and the pairs that were told
+-- the two tables and the pairs that were named
 abbrev pub compared_by : (List ℕ × List ℕ) × List NamePair → Compared
 compared_by told = record { left = told.0.0; right = told.0.1; on = told.1 }

@@ -1,10 +1,10 @@
--- The settings and the conditions of a portion, as the fields behind its ends tell them.
+-- The settings and the conditions of a portion, as the fields behind its ends give them.
 use Rattle.std.specs.Prelude.{List, [], ◌∷◌, Option, Some, None, bytes_eq, codes, option_map, if◌then◌else◌}
 use Rattle.std.specs.Option.{option_and_then}
 use Rattle.command_core.specs.Pairs.{TextPair, paired_behind, pairs_of}
 use Rattle.command_core.specs.Records.{Record}
 
--- the conditions that fields tell: none where there is no field, or pairs behind `where`
+-- the conditions that fields give: none where there is no field, or pairs behind `where`
 abbrev pub conditions_in : Record → Option (List TextPair)
 conditions_in fields = option_map pairs_of (paired_behind (codes "where") fields)
 
@@ -26,7 +26,7 @@ abbrev pub some_set : List TextPair × List TextPair → Option (List TextPair �
 some_set ([], conds) = None
 some_set (set ∷ sets, conds) = Some (set ∷ sets, conds)
 
--- the settings that fields tell behind `set`, at least one, and the conditions behind them
+-- the settings that fields give behind `set`, at least one, and the conditions behind them
 abbrev pub settings_in : Record → Option (List TextPair × List TextPair)
 settings_in [] = None
 settings_in (word ∷ fields) =

@@ -1,4 +1,4 @@
--- An aggregate whose names have not been tested, as fields in memory tell it.
+-- An aggregate whose names have not been tested, as fields in memory name it.
 use Rattle.std.specs.Prelude.{option_map}
 use Rattle.command_core.specs.declared.aggregate.Aggregate.{Aggregate}
 use Rattle.command_core.specs.declared.aggregate.Func.{Func}

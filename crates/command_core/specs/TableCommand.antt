@@ -1,4 +1,4 @@
--- The columns of a new table and the names of its key, as fields in memory tell them.
+-- The columns of a new table and the names of its key, as fields in memory give them.
 use Rattle.std.specs.Prelude.{ℕ, List, ◌∷◌, Option, None, map, option_map}
 use Rattle.std.specs.Borrow.{Bor}
 use Rattle.row_core.specs.declared.value.Kind.{Kind}
@@ -19,7 +19,7 @@ raw_of columns = map raw_column columns
 abbrev pub form_of : RawTable → TableForm
 form_of table = (raw_of table.columns.items, fields_in table.key)
 
--- the column that the first two fields tell
+-- the column that the first two fields give
 abbrev pub first_column : Record → Option (List ℕ × Kind)
 first_column (name ∷ word ∷ fields) = option_map (λ kind. (name, kind)) (kind_named word)
 first_column fields = None

@@ -1,4 +1,4 @@
-//! Aggregates, and the fields that tell them.
+//! Aggregates, and the fields that name them.
 ghost use Rattle.std.specs.Prelude.{◌≡◌, option_map};
 ghost use Rattle.command_core.specs.Aggregates.{
   aggregate_form,
@@ -44,7 +44,7 @@ pub struct Aggregate {
     pub by: Option<Name>,
 }
 
-/// An aggregate as its record tells it, where no name has been tested.
+/// An aggregate as its record gives it, where no name has been tested.
 #[derive(Clone, Copy)]
 struct RawAggregate<'a> {
     table: &'a [u8],
@@ -76,7 +76,7 @@ fn column_func<'a>(word: &[u8], column: &'a [u8]) -> Option<RawFunc<'a>>
     }
 }
 
-/// The column that rows are grouped by, told behind `by`; where there is no field at all, none is told.
+/// The column that rows are grouped by, named behind `by`; none where there is no field at all.
 fn group_told<'a>(fields: Line<'a>) -> Option<Option<&'a [u8]>>
     ensures { option_map (option_map (λ column. column.now)) result ≡ group_told (fields_in fields.entry) }
 {
@@ -90,7 +90,7 @@ fn group_told<'a>(fields: Line<'a>) -> Option<Option<&'a [u8]>>
     }
 }
 
-/// A function of a table's rows, and the grouping that the fields behind it tell.
+/// A function of a table's rows, and the grouping that the fields behind it name.
 fn grouped<'a>(table: &'a [u8], fields: Line<'a>, func: RawFunc<'a>) -> Option<RawAggregate<'a>>
     ensures { option_map aggregate_of result ≡ grouped table.entry.now (fields_in fields.entry) (func_of func.entry) }
 {
@@ -154,7 +154,7 @@ fn named_aggregate(raw: RawAggregate<'_>) -> Result<Aggregate, Refusal>
     Ok(Aggregate { table, func, by })
 }
 
-/// The aggregate that a record tells: its form is tested before its names.
+/// The aggregate that a record names: its form is tested before its names.
 pub(crate) fn aggregated(line: Line<'_>) -> Result<Aggregate, Refusal>
     ensures { result ≡ aggregated (fields_in line.entry) }
 {

@@ -158,7 +158,7 @@ fn names_and_pairs<'a>(
     Ok(TwoTables { left, right, on })
 }
 
-/// Two tables, and the pairs of their columns that are told behind `on`, if there are any.
+/// Two tables, and the pairs of their columns that are named behind `on`, if there are any.
 pub(crate) fn compared<'a>(line: Line<'a>) -> Result<TwoTables<'a>, Refusal>
     ensures { map_ok compared_in result ≡ compared (fields_in line.entry) }
 {
@@ -187,7 +187,7 @@ pub(crate) fn split_asof<'a>(line: Line<'a>) -> (Line<'a>, Option<&'a [u8]>)
     }
 }
 
-/// The commit that a suffix tells, where there is one.
+/// The commit that a suffix names, where there is one.
 pub(crate) fn commit_told(text: Option<&[u8]>) -> Result<Option<u64>, Refusal>
     ensures { result ≡ commit_told (option_map (λ s. s.now) text.entry) }
 {

@@ -91,7 +91,7 @@ impl FlatFields {
     }
 }
 
-/// Adds where the fields of a record end, of which the first starts there, and tells the last of
+/// Adds where the fields of a record end, of which the first starts there, and returns the last of
 /// these places. On refusal there are none more.
 fn push_ends(ends: &mut Vec<u32>, start: usize, row: &ByteRecord) -> Result<usize, NoMemory>
     requires { start + size_of (fields_of row.now) < 2 ^ 32 }

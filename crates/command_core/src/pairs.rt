@@ -11,7 +11,7 @@ use crate::refusal::Refusal;
 use crate::words::begins;
 use row_core::Name;
 
-/// Pairs of a column's name and the text of a value, as fields tell them in turn.
+/// Pairs of a column's name and the text of a value, as fields give them in turn.
 #[derive(Clone, Copy)]
 pub struct TextPairs<'a> {
     /// The fields, column and text in turn.
@@ -45,7 +45,7 @@ impl<'a> TextPairs<'a> {
     }
 }
 
-/// Pairs of the names of two columns, as fields tell them in turn.
+/// Pairs of the names of two columns, as fields give them in turn.
 #[derive(Clone, Copy)]
 pub struct NamePairs<'a> {
     /// The fields, which are the names.

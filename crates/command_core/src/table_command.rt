@@ -19,7 +19,7 @@ use std::alloc::Global;
 /// A column's name, which may be none, and its kind.
 type RawColumn<'a> = (&'a [u8], Kind);
 
-/// A new table as its record tells it, where no name has been tested.
+/// A new table as its record gives it, where no name has been tested.
 #[derive(Drop)]
 struct RawTable<'a> {
     columns: Vec<RawColumn<'a>>,
@@ -40,7 +40,7 @@ fn kind_named(word: &[u8]) -> Option<Kind>
     }
 }
 
-/// The column that the first two fields tell: a name, which may be none, and a kind.
+/// The column that the first two fields give: a name, which may be none, and a kind.
 fn first_column<'a>(line: Line<'a>) -> Option<RawColumn<'a>>
     requires { 2 ≤ length (fields_in line) }
     ensures { option_map raw_column result ≡ first_column (fields_in line.entry) }

@@ -40,8 +40,8 @@ query-failed number meaning before after meant Is failure outcome answers is sam
     (subst (λ (o : Result Answer Failure). Performs before number meaning o before) (sym is)
     (query-answered number meaning before meant Is (Err failure) answers failed))
 
--- a query that fails before it reads, as all tables do of the commit that it tells, or else for want of memory, is refused
--- as what it would read
+-- a query that fails before it reads, as all tables do of the commit that it names, or else for want of memory, is
+-- refused as what it would read
 pub unread-fails : (number : ℕ) (meaning : Meaning) (h : History) (failure : Failure) (outcome : Result Answer Failure)
     → is_allowed true meaning ≡ true → outcome ≡ Err failure
     → ((table : List ℕ) → IsFailureOf (rows_told number h (asof_in meaning) table) failure)

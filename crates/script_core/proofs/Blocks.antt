@@ -194,7 +194,7 @@ placed-split (member ∷ front) back load none loads =
 
 -- ---- the loop over queries
 
--- the queries that are told are answered, and these are left from this place on
+-- some queries are answered, with this outcome, and these are left from this place on
 pub record QueriesTo (before : History) (number : ℕ) (records : List Record) (at : ℕ) (members : List Member)
     (old new : List ℕ) (told : Outcome) : Type 0 where
   pub gone : List Member
@@ -442,7 +442,7 @@ load-cut number lines place taken members meant within few split next_is =
           (drop taken (drop place lines)) l) (sym same.1) n.behind);
     }
 
--- what is told of two sections that are printed can be told of both
+-- the outcomes of two sections that are printed can be joined
 pub sections-joined : {E : Type 0} (before : History) (near far : ℕ) (front back : List Record)
     (old new empty later : List ℕ) (queries : Result (Outcome × Outcome) E)
     → length front + length back + 1 < 2 ^ 64

@@ -63,7 +63,7 @@ commands-few number own later statement (inr (inr u)) = omega (arith, ap command
 abbrev place_at : List Record → History → ℕ → Place
 place_at records history at = record { history = history; number = at + 1; left = drop at records }
 
--- the statements before the record of this index are done, their answers written, and this is told of them
+-- the statements before the record of this index are done, their answers written, and this is their outcome
 pub record Progress (records : List Record) (old now : Option (List ℕ)) (history : History) (at : ℕ)
     (outcome : Outcome) : Type 0 where
   pub dones : List Done

@@ -1,4 +1,4 @@
--- What a snapshot gives, as a script tells it.
+-- What a snapshot gives, as a script shows it.
 use Rattle.std.proofs.Common.{◌≡◌, ℕ, ◌≤◌, List, [], ◌∷◌, Bool, true, false, Some, length, refl}
 use Rattle.std.specs.Prelude.{is_none, nat_lt}
 use Rattle.std.proofs.lemmas.Bool.{le-ltb}

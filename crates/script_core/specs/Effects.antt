@@ -113,7 +113,7 @@ delete_in number h name portion conds =
 
 -- ---- queries
 
--- the rows of a table that a commit shows, the newest where none is told, or the fault of the command
+-- the rows of a table that a commit shows, the newest where none is named, or the fault of the command
 -- of this number
 abbrev pub rows_told : ℕ → History → Option ℕ → List ℕ → Result (List Row) Fault
 rows_told number h asof name =
@@ -123,7 +123,7 @@ rows_told number h asof name =
 abbrev pub TableRows : Type 0
 TableRows = List Column × List Row
 
--- a table with the rows that a commit shows, the newest where none is told, or the fault of the command of this
+-- a table with the rows that a commit shows, the newest where none is named, or the fault of the command of this
 -- number
 abbrev pub table_told : ℕ → History → Option ℕ → List ℕ → Result TableRows Fault
 table_told number h asof name =
@@ -139,7 +139,7 @@ sides_told number h asof tables =
     (option_map (λ refused. fault number (query_refusal refused)) (columns_refusal left.0 right.0 tables.on))
     (left, right)))
 
--- what is asked of the rows that hold, as a command tells it
+-- what is asked of the rows that hold, as a command says it
 abbrev pub agg_func : Func → agg.Func
 agg_func Count = func.Count
 agg_func (Sum column) = func.Sum column

@@ -15,7 +15,7 @@ Failure = row.Failure Fault
 abbrev pub refused : ℕ → Refusal → Failure
 refused number refusal = Refused (fault number refusal)
 
--- a failure of the record of this number, its refusal by the name that a script tells
+-- a failure of the record of this number, its refusal by the name that a script gives it
 abbrev pub failure_at : {E : Type 0} → ℕ → (E → Refusal) → row.Failure E → Failure
 failure_at number name why = map_refused (λ refusal. fault number (name refusal)) why
 

@@ -14,7 +14,7 @@ ledger_history ledger = seen ledger.pass
 abbrev pub left_in : Ledger → ℕ
 left_in ledger = calls_left ledger.pass
 
--- the commit that a snapshot shows, as a command tells one
+-- the commit that a snapshot shows, as a command names one
 abbrev pub commit_shown : Snapshot → Option ℕ
 commit_shown snapshot = Some (number_shown snapshot)
 

@@ -42,7 +42,7 @@ FailsToCompare number history asof left right failure =
     (on : List (List ℕ × List ℕ))
     → IsFailureOf (sides_told number history asof (record { left = left; right = right; on = on })) failure
 
--- the commit that a query tells, if it tells one
+-- the commit that a query names, if it names one
 abbrev pub asof_in : Meaning → Option ℕ
 asof_in (Rows table asof) = asof
 asof_in (At table point asof) = asof
@@ -65,7 +65,7 @@ Performs before number meaning (Err (Refused fault)) after =
     IsAnswerTo before number meaning (answer.Refused fault) after
 Performs before number meaning (Err NoMemory) after = ⊤
 
--- the records of an answer were printed, and those that tell of a refusal counted
+-- the records of an answer were printed, and the refusals among them counted
 pub record PrintsAnswer (answer : Answer) (old new : List ℕ) (told : ℕ) : Type 0 where
   pub records : List Record
   pub are : IsPrintedAs answer records
@@ -81,7 +81,7 @@ pub record PrintsBefore {E : Type 0} (given : Result Answer E) (old later new : 
   pub own : PrintsAnswer answer old near told
   pub joined : new ≡ near ++ later
 
--- what is told of the queries before a block's load and of those behind it can be told of all its commands
+-- the outcomes of the queries before a block's load and of those behind it can be joined to that of all its commands
 pub record CanBeJoined (first last : Outcome) : Type 0 where
   pub before : first.errors ≤ first.commands
   pub behind : last.errors ≤ last.commands
@@ -99,7 +99,7 @@ pub record PrintsBehind {E : Type 0} (queries : Result (Outcome × Outcome) E) (
   pub commands : told.commands ≡ queried.0.commands + queried.1.commands + 1
   pub refusals : told.errors ≡ queried.0.errors + queried.1.errors + errors
 
--- a command was answered, the records of its answer printed, and those that tell of a refusal counted
+-- a command was answered, the records of its answer printed, and the refusals among them counted
 pub record PrintsOne (before : History) (number : ℕ) (meaning : Meaning) (after : History) (old new : List ℕ)
     (told : ℕ) : Type 0 where
   pub answer : List Record

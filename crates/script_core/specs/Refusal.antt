@@ -1,4 +1,4 @@
--- The refusals of the crates below, as a script tells them.
+-- The refusals of the crates below, as a script names them.
 use Rattle.row_core.specs.declared.reading.RowRefused.{RowRefused}
 use Rattle.row_core.specs.declared.reading.RowRefused.TheVariants as row
 use Rattle.row_core.specs.declared.value.ValueRefused.{ValueRefused}

@@ -64,7 +64,7 @@ pub record IsOutput (script output : List ℕ) : Type 0 where
   pub statements : AreStatementsOf script dones
   pub is : output ≡ output_of dones
 
--- the numbers that a run tells
+-- the numbers of a run's outcome
 pub record Tells (outcome : Outcome) (dones : List Done) : Type 0 where
   pub commands : outcome.commands ≡ sum_by (λ done. commands_in done.statement) dones
   pub errors : outcome.errors ≡ sum_by (λ done. errors_in done.answer) dones
@@ -98,7 +98,7 @@ pub record ReadsStatements (before after : Source) (dones : List Done) : Type 0 
   pub reads : ReadsScript before after script
   pub statements : AreStatementsOf script dones
 
--- a writer was given the answers to these statements, and nothing else; the numbers told are theirs
+-- a writer was given the answers to these statements, and nothing else; the outcome's numbers are theirs
 pub record WritesAll (outcome : Outcome) (dones : List Done) (before after : Sink) : Type 0 where
   pub written : Appends before.written after.written (output_of dones)
   pub tells : Tells outcome dones
@@ -126,7 +126,7 @@ abbrev pub ReadsAnd : (List Done → Sink → Sink → Type 0) → Streams → S
 ReadsAnd Writes before after =
     (dones : List Done) × ReadsStatements before.reader after.reader dones × Writes dones before.writer after.writer
 
--- a script was read, and its output written; the numbers told are those of its statements
+-- a script was read, and its output written; the outcome's numbers are those of its statements
 abbrev pub RunsAll : Streams → Streams → Outcome → Type 0
 RunsAll before after outcome = ReadsAnd (WritesAll outcome) before after
 

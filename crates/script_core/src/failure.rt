@@ -20,7 +20,7 @@ pub(crate) fn refused(number: u64, refusal: Refusal) -> Failure
     Failure::Refused(Fault { number, refusal })
 }
 
-/// Why a call of a crate below fails, as the record of this number is told it.
+/// Why a call of a crate below fails, as it is reported of the record of this number.
 pub(crate) fn failure_at<E: Told>(number: u64, why: row_core::Failure<E>) -> Failure
     ensures { result ≡ failure_at number E.name why }
 {
@@ -30,7 +30,7 @@ pub(crate) fn failure_at<E: Told>(number: u64, why: row_core::Failure<E>) -> Fai
     }
 }
 
-/// A refusal of a crate below, which a script tells by a name of its own.
+/// A refusal of a crate below, to which a script gives a name of its own.
 pub(crate) trait Told: Drop {
     /// That name.
     ghost name: { Self → command.Refusal };

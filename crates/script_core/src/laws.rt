@@ -31,7 +31,7 @@ pub fn statement_has_one_answer()
 {}
 
 /// Two runs that come to their end, over one script and the same old contents, leave the same contents and
-/// tell the same numbers.
+/// report the same numbers.
 pub fn complete_runs_agree()
     ensures { (script text : List ℕ) (one one_after other other_after : Streams)
         (outcome told : Outcome)

@@ -1,4 +1,4 @@
-//! What a run that came to its end tells.
+//! What a run that came to its end reports.
 
 /// How many commands a run answered, and how many `error` records.
 #[derive(Clone, Copy, Debug, PartialEq, Eq)]

@@ -32,7 +32,7 @@ fn value_named(
     }
 }
 
-/// The values of pairs in a table's columns, which the command of this number tells.
+/// The values of pairs in a table's columns, which the command of this number gives.
 pub(crate) fn read_pairs(
     alloc: Global,
     schema: &Schema,

@@ -37,13 +37,13 @@ pub(crate) struct QueryContext<'a, T> {
     pub ghost all: { ShowsAll newest.now },
 }
 
-/// What the commit shows that the command of this number tells, the newest where none is told.
+/// What the commit shows that the command of this number names, the newest where none is named.
 fn shown_asof(newest: &Snapshot, number: u64, asof: Option<u64>) -> Result<Snapshot, Failure>
     requires { ShowsAll newest.now }
     ensures shows { IfOk result (λ shown. (history shown ≡ history newest.now)
         × (number_shown shown ≡ asked (history newest.now) asof)) }
 
-    // It fails as each table's rows do, and where no commit is told, for want of memory alone.
+    // It fails as each table's rows do, and where no commit is named, for want of memory alone.
     ensures fails { IfErr result (λ failure.
         (table : List ℕ) → IsFailureOf (rows_told number (history newest.now) asof table) failure) }
     ensures newest { IfErr result (λ failure. asof ≡ None → failure ≡ NoMemory) }
@@ -55,7 +55,7 @@ fn shown_asof(newest: &Snapshot, number: u64, asof: Option<u64>) -> Result<Snaps
     }
 }
 
-/// The commit that a query tells.
+/// The commit that a query names.
 fn asof_in(query: &Command<'_>) -> Option<u64>
     ensures { result ≡ asof_in (meaning_of query.now) }
 {
@@ -86,7 +86,7 @@ pub(crate) fn query<T: Threads + Sync>(
     query_shown(context, &shown, number, command)
 }
 
-/// Answers a query, whose first record has this number, from a snapshot of all commits, and one of those that it tells.
+/// Answers a query, whose first record has this number, from a snapshot of all commits, and one of those that it names.
 fn query_shown<T: Threads + Sync>(
     context: &QueryContext<'_, T>,
     shown: &Snapshot,
@@ -209,7 +209,7 @@ pub(crate) fn answer_of(outcome: Result<Answer, Failure>) -> Result<Answer, NoMe
     }
 }
 
-/// Prints an answer; tells how many records of it tell of a refusal.
+/// Prints an answer, and returns how many records of it are refusals.
 fn print_answer<T: Threads + Sync>(
     crew: &Crew<'_, T, OpenGate>,
     printer: &mut AnswerWriter,
@@ -222,7 +222,7 @@ fn print_answer<T: Threads + Sync>(
     Ok(answer.refusals())
 }
 
-/// Prints the answer, where there is one; tells how many records of it tell of a refusal.
+/// Prints the answer, where there is one, and returns how many records of it are refusals.
 pub(crate) fn print_given<T: Threads + Sync>(
     crew: &Crew<'_, T, OpenGate>,
     printer: &mut AnswerWriter,
@@ -239,8 +239,8 @@ pub(crate) fn print_given<T: Threads + Sync>(
     }
 }
 
-/// Answers a query, whose first record has this number, from a snapshot of all commits, and prints its answer; tells
-/// how many records of it tell of a refusal.
+/// Answers a query, whose first record has this number, from a snapshot of all commits, and prints its answer; returns
+/// how many records of it are refusals.
 pub(crate) fn answer_query<T: Threads + Sync>(
     context: &QueryContext<'_, T>,
     number: u64,
@@ -258,8 +258,8 @@ pub(crate) fn answer_query<T: Threads + Sync>(
     print_given(context.crew, printer, answer)
 }
 
-/// Does a command, whose first record has this number, and prints its answer; tells how many records of it tell of a
-/// refusal.
+/// Does a command, whose first record has this number, and prints its answer; returns how many records of it are
+/// refusals.
 pub(crate) fn answer_command<T: Threads + Wait + Sync>(
     crew: &Crew<'_, T, OpenGate>,
     ledger: &mut Ledger,

@@ -255,7 +255,7 @@ pub(crate) fn agg_table<T: Threads + Sync>(
     }
 }
 
-/// What is asked of the rows that hold, as a command tells it.
+/// What is asked of the rows that hold, as a command says it.
 fn agg_func(func: &Func) -> agg_core::Func
     ensures { result ≡ agg_func func.now }
 {

@@ -27,8 +27,8 @@ use std::thread::Threads;
 use stream_core::{Counted, Patience, RunFault, read_script};
 use work_core::{Crew, OpenGate};
 
-/// Does a statement, whose first record has this number, and prints its answer; tells how many commands there are in
-/// it, and how many records of the answer tell of a refusal.
+/// Does a statement, whose first record has this number, and prints its answer; returns how many commands there are in
+/// it, and how many records of the answer are refusals.
 fn answer_statement<T: Threads + Wait + Sync>(
     crew: &Crew<'_, T, OpenGate>,
     ledger: &mut Ledger,
@@ -59,8 +59,8 @@ fn answer_statement<T: Threads + Wait + Sync>(
     }
 }
 
-/// Answers the first statement of some records, the first of them of this number, and prints its answer; tells what of
-/// it is told, and how many records it takes.
+/// Answers the first statement of some records, the first of them of this number, and prints its answer; returns the
+/// statement's outcome, and how many records it takes.
 fn answer_next<T: Threads + Wait + Sync>(
     crew: &Crew<'_, T, OpenGate>,
     ledger: &mut Ledger,
@@ -156,7 +156,7 @@ pub fn run<T: Threads + Wait + Sync, R: Read, W: Write>(
         → IfErr result (λ _.
         AppendsFront (W.contents (inner_of writer.old)) (W.contents (inner_of writer.new)) output) }
 
-    // Ok read a script to its end, wrote its output, and tells how many commands and errors there are in it.
+    // Ok read a script to its end, wrote its output, and reports how many commands and errors there are in it.
     ensures ok { IfOk result (RunsAll
         (streams_of R.remaining reader.old W.contents writer.old)
         (streams_of R.remaining reader.new W.contents writer.new)) }

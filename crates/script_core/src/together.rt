@@ -48,7 +48,7 @@ struct BlockCut<'a> {
     back: Section<'a>,
 }
 
-/// Answers the queries of a section of a block, and prints their answers; tells how many commands there are, and how
+/// Answers the queries of a section of a block, and prints their answers; returns how many commands there are, and how
 /// many of them are refused. A load among them is refused, since a block's first load, which may be done, stands in no
 /// section.
 fn answer_queries<T: Threads + Sync>(
@@ -94,7 +94,7 @@ fn load_asked<'a>(command: &Command<'a>) -> FirstLoad<'a>
     }
 }
 
-/// Does the first load of a block, whose first record has this number, or tells why it can't be done.
+/// Does the first load of a block, whose first record has this number, or says why it can't be done.
 fn answer_load<T: Threads + Wait + Sync>(
     context: &QueryContext<'_, T>,
     ledger: &mut Ledger,
@@ -203,8 +203,8 @@ fn cut_at<'a>(block: Section<'a>, place: usize) -> BlockCut<'a>
     }
 }
 
-/// Prints the answer to a block's load, where there is one, and adds the answers to the queries behind it; tells how
-/// many records of the load's answer tell of a refusal.
+/// Prints the answer to a block's load, where there is one, and adds the answers to the queries behind it; returns how
+/// many records of the load's answer are refusals.
 fn print_load<T: Threads + Sync>(
     crew: &Crew<'_, T, OpenGate>,
     printer: &mut AnswerWriter,
@@ -219,8 +219,8 @@ fn print_load<T: Threads + Sync>(
     Ok(errors)
 }
 
-/// Prints what comes behind the answers to the queries before a block's load, if all of it is there, and tells what is
-/// told of the whole block.
+/// Prints what comes behind the answers to the queries before a block's load, if all of it is there, and returns the
+/// outcome of the whole block.
 fn print_behind<T: Threads + Sync>(
     crew: &Crew<'_, T, OpenGate>,
     printer: &mut AnswerWriter,

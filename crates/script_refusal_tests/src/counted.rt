@@ -58,7 +58,7 @@ fn check_answer(rt: &impl Abort, answer: io::Result<usize>, number: usize) {
     assert_eq!(rt; Some(given), ANSWERS.get(number).copied(), "call {number}");
 }
 
-// A read that gives no bytes has not failed: it tells the end.
+// A read that gives no bytes has not failed: it is at the end.
 #[test]
 fn a_counted_read_is_one_read(rt: HostRuntime) {
     let mut reader = Counted::new(Told { calls: 0 });

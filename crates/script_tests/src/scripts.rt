@@ -1,4 +1,4 @@
-//! What a run tells of its commands and refusals.
+//! What a run reports of its commands and refusals.
 
 use script_core::{Counted, Outcome, run};
 use std::alloc::Global;

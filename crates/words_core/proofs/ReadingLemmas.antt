@@ -58,7 +58,7 @@ plain-unknown name (c ∷ rest) plain =
     let other : (c == 45) ≡ false = ne_eqb c 45 plain in
     rw other (rw other (refl {a = kind.UnknownArgument ∷ []}))
 
--- a call for help is told as a fault
+-- a call for help is reported as a fault
 pub help-asked : (name : Text) → fault_of program_app (name ∷ codes "--help" ∷ []) ≡ kind.DisplayHelp ∷ []
 unfolding clap_on_literals
 help-asked name = refl
@@ -73,7 +73,7 @@ digits-IsPlainWord (c ∷ rest) digits = λ is.
 pub decimal-IsPlainWord : (n : ℕ) → n < 2 ^ 64 → IsPlainWord (decimal n)
 decimal-IsPlainWord n small = digits-IsPlainWord (decimal n) (decimal_is_IsNumeral n small).0.1
 
--- a number in decimal tells itself
+-- a number in decimal gives itself
 digits-without_leading_plus : (text : Text) → AllDigits 10 text → without_leading_plus text ≡ text
 digits-without_leading_plus [] digits = refl
 digits-without_leading_plus (c ∷ rest) digits =

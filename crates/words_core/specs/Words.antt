@@ -9,7 +9,7 @@ use Rattle.words_core.specs.declared.words.Words.TheVariants.{Run, Help}
 use Rattle.words_core.specs.declared.refused.WordsRefused.{WordsRefused}
 use Rattle.words_core.specs.declared.refused.WordsRefused.TheVariants.{NoMemory}
 
--- how many workers there are where no word tells
+-- how many workers there are where no word says
 abbrev pub default_workers : ℕ
 default_workers = 4
 
@@ -22,7 +22,7 @@ abbrev pub IsRunnable : Words → Type 0
 IsRunnable (Run n) = IsWorkers n
 IsRunnable Help = Unit {0}
 
--- the text is digits, with or without a plus before them, and tells a number of workers that may be asked for
+-- the text is digits, with or without a plus before them, and gives a number of workers that may be asked for
 abbrev pub TellsWorkers : List ℕ → ℕ → Type 0
 TellsWorkers text n =
     IsNumeral 10 (without_leading_plus text) × (digits_value 10 (without_leading_plus text) ≡ n) × IsWorkers n
@@ -32,7 +32,7 @@ abbrev pub IsPlainWord : List ℕ → Type 0
 IsPlainWord [] = Unit {0}
 IsPlainWord (c ∷ rest) = c ≢ 45
 
--- a run with as many workers as the text tells
+-- a run with as many workers as the text gives
 abbrev pub IsToldBy : List ℕ → Words → Type 0
 IsToldBy text (Run n) = TellsWorkers text n
 IsToldBy text Help = ⊥
@@ -41,7 +41,7 @@ IsToldBy text Help = ⊥
 abbrev pub IsAnswerOfWords : Result Words WordsRefused → Result Words WordsRefused → Type 0
 IsAnswerOfWords meant result = (result ≡ meant) ⊎ (result ≡ Err NoMemory)
 
--- the option that tells the number of workers, as `clap` sees it
+-- the option that gives the number of workers, as `clap` sees it
 abbrev pub workers_rule : Rule
 workers_rule = record (new_rule (codes "workers")) { long = Some (codes "workers"); defaults = codes "4" ∷ [] }
 
@@ -50,7 +50,7 @@ abbrev pub program_app : App
 program_app = with_rule (new_app (codes "dipq")) workers_rule
 
 -- the words ask for that, as `clap` reads them: for a run where it finds no fault, with as many workers as the
--- text tells that it takes for their number; for the help page where it finds a call for help
+-- text gives that it takes for their number; for the help page where it finds a call for help
 abbrev pub AsksFor : List Text → Words → Type 0
 AsksFor words (Run n) = (fault_of program_app words ≡ [])
     × (text : Text) × (first_of (codes "workers") (matches_of program_app words) ≡ Some text) × TellsWorkers text n

@@ -11,7 +11,7 @@ use clap::{Arg, Command};
 use std::alloc::{AllocError, Global};
 use work_core::WORKER_LIMIT;
 
-/// How many workers there are where no word tells, as a word would tell it.
+/// How many workers there are where no word says, as a word would give it.
 const DEFAULT_WORKERS: &str = "4";
 
 /// What the words of the command line ask for.
@@ -33,7 +33,7 @@ fn command<'a>(alloc: Global) -> Result<Command<'a>, AllocError>
     Command::new(alloc, "dipq").arg(workers)
 }
 
-/// A run with as many workers as the text tells.
+/// A run with as many workers as the text gives.
 fn run_with(text: &str) -> Result<Words, WordsRefused>
     ensures bounded { IfOk result IsRunnable }
     ensures told { (n : ℕ) → TellsWorkers text.now n → result ≡ Ok (Words.Run n) }
