@@ -21,13 +21,13 @@ use Rattle.agg_core.proofs.OrderLemmas.{agg_row_total}
 use Rattle.agg_core.proofs.PlateauLemmas.{row_of_group}
 use Rattle.agg_core.proofs.ShareLemmas.{keep_all}
 
--- a group that a row is of is told
+-- a group that a row is of is found
 has_group-there : (group_of : Row → Option Value) (rows : List Row) (row : Row) (group : Option Value) → Contains rows row
     → group_of row ≡ group → has_group group_of rows group ≡ true
 has_group-there group_of rows row group h e =
     list_any-contains (λ (r : Row). same_maybe (group_of r) group) rows row h ((maybe_decides (group_of row) group).1 e)
 
--- a group that is told is some row's
+-- a group that is found is some row's
 row_of_told : (group_of : Row → Option Value) (rows : List Row) (group : Option Value)
     → has_group group_of rows group ≡ true → (row : Row) × Contains rows row × (group_of row ≡ group)
 row_of_told group_of rows group told =

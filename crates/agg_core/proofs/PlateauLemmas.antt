@@ -283,7 +283,7 @@ group-there [] (Some name) (Some place) e = absurd (search rules)
 group-there (first ∷ columns) (Some name) (Some place) e =
     (position-Some (λ (c : Column). bytes_eq c.name name) (first ∷ columns) place first (sym e)).0
 
--- kinds that are told to be one are
+-- kinds that the test finds to be one are
 kind_is : (k l : Kind) → same_kind k l ≡ true → k ≡ l
 kind_is kind.Int kind.Int h = refl
 kind_is kind.Int kind.Text h = cc

@@ -67,7 +67,7 @@ same_answer measure amount_of group_of some other answer same all =
 
 -- ---- two shares
 
--- groups that are not one are told to be two
+-- groups that are not one are found to be two
 other_group : (a b : Option Value) → (a ≡ b → ⊥) → same_maybe a b ≡ false
 other_group a b other = by_test (same_maybe a b) refl where
   by_test : (t : Bool) → same_maybe a b ≡ t → same_maybe a b ≡ false

@@ -23,7 +23,7 @@ use work_core::{Crew, Gate};
 /// of workers. Numbers are ordered by value, texts by their bytes. Where no column is named all rows are one group.
 ///
 /// Rows are sorted once, by their groups, so many small groups cost no more than a large one: workers share them out by
-/// ranges of values. The gate is called before and after each piece of work, as `plateaus_of` tells.
+/// ranges of values. The gate is called before and after each piece of work, as `plateaus_of` says.
 ///
 /// # Errors
 ///

@@ -147,7 +147,7 @@ impl AggRows {
     }
 }
 
-/// How many rows the shares have, where a number tells.
+/// How many rows the shares have, where a `usize` holds it.
 fn count_rows(shares: &[AggShare]) -> Option<usize>
     ensures { IfSome result (λ len. len ≡ length (rows_in_shares shares.now)) }
 {

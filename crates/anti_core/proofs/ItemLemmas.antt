@@ -122,7 +122,7 @@ pub piece-distinct : (places : Range ℕ) (items : List Item) → HasDistinctIds
 piece-distinct places items ids =
     from-distinct places.from (piece_before places.before items) (before-distinct places.before items ids)
 
--- what is told of an answer for a piece: the number of workers, its places when it is done, and what it gave
+-- what is known of an answer for a piece: the number of workers, its places when it is done, and what it gave
 abbrev GivenRows : List Item → List Item → Range ℕ → Vec AntiRow → Type 0
 GivenRows left right places rows = ℕ × (Range ℕ × AreItemsRows (piece places left) right rows.items)
 

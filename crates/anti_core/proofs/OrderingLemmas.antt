@@ -170,7 +170,7 @@ range-cut rows from at lows highs begun one other =
 
 -- ---- all ranges
 
--- what is told of an answer for a range: the number of workers, the range when it is done, and what it gave
+-- what is known of an answer for a range: the number of workers, the range when it is done, and what it gave
 abbrev Given : List AntiRow → Range ℕ → List AntiRow → Type 0
 Given rows ids some = ℕ × (Range ℕ × IsListOf AntiRowBefore (IsRowOf rows ids) some)
 

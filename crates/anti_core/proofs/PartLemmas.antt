@@ -8,7 +8,7 @@ use Rattle.dip_core.proofs.StepLemmas.{contains-all_of}
 use Rattle.merge_core.specs.Meets.{IdsTell}
 use Rattle.dip_core.proofs.PartedLemmas.{distinct-earlier, ids-apart, one_item, all_of-more, all_of-split}
 
--- where ids are distinct they tell items apart
+-- where ids are distinct, items of one id are one
 IdsTell-from_distinct : (items : List Item) → HasDistinctIds items → IdsTell items
 IdsTell-from_distinct items distinct x y h k e = one_item items x y distinct h k e
 

@@ -81,7 +81,7 @@ module _ (from : Option ℕ) (at : ℕ) (begun : has_begun nat_cmp from at ≡ t
 
 -- ---- all ranges
 
--- what is told of an answer for a range: the number of workers, the range when it is done, and what it gave
+-- what is known of an answer for a range: the number of workers, the range when it is done, and what it gave
 abbrev Given : List Item → List Item → Range ℕ → Vec AntiRow → Type 0
 Given left right r rows = ℕ × (Range ℕ × AreItemsRows (items_in r left) (items_in r right) rows.items)
 

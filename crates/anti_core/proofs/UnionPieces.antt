@@ -19,7 +19,7 @@ use Rattle.grid_core.specs.Bundles.{items_in}
 use Rattle.anti_core.specs.United.{IsUnion}
 use Rattle.anti_core.proofs.UnitedLemmas.{AreUnions, unions_both}
 
--- what is told of an answer for a piece: the number of workers, the places when it is done, and what it gave
+-- what is known of an answer for a piece: the number of workers, the places when it is done, and what it gave
 abbrev GivenUnion : Range ℕ → List Row → List ℕ → Range ℕ → Vec Item → Type 0
 GivenUnion classed rows classes places union =
     ℕ × (Range ℕ × IsUnion (items_in_range classed (piece places rows) (piece places classes)) union.items)

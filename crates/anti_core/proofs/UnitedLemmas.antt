@@ -335,7 +335,7 @@ class_total : IsTotalOrder class_cmp
 unfolding class_cmp
 class_total = then_total (on_total (λ x. x.class) nat_cmp_total) (on_total (λ x. x.period.from) int_cmp_total)
 
--- what the answers of comparisons tell
+-- what the answers of comparisons mean
 nat_over : (m n : ℕ) → nat_cmp m n ≡ Greater → n < m
 nat_over m n e = grind (arith, nat_tests)
 

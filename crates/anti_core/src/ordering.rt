@@ -17,7 +17,7 @@ use std::thread::Threads;
 use table_core::SharedRows;
 use work_core::Crew;
 
-/// The rows of some lists, in order. The left rows tell where the ids are cut.
+/// The rows of some lists, in order. The left rows say where the ids are cut.
 pub(crate) fn ordered<R: Threads + Sync, G>(
     crew: &Crew<'_, R, G>,
     lists: Vec<Vec<AntiRow>>,

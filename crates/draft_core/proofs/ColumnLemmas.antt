@@ -21,7 +21,7 @@ first_values count columns = map (λ column. take count (values_of_column column
 abbrev all_values : List ColumnValues → List (List Value)
 all_values columns = map values_of_column columns
 
--- a row is told by the first values
+-- a row at a place below `count` is given by the first `count` values of each column
 values_at-first : (count place : ℕ) (columns : List ColumnValues) → place < count
     → values_at (all_values columns) place ≡ values_at (first_values count columns) place
 values_at-first count place [] inside = refl

@@ -83,7 +83,7 @@ same_kind-self kind.Text kind.Text same = refl
 same_kind-self kind.Int kind.Text same = absurd (cc)
 same_kind-self kind.Text kind.Int same = absurd (cc)
 
--- what is not so is told as false
+-- false decides what is not so
 pub false-where_not : {P : Type 0} → (P → ⊥) → IsTrue false ↔ P
 false-where_not not_so = (λ wrong. let never : false ≡ true = wrong in absurd (cc), λ p. absurd (not_so p))
 

@@ -301,7 +301,7 @@ fn push_apart(
 }
 
 /// Adds a draft, with copies of the values, to columns of their kinds; where the columns are of others, it
-/// is answered with all drafts, each on its own. The first draft tells the kinds.
+/// is answered with all drafts, each on its own. The first draft sets the kinds.
 fn push_alike(
     alloc: Global,
     columns: &mut Columns,

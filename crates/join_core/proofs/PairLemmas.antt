@@ -23,7 +23,7 @@ there outs i h = elim (slice_get_cases outs i).1 [
   | inr past ↦ absurd (let p = past.0 in omega (arith, p, h))
 ]
 
--- the ids of a part tell its items apart, where those of all parts do
+-- the ids of a part are distinct, where those of all parts are
 IdsTell-part : (ps : List (List Item)) (k : ℕ) → HasDistinctIds (all_of ps) → IdsTell (part_at ps k)
 IdsTell-part ps k distinct x y h i e =
     one_item (all_of ps) x y distinct (contains-all_of ps k x h) (contains-all_of ps k y i) e

@@ -57,7 +57,7 @@ impl Advances {
     }
 }
 
-/// The advances that are answered where so many were made: the least numbers of parts are told only where the parts
+/// The advances that are answered where so many were made: the least numbers of parts are found only where the parts
 /// that were made don't show that there were enough.
 pub(crate) fn turns_answered<R: Threads + Sync, G>(
     crew: &Crew<'_, R, G>,

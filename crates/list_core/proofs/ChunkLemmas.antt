@@ -26,7 +26,7 @@ last_in chunks front chunk before last e i =
     ap all_in e ∙ all_in-more front chunk ∙ ap (λ l. all_in front ++ l) i
     ∙ sym (append_assoc (all_in front) before (last ∷ []))
 
--- what stands in front of the last one is told by the list
+-- lists that are equal have the same in front of their last
 same_front : {X : Type 0} (xs ys : List X) (x y : X) → xs ++ x ∷ [] ≡ ys ++ y ∷ [] → xs ≡ ys
 same_front xs ys x y e =
     let count : length xs + 1 ≡ length ys + 1 =

@@ -21,7 +21,7 @@ pub fn part_at<'a, T>(items: &'a [T], ends: &[u32], place: usize) -> &'a [T]
     &items[start_of(ends, place)..ends[place] as usize]
 }
 
-/// Where the part of that number starts, as `start_at` tells it, where 32 bits hold the places.
+/// Where the part of that number starts, as `start_at` gives it, where 32 bits hold the places.
 #[inline(always)]
 pub fn start_of(ends: &[u32], number: usize) -> usize
     requires { number < length ends.now }

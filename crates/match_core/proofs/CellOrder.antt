@@ -11,7 +11,7 @@ use Rattle.share_core.specs.Ranges.{has, has_begun, has_ended}
 use Rattle.share_core.specs.declared.range.Range.{Range}
 use Rattle.match_core.specs.Cells.{cell_cmp, is_before, same_cell}
 
--- what the tests tell of an order
+-- what the tests of an order mean
 equal-decides : (o : Ordering) → Decides (is_eq o) (o ≡ Equal)
 equal-decides Less = ((λ h. absurd (cc)), (λ h. absurd (cc)))
 equal-decides Equal = ((λ h. refl), (λ h. refl))
@@ -31,7 +31,7 @@ pub same_cell-decides : {V : Type 0} (cmp : V → V → Ordering) (a b : Cell V)
     → Decides (same_cell cmp a b) (SameCell cmp a b)
 same_cell-decides cmp a b = equal-decides (cell_cmp cmp a b)
 
--- cells that are not the same are told to differ
+-- cells that are not the same are found to differ
 pub told_apart : {V : Type 0} (cmp : V → V → Ordering) (a b : Cell V) → (SameCell cmp a b → ⊥)
     → same_cell cmp a b ≡ false
 told_apart cmp a b other = by_test (same_cell cmp a b) refl where

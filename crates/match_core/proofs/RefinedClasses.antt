@@ -27,7 +27,7 @@ pub data Numbers {V : Type 0} (cmp : V → V → Ordering) (lefts rights : List 
       → ((d : Cell V) (l : ℕ) → l < length lefts → SameCell cmp (get_or lefts l d) cell → ⊥)
       → Numbers cmp lefts rights cell number
 
--- what the test tells
+-- cells that the test finds to be the same are
 same_from : {V : Type 0} (cmp : V → V → Ordering) (a b : Cell V) → same_cell cmp a b ≡ true → SameCell cmp a b
 same_from cmp a b = (same_cell-decides cmp a b).0
 

@@ -60,12 +60,12 @@ IsListOf-filter Before Wanted Kept test xs is from to =
       );
     }
 
--- a thing in the list that passes is told
+-- a thing in the list that passes is found
 pub list_any-contains : {X : Type 0} (test : X → Bool) (xs : List X) (x : X) → Contains xs x → test x ≡ true
     → list_any test xs ≡ true
 list_any-contains test xs x (k, inside, at) passes = list_any-from_Any test xs (k, x, inside, at, passes)
 
--- where one is told, it stands in the list and passes
+-- where one is found, it stands in the list and passes
 pub contained-list_any : {X : Type 0} (test : X → Bool) (xs : List X) → list_any test xs ≡ true
     → (x : X) × Contains xs x × (test x ≡ true)
 contained-list_any test xs told =
@@ -92,12 +92,12 @@ sent-there lot_of lot rows row h e =
 
 -- ---- rows by id
 
--- an id that a row has is told
+-- an id that a row has is found
 pub has_id-there : (rows : List Row) (row : Row) (id : ℕ) → Contains rows row → row.id ≡ id → has_id rows id ≡ true
 has_id-there rows row id h e =
     list_any-contains (λ (r : Row). r.id == id) rows row h ((Decides-eqb row.id id).1 e)
 
--- an id that is told is a row's
+-- an id that is found is a row's
 pub row_of_id : (rows : List Row) (id : ℕ) → has_id rows id ≡ true → (row : Row) × Contains rows row × (row.id ≡ id)
 row_of_id rows id told =
     let (row, h, passes) = contained-list_any (λ (r : Row). r.id == id) rows told in

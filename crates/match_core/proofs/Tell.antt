@@ -1,4 +1,4 @@
--- What classes tell of a left and a right row.
+-- What classes say of a left and a right row.
 use Rattle.std.proofs.Common.{◌≡◌, ◌↔◌, ℕ, zero, suc, ◌+◌, ◌-◌, ◌<◌, List, [], ◌∷◌, ◌++◌, length, map, get_or, Some, refl, sym, ap, ◌∙◌, arith}
 use Rattle.std.proofs.lemmas.List.{get_or-append_right, get_or_append_left, length-map}
 use Rattle.std.proofs.lemmas.Option.{same_Some, slice_get_within}
@@ -50,13 +50,13 @@ same_matches left right lefts rights on i j x y h k = (
       ∙ sym (values_under-right left right lefts rights pair j y k)),
 )
 
--- the left classes and the right ones tell which rows match
+-- the left classes and the right ones show which rows match
 abbrev pub ClassesTell : (Row → Row → Type 0) → List Row → List ℕ → List Row → List ℕ → Type 0
 ClassesTell Matches left lefts right rights =
     (i j : ℕ) (x y : Row) → slice_get left i ≡ Some x → slice_get right j ≡ Some y
     → Matches x y ↔ (get_or lefts i 0 ≡ get_or rights j 0)
 
--- the classes of both sides tell which rows match
+-- the classes of both sides show which rows match
 pub classes_tell : (left right : List Column) (lefts rights : List Row) (on : List NamePair) (one other : List ℕ)
     → length one ≡ length lefts → AreClasses left right lefts rights on (one ++ other)
     → ClassesTell (MatchesOn left right on) lefts one rights other

@@ -9,7 +9,7 @@ use Rattle.row_core.specs.declared.schema.Column.{Column}
 use Rattle.row_core.specs.declared.value.Value.{Value}
 use Rattle.match_core.specs.Columns.{MatchesOn, value_under}
 
--- of some rows those that are sent to a lot, where a function tells the number of each row's lot
+-- of some rows those that are sent to a lot, where a function gives the number of each row's lot
 abbrev pub rows_sent : (Row → ℕ) → ℕ → List Row → List Row
 rows_sent lot_of lot rows = filter (λ (row : Row). lot_of row == lot) rows
 
@@ -56,7 +56,7 @@ abbrev pub AreLotAnswers : {X : Type 0} → (X → X → Type 0) → (List Row �
 AreLotAnswers Before Wanted left_lot right_lot left right lot answers =
     IsListOf Before (Wanted (rows_sent left_lot lot left) (rows_sent right_lot lot right)) answers
 
--- the answers whose left row is sent to a lot, where a function tells the id of an answer's left row
+-- the answers whose left row is sent to a lot, where a function gives the id of an answer's left row
 abbrev pub answers_sent : {X : Type 0} → (X → ℕ) → (Row → ℕ) → List Row → ℕ → List X → List X
 answers_sent {X} left_id left_lot left lot answers =
     filter (λ (x : X). has_id (rows_sent left_lot lot left) (left_id x)) answers

@@ -25,9 +25,9 @@ use row_core::ValueRef;
 use std::hash::{FoldHasher, Hasher};
 
 /// A column of one side, whose values are compared by something that is made of them: smaller than any value, and sooner
-/// compared. The kind of the values is known; what is made of a value of the other kind tells nothing.
+/// compared. The kind of the values is known; what is made of a value of the other kind says nothing.
 pub(crate) trait Comparable<V: Ord>: Classed {
-    // The kind of values that are told apart.
+    // The kind of values that are compared.
     ghost kind: { Kind };
 
     // This is made of the value.

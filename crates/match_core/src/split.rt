@@ -79,7 +79,7 @@ fn ranked_sides<R: Threads + Sync, V: Ord + Copy + Send + Sync, S: Comparable<V>
     }
     let few = workers / 2;
     let others = workers - few;
-    // The closures are lent, since `join` tells its caller nothing of closures that hold types with lifetimes.
+    // The closures are lent, since `join` promises its caller nothing of closures that hold types with lifetimes.
     let (lefts, rights) = join_mut(
         rt,
         &mut move || -> Result<Ranked<V>, NoMemory>

@@ -29,7 +29,7 @@ chain_head x items chain z h =
 
 -- ---- the items that have ended by an instant
 
--- the test tells
+-- the test decides it
 ended-from_test : (point : ℤ) (x : Item) → has_ended point x ≡ true → x.period.to ≤ℤ point
 ended-from_test point x e = grind (arith, ints)
 

@@ -126,7 +126,7 @@ fn wanted(
     wanted
 }
 
-// Asks the question of a generated table by 1, 2 and 7 workers. Tells how many rows come out.
+// Asks the question of a generated table by 1, 2 and 7 workers. Returns how many rows come out.
 fn check_random(
     rt: &(impl Abort + Alloc<A = Global> + Threads + Sync),
     rng: &mut Pcg32,

@@ -46,8 +46,8 @@ fn unmet_rows(rt: &(impl Abort + Alloc<A = Global>), pair: &Pair, days: &[Point]
     rows
 }
 
-// Takes the anti-join of two tables by 1, 2 and 7 workers, on so many columns from one of them on. Tells how many rows
-// come out.
+// Takes the anti-join of two tables by 1, 2 and 7 workers, on so many columns from one of them on. Returns how many
+// rows come out.
 fn check_random(
     rt: &(impl Abort + Alloc<A = Global> + Threads + Sync),
     rng: &mut Pcg32,

@@ -65,7 +65,7 @@ fn joined_by_day(
     rows
 }
 
-// Joins two tables by 1, 2 and 7 workers, on so many columns from one of them on. Tells how many rows come out.
+// Joins two tables by 1, 2 and 7 workers, on so many columns from one of them on. Returns how many rows come out.
 fn check_random(
     rt: &(impl Abort + Alloc<A = Global> + Threads + Sync),
     rng: &mut Pcg32,

@@ -1,4 +1,4 @@
-//! Orders to who refuses memory. An order is a request for more than any machine has, told by its size. A library that
+//! Orders to who refuses memory. An order is a request for more than any machine has, named by its size. A library that
 //! stands before the C library's allocator obeys it (tools/refuser.c); without that nothing comes of it.
 
 ghost use Rattle.std.specs.Prelude.{◌≤◌};

@@ -33,7 +33,7 @@ use Rattle.round_core.proofs.ClosingLemmas.{Plateau-same}
 use Rattle.round_core.proofs.CollectLemmas.{IsTally-unique, no_tally}
 use Rattle.round_core.proofs.PermutedLemmas.{has_held, amount_from}
 
--- ---- what some items come to at an instant can be told
+-- ---- what some items come to at an instant can be found
 
 -- one item's tally
 lone : Item → Tally
@@ -67,7 +67,7 @@ int_or_not a b = elim (by_order a b) [
   ]
 ]
 
--- whether some items come to a value can be told
+-- some items come to a value or don't
 pub value_or_not : (measure : Measure) (items : List Item) (v t : ℤ)
     → HasValue measure items v t ⊎ (HasValue measure items v t → ⊥)
 value_or_not measure items v t = told (some_tally items t)

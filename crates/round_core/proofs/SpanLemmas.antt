@@ -84,7 +84,7 @@ module _ (measure : Measure) (class : ℕ) (items : List Item) (own : All (λ (x
       let x = own_item p.class items m.0 m.1 in
       sym x.1 ∙ All-contains (λ (y : Item). y.class ≡ class) items m.0 own x.0
 
-  -- and is told by all items
+  -- and its period is maximal for all items
   maximal_of : (p : Plateau) → IsPlateau measure items p → IsMaximal (HasValue measure items p.value) p.period
   maximal_of p i =
       subst (λ l. IsMaximal (HasValue measure l p.value) p.period)

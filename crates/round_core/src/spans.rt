@@ -32,7 +32,7 @@ const ITEMS_OF_SPAN: usize = 65_536;
 /// Items are cut so often at most: into a span for each of the most workers.
 pub(crate) const CUTS: u32 = 6;
 
-/// By so many items, or somewhat fewer, a middle instant is told.
+/// A middle instant is found among so many items, or somewhat fewer.
 const SAMPLE: usize = 1_023;
 
 /// Fewer items are left as they are.

@@ -55,7 +55,7 @@ value_exact (Int a) (Text b) e = cc
 value_exact (Text a) (Int b) e = cc
 value_exact (Text a) (Text b) e = ap Text (exact_bytes a b e)
 
--- values that the test tells to be one are
+-- values that the test finds to be one are
 pub same_value_is : (a b : Value) → same_value a b ≡ true → a ≡ b
 same_value_is (Int a) (Int b) e = ap Int ((Decides-int_eq a b).0 e)
 same_value_is (Int a) (Text b) e = cc
@@ -67,7 +67,7 @@ same_value_self : (a : Value) → same_value a a ≡ true
 same_value_self (Int a) = (Decides-int_eq a a).1 refl
 same_value_self (Text a) = (bytes_decides a a).1 refl
 
--- values that tie are told to be one
+-- values that tie are found to be one
 value-same : (a b : Value) → value_cmp a b ≡ Equal → same_value a b ≡ true
 value-same (Int a) (Int b) e = ap is_eq e
 value-same (Int a) (Text b) e = cc
@@ -121,7 +121,7 @@ maybe_exact None (Some b) e = cc
 maybe_exact (Some a) None e = cc
 maybe_exact (Some a) (Some b) e = ap Some (value_exact a b e)
 
--- those that the test tells to be one are
+-- those that the test finds to be one are
 same_maybe_is : (a b : Option Value) → same_maybe a b ≡ true → a ≡ b
 same_maybe_is None None e = refl
 same_maybe_is None (Some b) e = cc
@@ -138,7 +138,7 @@ pub maybe_decides : (a b : Option Value) → Decides (same_maybe a b) (a ≡ b)
 maybe_decides a b =
     (same_maybe_is a b, λ e. subst (λ (v : Option Value). same_maybe a v ≡ true) e (same_maybe_self a))
 
--- those that tie are told to be one
+-- those that tie are found to be one
 pub maybe-same : (a b : Option Value) → maybe_cmp a b ≡ Equal → same_maybe a b ≡ true
 maybe-same None None e = refl
 maybe-same None (Some b) e = cc

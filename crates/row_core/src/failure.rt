@@ -7,7 +7,7 @@ use std::fmt::Display;
 use thiserror::Error;
 
 /// Why a call gives no value: what it is asked for is refused, or memory is. What a call should answer is
-/// told without memory, so no definition speaks of the second.
+/// defined without memory, so no definition speaks of the second.
 #[derive(Clone, Copy, Debug, PartialEq, Eq, Error)]
 #[error_bound(E: Display)]
 pub enum Failure<E> {

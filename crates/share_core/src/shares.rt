@@ -33,7 +33,7 @@ pub struct Shares<T: Ord> {
 /// A worker with fewer items to look at would be over before another had started.
 const ITEMS_OF_SHARE: usize = 8_192;
 
-/// Of so many items the cuts are told.
+/// The cuts are found among so many items.
 const SAMPLE: usize = 1_023;
 
 impl<T: Ord + Copy> Shares<T> {

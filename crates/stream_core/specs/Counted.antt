@@ -20,10 +20,10 @@ pub record Sink : Type 0 where
   pub written : Option (List ℕ)
   pub failures : ℕ
 
--- a counted reader at this moment, where `remaining` tells the bytes that a reader has left
+-- a counted reader at this moment, where `remaining` gives the bytes that a reader has left
 abbrev pub source_of : {R : Type 0} → (R → Option (List ℕ)) → Counted R → Source
 source_of remaining reader = record { unread = remaining (inner_of reader); failures = failures_of reader }
 
--- a counted writer at this moment, where `contents` tells the bytes that a writer was given
+-- a counted writer at this moment, where `contents` gives the bytes that a writer was given
 abbrev pub sink_of : {W : Type 0} → (W → Option (List ℕ)) → Counted W → Sink
 sink_of contents writer = record { written = contents (inner_of writer); failures = failures_of writer }

@@ -8,11 +8,11 @@ use Rattle.row_core.specs.declared.row.Row.{Row}
 abbrev pub at_places : List ℕ → List Row → List Row
 at_places places rows = filter_map (slice_get rows) places
 
--- those at the places that are told, or all
+-- those at the places that are given, or all
 abbrev pub shown_at : Option (Vec ℕ) → List Row → List Row
 shown_at None rows = rows
 shown_at (Some places) rows = at_places places.items rows
 
--- each place that is told is one of a row
+-- each place that is given is one of a row
 abbrev pub AreWithin : Option (Vec ℕ) → List Row → Type 0
 AreWithin places rows = IfSome places (λ p. All (λ place. place < length rows) p.items)

@@ -20,7 +20,7 @@ pub struct RowRef<'a> {
 }
 
 impl<'a> RowRef<'a> {
-    /// The row of the draft at that place of a table, which tells its id.
+    /// The row of the draft at that place of a table, which gives it its id.
     #[inline(always)]
     pub fn of_draft(place: usize, draft: DraftRef<'a>) -> RowRef<'a>
         requires { place + 1 < 2 ^ 64 }
