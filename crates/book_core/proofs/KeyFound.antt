@@ -32,7 +32,7 @@ after-found n c t well =
     ap (λ rows. break_key (key_of t.schema) (rows_left c t.schema rows ++ drafts_of c t.schema rows))
     (sym (shown-current n t.versions well.times))
 
--- what is tested tells whether the change leaves rows of one key that share an instant
+-- what is tested shows whether the change leaves rows of one key that share an instant
 overlap-found : (n : ℕ) (c : Change) (t : StoredTable) → IsWellKept n t → IsUnbroken t
     → overlap_after c t.schema t.versions ≡ leaves_overlap c (Some (table_at n t))
 unfolding tested

@@ -155,7 +155,7 @@ fn stand_in_order(answers: &[Answer], sums: &[u64]) -> bool {
     true
 }
 
-// Notes who made each commit that the answers tell.
+// Notes who made each commit that the answers name.
 fn file_all(callers: &mut Vec<u32>, answers: &[Answer], caller: u32) -> bool {
     for answer in answers {
         if let Answer::Committed(number) = *answer {
@@ -167,7 +167,7 @@ fn file_all(callers: &mut Vec<u32>, answers: &[Answer], caller: u32) -> bool {
     true
 }
 
-// Notes who made each commit that any caller's answers tell; false where a call of one was refused, too.
+// Notes who made each commit that any caller's answers name; false where a call of one was refused, too.
 fn file_lists(callers: &mut Vec<u32>, lists: &[Option<Vec<Answer>>]) -> bool {
     for (list, caller) in lists.iter().zip(1u32..5) {
         let filed = match list {

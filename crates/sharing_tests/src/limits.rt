@@ -89,7 +89,7 @@ fn counts_each_call(rt: HostRuntime) -> Result<(), Fail> {
     Ok(())
 }
 
-// However often a spent pass calls, it is refused, before all other refusals, and what it has seen can still be told.
+// However often a spent pass calls, it is refused, before all other refusals, and can still pass on what it has seen.
 #[test]
 fn refuses_each_call_of_a_pass_that_is_spent(rt: HostRuntime) -> Result<(), Fail> {
     let (store, mut pass) = one_pass(rt.alloc(), 2)?;

@@ -1,4 +1,4 @@
-//! A turn over numbers: what each caller adds stands there once, and who was told of it has seen it.
+//! A turn over numbers: what each caller adds stands there once, and who has heard of it has seen it.
 
 ghost use Rattle.std.specs.Prelude.{◌≡◌, ◌+◌, ◌<◌, ◌∷◌, ◌++◌, [], Contains, IfOk, IfSome, IsTrue};
 ghost use mathlib.Core.List.{IsPrefix};

@@ -108,7 +108,7 @@ pub record AreNew (n calls : ℕ) (s : Store) (ps : List Pass) : Type 0 where
   pub count : length ps ≡ n
   pub each : (i : ℕ) (p : Pass) → slice_get ps i ≡ Some p → IsPassOf s p × IsFresh (i + 1) n calls p
 
--- what a note tells: the number of the pass that made it, what it had seen, and its own changes
+-- what a note says: the number of the pass that made it, what it had seen, and its own changes
 abbrev pub told_in : Note → View Commit
 told_in n = view_of n.seat
 
@@ -116,7 +116,7 @@ told_in n = view_of n.seat
 abbrev pub IsNoteOf : Store → Note → Type 0
 IsNoteOf s n = IsSeatOf s.turn n.seat
 
--- the note tells what the pass knows, which stays as it is
+-- the note says what the pass knows, which stays as it is
 pub record MakesNote (s : Store) (p q : Pass) (n : Note) : Type 0 where
   pub pass : IsPassOf s q
   pub note : IsNoteOf s n
@@ -126,7 +126,7 @@ pub record MakesNote (s : Store) (p q : Pass) (n : Note) : Type 0 where
   pub seen : (told_in n).seen ≡ seen p
   pub mine : (told_in n).mine ≡ mine p
 
--- the pass has seen all that it had seen, and all that the note tells, in one legal history, which one of the two had
+-- the pass has seen all that it had seen, and all that the note says, in one legal history, which one of the two had
 -- seen, and in which the changes of both stand, each once; its own changes and its calls stay
 pub record Hears (s : Store) (p : Pass) (n : Note) (q : Pass) : Type 0 where
   pub pass : IsPassOf s q

@@ -22,7 +22,7 @@ history snapshot = arc_value snapshot.book
 abbrev pub number_shown : Snapshot → ℕ
 number_shown snapshot = snapshot.number
 
--- the number of commits that is asked for: the one told, or all
+-- the number of commits that is asked for: the one given, or all
 abbrev pub asked : History → Option ℕ → ℕ
 asked h n = unwrap_or n (length h)
 

@@ -25,7 +25,7 @@ pub struct Pass {
 #[derive(Drop)]
 pub struct Note {
     pub(crate) seat: Seat<Shelf>,
-    // All that it tells was accepted in its place.
+    // All that was seen was accepted in its place.
     pub ghost legal: { IsLegal (view_of seat).seen } by { IsLegal-prop (view_of seat).seen },
 }
 

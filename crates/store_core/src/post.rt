@@ -21,7 +21,7 @@ const OPEN: u64 = 0;
 
 const SHUT: u64 = 1;
 
-// The rule: what lies at home is a note of the store that the table was told.
+// The rule: what lies at home is a note of the store that the table was given.
 struct OneStore;
 
 impl TableRule<Option<Note>, Store, Store> for OneStore {

@@ -42,7 +42,7 @@ impl Kept for Shelf {
     ghost mark = { passes_in };
 }
 
-// A copy of a book, with one more change. What is refused by name is told before anything is copied.
+// A copy of a book, with one more change. What is refused by name is refused before anything is copied.
 fn changed_copy(
     alloc: Global,
     book: &Book,
@@ -122,7 +122,7 @@ impl Shelf {
         Ok(book.commits())
     }
 
-    /// What the book shows now of the first n commits; of all where none is told.
+    /// What the book shows now of the first n commits; of all where no number is given.
     ///
     /// # Errors
     ///

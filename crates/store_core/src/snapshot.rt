@@ -21,7 +21,7 @@ use std::sync::Arc;
 /// What the first commits of a history show. It shares the book, and stays as it is, whatever is committed later.
 /// Contracts see the history as it was when the snapshot was taken, and the number of commits that it shows.
 ///
-/// Which tables there are, and their columns, is told by the newest state of that history; a table that is newer
+/// Which tables there are, and their columns, is what the newest state of that history says; a table that is newer
 /// than the commits shown has no rows.
 #[derive(Drop)]
 pub struct Snapshot {

@@ -109,7 +109,7 @@ impl Store {
         }
     }
 
-    /// What the store shows now of the first n commits; of all where none is told.
+    /// What the store shows now of the first n commits; of all where no number is given.
     ///
     /// # Errors
     ///
@@ -182,7 +182,7 @@ impl Store {
         }
     }
 
-    /// From now on the pass has seen no less than the note tells. No call is counted.
+    /// From now on the pass has seen no less than the note says. No call is counted.
     pub fn hear(&self, pass: &mut Pass, note: Note)
         requires pass { IsPassOf self.now pass.old }
         requires note { IsNoteOf self.now note }

@@ -127,7 +127,7 @@ fn are_both<R: Wait>(
     )
 }
 
-// Each caller adds a number, and the first is told of it and sees both.
+// Each caller adds a number, and the first hears of it and sees both.
 fn add_both<R: Threads + Wait + Sync>(rt: &R, alloc: Global) -> Result<(), Ended> {
     let (turn, first, second) = two_seats(alloc)?;
     let (first, second) = join(

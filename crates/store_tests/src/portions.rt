@@ -312,7 +312,7 @@ fn adds_pairs_at_the_end(rt: HostRuntime) {
     assert!(rt; copy.as_slice() == pairs.as_slice());
 }
 
-// What a change of a portion tells: its table, portion, settings and conditions. A deletion has no settings.
+// What a change of a portion says: its table, portion, settings and conditions. A deletion has no settings.
 fn told(change: &Change) -> Option<(Name, Period, &[(Name, Value)], &[(Name, Value)])> {
     match change {
         Change::Update {

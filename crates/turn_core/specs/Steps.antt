@@ -5,9 +5,9 @@
 --   look           a load of the word of tickets served; at its turn the seat sees all entries
 --   out, home      the two exchanges of the slot, which change no view
 --   pass on        one fetch_add on the word of tickets served; a call takes effect here
---   told           a seat is split off, which knows what another one knows
+--   told           a seat is split off, which passes on what another one knows
 --   join           of two seats, after which the second knows nothing
---   learn          a load of the word of tickets served: what was told begins the same list
+--   learn          a load of the word of tickets served: what was heard begins the same list
 use Rattle.std.specs.Prelude.{◌≡◌, ◌≢◌, ℕ, ◌+◌, ◌-◌, ◌*◌, ◌<◌, List, [], ◌∷◌, Option, Some}
 use mathlib.Core.List.{IsPrefix}
 use Rattle.atomic_table.specs.Table.{Me, Step}
@@ -55,11 +55,11 @@ module _ {E : Type 0} where
   abbrev pub fresh : ℕ → ℕ → View E
   fresh number seats = rested number number seats 0 call_limit [] []
 
-  -- a seat that tells what v knows, and makes no calls
+  -- a seat that passes on what v knows, and makes no calls
   abbrev pub telling : View E → View E
   telling v = rested 0 v.source v.mark 0 0 v.seen v.mine
 
-  -- v, after it was told what w knows
+  -- v, after it has heard what w knows
   abbrev pub hearing : View E → View E → View E
   hearing v w = record v { seen = longer v.seen w.seen; before = v.seen; told = w.seen }
 
@@ -83,7 +83,7 @@ module _ {S E : Type 0} (entries : S → List E) (by : E → ℕ) (mark_of : S �
     pub numbered : AreOfCallers by v.mark (entries y)
     pub mark : mark_of y ≡ v.mark
 
-  -- where the number found is not the ticket, nothing is told; else the state comes out, and all is seen
+  -- where the number found is not the ticket, nothing changes; else the state comes out, and all is seen
   abbrev pub Looks : Step (Option S) → SeatState S E → ℕ → SeatState S E → Type 0
   Looks st m n m' = (k : ℕ) → m.0.stage ≡ Waiting k
       → (n ≢ k → m' ≡ m)
@@ -98,7 +98,7 @@ module _ {S E : Type 0} (entries : S → List E) (by : E → ℕ) where
       × AreOfCallers by m.0.mark (entries y)
 
 module _ {S E : Type 0} (by : E → ℕ) where
-  -- what was seen and what was told both begin what is seen
+  -- what was seen and what was heard both begin what is seen
   abbrev pub Learns : Step (Option S) → SeatState S E → ℕ → SeatState S E → Type 0
   Learns st m n m' = (m' ≡ m) × IsPrefix m.0.before m.0.seen × IsPrefix m.0.told m.0.seen
       × (own by m.0.source m.0.seen ≡ m.0.mine) × (0 < m.0.number → AreOfCallers by m.0.mark m.0.seen)

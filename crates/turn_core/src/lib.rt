@@ -5,7 +5,7 @@
 //! A `Turn` keeps the state, which stands for a list of entries (`Kept`), and a caller has a `Seat` at it. Each
 //! `with` draws a ticket, waits until it is served, is lent the state, and may add an entry of its own. So the
 //! entries that a caller finds begin with all that it had seen, and those of its own number are the ones that
-//! it added. A seat that `split` gives tells another caller what was seen; after `join` that one knows as much.
+//! it added. A seat that `split` gives shows another caller what was seen; after `join` that one knows as much.
 
 mod kept;
 mod plays;

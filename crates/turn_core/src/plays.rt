@@ -1,4 +1,4 @@
-//! The rule of the table, and what each step on it tells. These types are for proofs alone.
+//! The rule of the table, and what each step on it shows. These types are for proofs alone.
 
 ghost use Rattle.turn_core.specs.Rule.{Serves};
 ghost use Rattle.turn_core.specs.Steps.{view_from, sole, following, telling, hearing, spent_view, DrawsTicket, Looks, PassesOn, Learns};
@@ -49,7 +49,7 @@ impl<S: Kept> Play<Option<S>, View<S::Entry>> for PassOn {
     ghost then = { PassesOn S.entries S.by };
 }
 
-// A seat that tells what was seen.
+// A seat that passes on what was seen.
 pub(crate) struct Tell;
 
 impl<E> Split<View<E>> for Tell {
@@ -58,7 +58,7 @@ impl<E> Split<View<E>> for Tell {
     ghost right = { λ v. telling v };
 }
 
-// Takes in what such a seat tells.
+// Takes in what such a seat passes on.
 pub(crate) struct Hear;
 
 impl<E> Join<View<E>> for Hear {

@@ -100,7 +100,7 @@ impl<S: Kept> Turn<S> {
         result
     }
 
-    /// A seat that tells what this one knows, and serves `join` alone.
+    /// A seat that passes on what this one knows, and serves `join` alone.
     pub fn split(&self, seat: &mut Seat<S>) -> Seat<S>
         requires turn { IsSeatOf self.now seat.old }
         ensures turn { IsSeatOf self.now seat.new × IsSeatOf self.now result }
@@ -114,7 +114,7 @@ impl<S: Kept> Turn<S> {
         }
     }
 
-    /// Takes in what a seat of `split` tells: of what the two have seen, one begins with the other, and from now
+    /// Takes in what a seat of `split` passes on: of what the two have seen, one begins with the other, and from now
     /// on the caller has seen the longer. Its calls that are left and its own entries stay.
     pub fn join(&self, seat: &mut Seat<S>, other: Seat<S>)
         requires turn { IsSeatOf self.now seat.old × IsSeatOf self.now other }

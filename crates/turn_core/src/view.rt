@@ -30,7 +30,7 @@ pub struct View<E> {
     pub mine: LinkedList<E>,
     /// What it had seen before the last join.
     pub before: LinkedList<E>,
-    /// What it was told at the last join.
+    /// What it heard at the last join.
     pub told: LinkedList<E>,
     /// How far its call has come.
     pub stage: Stage,

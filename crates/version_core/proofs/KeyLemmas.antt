@@ -51,7 +51,7 @@ left-current c schema (v ∷ vs) = by_open (left-current c schema vs) (is_none v
   by_open rest false = rest
   by_open rest true = by_test rest (not (removes c schema v.row))
 
--- one of them collides with another row exactly where a version tells so
+-- one of them collides with another row exactly where a version says so
 pub any-left : (c : Change) (schema : List Column) (key : List ℕ) (other : Draft) (vs : List Version)
     → list_any (collides_left c schema key other) vs ≡ list_any (λ left. collide key left other)
     (rows_left c schema (current vs))

@@ -83,7 +83,7 @@ row-at [] i v inside e = absurd (omega (arith, inside))
 row-at (w ∷ ws) zero v inside e = ap (λ (u : Version). Some u.row) (sym e)
 row-at (w ∷ ws) (suc i) v inside e = row-at ws i v (omega (arith, inside)) e
 
--- all rows hold where no point is told
+-- all rows hold where no point is given
 pub all-held : (rows : List Row) → filter (holds_where None) rows ≡ rows
 all-held [] = refl
 all-held (row ∷ rows) = ap (λ l. row ∷ l) (all-held rows)

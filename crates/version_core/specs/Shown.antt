@@ -23,7 +23,7 @@ row_shown n v = if shows n v then Some v.row else None
 abbrev pub shown : ℕ → List Version → List Row
 shown n versions = filter_map (row_shown n) versions
 
--- the row holds at the point, if one is told
+-- the row holds at the point, if one is given
 abbrev pub holds_where : Option ℤ → Row → Bool
 holds_where point row = option_map_or (λ at. holds_at at row.period) point true
 

@@ -3,7 +3,7 @@ use Rattle.std.specs.Prelude.{ℕ, List, [], ◌∷◌, Option}
 use Rattle.row_core.specs.declared.row.Row.{Row}
 use Rattle.version_core.specs.declared.version.Version.{Version}
 
--- the commits that show a version: those from one on, and before another where it is told
+-- the commits that show a version: those from one on, and before another where it is given
 pub record SystemPeriod : Type 0 where
   pub from : ℕ
   pub to : Option ℕ

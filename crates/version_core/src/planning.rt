@@ -60,7 +60,7 @@ pub(crate) fn new_rows(change: Change, parts: Drafts) -> Drafts
     }
 }
 
-/// How many places a change looks at before it branches. For most blocks of so many rows one branch tells
+/// How many places a change looks at before it branches. For most blocks of so many rows one branch shows
 /// that the change reaches none; of the few that it reaches, it goes over more rows the larger they are.
 const BLOCK: usize = 32;
 

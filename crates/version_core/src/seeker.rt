@@ -117,7 +117,7 @@ impl<'a> Seeker<'a> {
         column_at(self.schema, self.conds, &self.columns, i)
     }
 
-    /// Whether a version is open, and the change takes out its row. The period is tested first: it tells
+    /// Whether a version is open, and the change takes out its row. The period is tested first: it shows
     /// of most versions that they stay, and of those no commits are read.
     #[inline(always)]
     pub fn takes(&self, row: RowRef<'_>, span: &Span) -> bool

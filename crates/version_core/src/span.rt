@@ -8,7 +8,7 @@ use std::marker::Model;
 use std::mem::size_of;
 
 /// The commits that show a version: those from one on, and before another where one has closed it. They
-/// take 8 bytes, as there is one for each version: no commit has the number 0, which tells here that none
+/// take 8 bytes, as there is one for each version: no commit has the number 0, which says here that none
 /// has closed it. Contracts see both ends.
 #[derive(Clone, Copy)]
 pub(crate) struct Span {

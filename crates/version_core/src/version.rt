@@ -69,7 +69,7 @@ pub(crate) fn rows_holding(
     versions.at_places(places_shown(alloc, versions, n, Some(point), 0)?)
 }
 
-/// The places of the rows that commit n shows, where a point is told of those that hold at it. There is
+/// The places of the rows that commit n shows, where a point is given of those that hold at it. There is
 /// room for so many, so that no memory is asked for again as they grow to them.
 fn places_shown(
     alloc: Global,
@@ -92,7 +92,7 @@ fn places_shown(
     Ok(places)
 }
 
-/// Whether commit n shows the version, and its row holds at the point, if one is told.
+/// Whether commit n shows the version, and its row holds at the point, if one is given.
 fn is_listed(row: RowRef<'_>, span: &Span, n: u64, point: Option<Point>) -> bool
     ensures { result ≡ (shows n (version_of (lent_row row.entry) span.now)
         && holds_where point (lent_row row.entry)) }
@@ -100,7 +100,7 @@ fn is_listed(row: RowRef<'_>, span: &Span, n: u64, point: Option<Point>) -> bool
     holds_where(row.period(), point) && is_shown(span, n)
 }
 
-/// Whether the period holds the point, if one is told.
+/// Whether the period holds the point, if one is given.
 fn holds_where(period: Period, point: Option<Point>) -> bool
     ensures { (row : Row) → row.period ≡ period → result ≡ holds_where point row }
 {

@@ -106,7 +106,7 @@ impl Claims {
         self.table.shared.join_seat::<Merge>(seat, other)
     }
 
-    /// Tells who has all parts that each number below its bound was drawn once.
+    /// Closes the table, where the seat has all parts: each number below its bound was drawn once.
     pub(crate) fn close(self, seat: ClaimSeat)
         requires table { seat.table_id ≡ self }
         requires all { seat.me.0.parts ≡ all_parts }

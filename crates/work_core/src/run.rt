@@ -119,7 +119,7 @@ fn workers_for(count: u64, workers: u32) -> u32
 ///
 /// Each pair is run once, between the calls of the gate. No more threads are started than there are pairs, and
 /// one that can't be started is left out. Nothing waits but for threads to end, so the call returns whenever
-/// the job's runs and the gate do. (The clauses tell of the values; tests show how often pairs are run.)
+/// the job's runs and the gate do. (The clauses speak of the values; tests show how often pairs are run.)
 pub fn run_pairs<R: Threads + Sync, W: PairWork, G: Gate>(
     rt: &R,
     alloc: Global,
