@@ -54,7 +54,7 @@ class OfPlatform(bdist_wheel):
 def refuse_unbuilt() -> None:
     """Ends where no program is built, or one of other sources than those that are here."""
     if subprocess.run([TOP / "tools" / "is-built"], stderr=subprocess.DEVNULL).returncode:
-        sys.exit("ruzgalt: a wheel has the program in it, and it isn't built here: `./dipq </dev/null` does it")
+        sys.exit("ruzgalt: a wheel has the program in it, which isn't built here: `./dipq </dev/null` builds it")
 
 
 def add_program(package: Path) -> None:

@@ -95,7 +95,7 @@ def of_frames(loader: unittest.TestLoader) -> unittest.TestSuite:
 def missing_to_frames() -> str:
     if not has_pandas():
         return "pandas isn't here: apt-get install python3-pandas"
-    return "" if "DIPQ" in os.environ else "no program is built: ./dipq </dev/null does it"
+    return "" if "DIPQ" in os.environ else "no program is built: ./dipq </dev/null builds it"
 
 
 def loaded(loader: unittest.TestLoader, name: str) -> unittest.TestSuite:

@@ -75,7 +75,7 @@ class Kept:
         self.note(crate, at / f"{crate.name}.rlib")
 
     def drop_unmade(self, crate: Crate) -> None:
-        """Drops what a build that was broken off left in the crate's place."""
+        """Drops what a build that was interrupted left in the crate's place."""
         shutil.rmtree(self.place(crate).parent, ignore_errors=True)
 
 
@@ -97,7 +97,7 @@ def give_of_gate(copy: Path, crates: Crates, toolchain: Toolchain) -> Dict[str, 
     none, and all is proved here. Nothing that is proved here goes to the gate.
     """
     given: Dict[str, Path] = {}
-    # It would end the program, with words of its own, where a crate isn't as it should be: the compiler tells that.
+    # It would end the program, with words of its own, where a crate isn't as it should be: the compiler reports that.
     with contextlib.suppress(Exception, SystemExit), contextlib.redirect_stderr(io.StringIO()):
         rt: Any = module_of(toolchain.folder / "bin" / "rt")
         rt.Crate.allowed, rt.Crate.cuts_libraries = rt.handles_of(str(copy)), True

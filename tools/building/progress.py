@@ -1,4 +1,4 @@
-"""How many crates are proved, told on standard error while a build goes on."""
+"""How many crates are proved, shown on standard error while a build goes on."""
 import sys
 import time
 from typing import Set

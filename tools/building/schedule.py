@@ -26,9 +26,9 @@ class Turn(NamedTuple):
 
 
 def free_memory() -> int:
-    """In bytes, as far as the system tells."""
-    with open("/proc/meminfo", encoding="ascii") as told:
-        return next(1024 * int(line.split()[1]) for line in told if line.startswith("MemAvailable"))
+    """In bytes, as the system reports it."""
+    with open("/proc/meminfo", encoding="ascii") as lines:
+        return next(1024 * int(line.split()[1]) for line in lines if line.startswith("MemAvailable"))
 
 
 class Schedule:

@@ -37,7 +37,7 @@ class Toolchain:
         return str(self.folder / "bin" / name)
 
     def identity(self) -> str:
-        """What tells it from others, by which what it proved is kept."""
+        """What sets it apart from others, by which what it proved is kept."""
         compiler = (self.folder / "bin" / "rattle").stat()
         named = self.folder / "KIT-ID"
         return f"{named.read_text() if named.is_file() else ''} {compiler.st_size} {compiler.st_mtime_ns}"

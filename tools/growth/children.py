@@ -13,7 +13,7 @@ Child = subprocess.Popen
 
 
 class NotOver(Exception):
-    """A program took too long, or all was broken off."""
+    """A program took too long, or all was stopped."""
 
 
 @dataclass(frozen=True)
@@ -66,7 +66,7 @@ class Children:
     def begin(self, words: List[str], given: Path, environment: Optional[Mapping[str, str]]) -> "Child[str]":
         with self.lock, given.open() as script:
             if self.is_over:
-                raise NotOver("broken off")
+                raise NotOver("stopped")
             child = Child(
                 words, stdin=script, stdout=subprocess.DEVNULL, stderr=subprocess.PIPE, env=environment,
                 text=True, errors="replace", start_new_session=True,
