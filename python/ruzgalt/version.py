@@ -17,9 +17,9 @@ def version() -> str:
 
 def of_repository() -> str:
     """The time of SOURCE_DATE_EPOCH, or of the last commit; with +changed, where files were changed since."""
-    told = os.environ.get("SOURCE_DATE_EPOCH")
-    if told:
-        return of_time(int(told))
+    set_time = os.environ.get("SOURCE_DATE_EPOCH")
+    if set_time:
+        return of_time(int(set_time))
     if not (TOP / ".git").exists():
         return UNKNOWN
     try:

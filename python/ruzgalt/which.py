@@ -46,6 +46,6 @@ def is_built_at(top: Path, second: int) -> bool:
 
 
 def words_of(command: str) -> List[str]:
-    """What runs the program. A clone's is built, as is_built told."""
+    """What runs the program. A clone's is built, as is_built found."""
     built = [TOP / "tools" / "with-allocator", TOP / "crates" / "dipq" / "out" / "dipq"]
     return [str(word) for word in built] if is_of_clone(command) else [command]

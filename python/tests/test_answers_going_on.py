@@ -117,7 +117,7 @@ class Words(ToolCase):
             (["--percent", "-100.1", "--from", "2024-07-01"], "more than all is taken"),
             (["--percent", "2.5", "--from", "1.7.2024"], "--from 1.7.2024: no point"),
             ([*more, "--to", "2024-07-01T00:00:00"], "isn't before --to"),
-            ([*more, "--where", "name=A"], "the table pay has no column name, but person, euros"),
+            ([*more, "--where", "name=A"], "the table pay has no column name; its columns are person, euros"),
             ([*more, "--where", "euros=05"], "--where euros: BadNumber"),
         ]:
             self.check([*pay, *words], "", 1, told)
@@ -143,7 +143,7 @@ class Words(ToolCase):
         self.check([*pay, "4", "--table", "t", "--key", "who"], "", 1, "--key who: none of the table's columns person")
         for words, told in [
             (["person=Person"], "Person: no name of a column"), (["person", "euros=person"], "the name of two columns"),
-            (["name"], "the answer has no column name, but row_id, "), (["person=by"], "by: no name of a column"),
+            (["name"], "no column name; its columns are row_id, "), (["person=by"], "by: no name of a column"),
         ]:
             self.check([*pay, "4", "--table", "t", *(one for word in words for one in ("--column", word))], "", 1, told)
         self.check([*pay, "4", "--table", "t", "--column", "euros=pay"], "", 0, "table,t,pay,int\nload,t\nrow,2024-03")

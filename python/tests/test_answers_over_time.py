@@ -159,7 +159,7 @@ class Words(ToolCase):
         self.check([*months, "7", "--sum", "number"], "", 1, "its records aren't periods")
         pay = [*PAYROLL, "--go-on"]
         self.check([*pay, "--sum", "sum_euros"], "", 1, "9999-12-31,42150: no end is known: --to tells up to where")
-        self.check([*pay, "--sum", "euros"], "", 1, "the answer has no column euros, but valid_from, valid_to, sum_")
+        self.check([*pay, "--sum", "euros"], "", 1, "no column euros; its columns are valid_from, valid_to, sum_")
         self.check([*pay, "--sum", "valid_to"], "", 1, "valid_to: a start or an end")
         self.check([*pay, "--sum", "sum_euros", "--to", "2024-13-01"], "", 1, "answers: --to 2024-13-01: no point")
         both = ["--from", "2024-02-01", "--to", "2024-02-01"]

@@ -1,4 +1,4 @@
-"""Takes a script apart into its commands, as docs/LANGUAGE.md tells where each ends."""
+"""Takes a script apart into its commands, as docs/LANGUAGE.md says where each ends."""
 from dataclasses import dataclass, replace
 from typing import Iterator, List, Optional, Sequence, Tuple
 

@@ -1,4 +1,4 @@
-"""The forms of what stands in a field: points, numbers and names, as docs/LANGUAGE.md tells them."""
+"""The forms of what stands in a field: points, numbers and names, as docs/LANGUAGE.md defines them."""
 import re
 from datetime import datetime, timedelta
 from functools import lru_cache
@@ -16,11 +16,11 @@ BEGINNING = datetime(1, 1, 1)
 
 
 def read_point(text: str) -> Optional[datetime]:
-    told = POINT.fullmatch(text)
-    if told is None:
+    found = POINT.fullmatch(text)
+    if found is None:
         return None
     try:
-        year, month, day, hour, minute, second = (int(part or 0) for part in told.groups())
+        year, month, day, hour, minute, second = (int(part or 0) for part in found.groups())
         return datetime(year, month, day, hour, minute, second)
     except ValueError:
         return None

@@ -52,7 +52,7 @@ class Answered(Enum):
 
 @dataclass(frozen=True)
 class Form:
-    """A command as a person is told it, its answer, the names by which it may be refused, and what it is made of.
+    """A command as it is shown to a person, its answer, the names by which it may be refused, and what it is made of.
 
     behind  the fields behind the table, where no word but that is before them
     part    the word of each record of its block, which ends by `end`; refused by these names

@@ -18,17 +18,17 @@ def apart(names: Sequence[Any]) -> List[Any]:
     given, taken = set(names), set()  # type: Set[Any], Set[Any]
     made = []
     for name in names:
-        told = name if name not in taken else marked(name, given | taken)
-        taken.add(told)
-        made.append(told)
+        free_name = name if name not in taken else marked(name, given | taken)
+        taken.add(free_name)
+        made.append(free_name)
     return made
 
 
 def marked(name: Any, taken: Set[Any]) -> str:
-    told = f"{name}_"
-    while told in taken:
-        told += "_"
-    return told
+    made = f"{name}_"
+    while made in taken:
+        made += "_"
+    return made
 
 
 def with_suffixes(names: Sequence[Any], suffixes: Sequence[Optional[str]]) -> List[Any]:
@@ -42,9 +42,9 @@ def of_store(names: Sequence[Any]) -> List[str]:
     taken = {name for name in names if isinstance(name, str) and is_name(name)}
     made = []
     for name in names:
-        told = name if isinstance(name, str) and is_name(name) else free(like(name), taken)
-        taken.add(told)
-        made.append(told)
+        free_name = name if isinstance(name, str) and is_name(name) else free(like(name), taken)
+        taken.add(free_name)
+        made.append(free_name)
     return made
 
 
@@ -52,14 +52,14 @@ def like(name: Any) -> str:
     """The letters and digits of ASCII in it, without accents and in small letters, a letter first."""
     plain = unicodedata.normalize("NFKD", str(name)).casefold()
     parts = re.split("[^a-z0-9]+", "".join(one for one in plain if not unicodedata.combining(one)))
-    told = "_".join(filter(None, parts))
-    return told if told[:1].isalpha() else f"c{told}"
+    made = "_".join(filter(None, parts))
+    return made if made[:1].isalpha() else f"c{made}"
 
 
-def free(told: str, taken: Set[str]) -> str:
+def free(beginning: str, taken: Set[str]) -> str:
     """A name of the language that begins so, and that no column has."""
     endings = chain(["", "_"], map("_{}".format, count(2)))
-    made = (told[:LONGEST_NAME - len(ending)] + ending for ending in endings)
+    made = (beginning[:LONGEST_NAME - len(ending)] + ending for ending in endings)
     return next(name for name in made if is_name(name) and name not in taken)
 
 

@@ -5,7 +5,7 @@ from types import SimpleNamespace
 from typing import Iterable, List, NamedTuple, Sequence
 
 
-# So many characters of a record are told in a message.
+# A message shows at most so many characters of a record.
 LONGEST = 120
 
 

@@ -22,6 +22,11 @@ class Column:
     kind: Kind
 
 
+def listed(names: Sequence[str]) -> str:
+    """The columns that there are, for a message that one is missing."""
+    return f"its columns are {', '.join(names)}" if names else "it has none"
+
+
 @dataclass(frozen=True)
 class Schema:
     """A table of the store: its name, its columns, and the places of those of its key."""
@@ -43,7 +48,7 @@ class Schema:
 
     def place(self, name: str) -> int:
         if name not in self.names:
-            raise Misfit(f"the table {self.name} has no column {name}, but {', '.join(self.names) or 'none'}")
+            raise Misfit(f"the table {self.name} has no column {name}; {listed(self.names)}")
         return self.names.index(name)
 
     @staticmethod
@@ -70,7 +75,7 @@ Value = Union[int, str, None]
 
 @dataclass(frozen=True)
 class Table:
-    """An answer as a table. A field that isn't told, as the end of a version that is open, is None."""
+    """An answer as a table. A field that isn't given, as the end of a version that is open, is None."""
 
     columns: List[Column]
     records: Sequence[Sequence[Optional[str]]] = field(default_factory=list)
@@ -92,7 +97,7 @@ class Table:
 
     def place(self, name: str) -> int:
         if name not in self.names:
-            raise Misfit(f"the answer has no column {name}, but {', '.join(self.names)}")
+            raise Misfit(f"the answer has no column {name}; {listed(self.names)}")
         return self.names.index(name)
 
 
@@ -156,6 +161,6 @@ def prefixed(side: str, columns: Iterable[Column]) -> List[Column]:
 
 def unique(columns: Iterable[Column]) -> List[Column]:
     """The columns, each under a name of its own."""
-    told = list(columns)
-    names = naming.apart([column.name for column in told])
-    return [Column(name, column.kind) for name, column in zip(names, told)]
+    given = list(columns)
+    names = naming.apart([column.name for column in given])
+    return [Column(name, column.kind) for name, column in zip(names, given)]
