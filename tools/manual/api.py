@@ -56,16 +56,16 @@ def anchor(name: str) -> str:
 
 
 def section(name: str, subject: Any) -> Iterator[str]:
-    told = Docstring(subject)
-    if "Parameters" in told.sections or inspect.isroutine(subject):
+    docstring = Docstring(subject)
+    if "Parameters" in docstring.sections or inspect.isroutine(subject):
         yield from ["", "```python", *call(name, subject), "```"]
-    for paragraph in told.summary:
+    for paragraph in docstring.summary:
         yield from ["", paragraph]
-    for heading in told.sections:
+    for heading in docstring.sections:
         if heading == "Examples":
-            yield from example(told.sections[heading])
+            yield from example(docstring.sections[heading])
         else:
-            yield from ["", f"**{heading}**", "", *map(item, told.entries(heading))]
+            yield from ["", f"**{heading}**", "", *map(item, docstring.entries(heading))]
 
 
 def call(name: str, subject: Any) -> List[str]:

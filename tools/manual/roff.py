@@ -55,7 +55,7 @@ def verbatim(block: Iterable[str]) -> List[str]:
 
 
 def item(head: str, texts: Iterable[str]) -> List[str]:
-    """What is told of a head, below it."""
+    """A head, and below it what is said of it."""
     return [".PP", line(head), *indented([word for text in texts for word in (line(text), ".br")][:-1])]
 
 

@@ -1,4 +1,4 @@
-"""The pages of dipq-answers and dipq-load, made of what their --help tells."""
+"""The pages of dipq-answers and dipq-load, made of what their --help says."""
 from argparse import Action, ArgumentParser
 from typing import Iterable, Iterator, List, Sequence
 
@@ -6,7 +6,7 @@ from manual.roff import exact, inline, item, opening, paragraph, prose, section,
 from ruzgalt.answers import picks
 from ruzgalt.commands import answers_tool, load_tool
 
-# The words that each command of dipq-answers takes are told once.
+# The words that each command of dipq-answers takes are described once.
 SHARED = ("script", "help", "program", "answers", "ask", "go_on")
 IN_A_REPOSITORY = "In a repository of Ruzgalt, and in its documents, the command is {}."
 SEE_ALSO = (
@@ -15,16 +15,17 @@ SEE_ALSO = (
 )
 DIPQ = "The program that answers scripts, in place of the dipq that is installed beside the tool."
 ANSWERS_STATUS = [
-    ("0", "Nothing was refused; of `front`, nothing differs."),
-    ("1", "Something isn't understood, or a command was refused; with `--go-on` that is so only of `refusals`, or "
-     "where a question of `--ask` was refused. Of `front`, something differs; of `faulty`, a row is at fault."),
-    ("2", "The words are wrong."),
+    ("0", "Nothing was refused; for `front`, nothing differs."),
+    ("1", "Something isn't understood, or a command was refused; with `--go-on` refused commands count only for "
+     "`refusals`, and refused questions of `--ask` always. For `front`, something differs; for `faulty`, a row is at "
+     "fault."),
+    ("2", "The arguments are wrong."),
 ]
 LOAD_STATUS = [
     ("0", "The load was printed."),
-    ("1", "Something is at fault, which standard error tells. In place of a load stands the record `csv-to-load "
-     "failed`, which the store refuses."),
-    ("2", "The words are wrong; the same record is printed."),
+    ("1", "Something is wrong; standard error says what. In place of a load the record `csv-to-load failed` is "
+     "printed, which the store refuses."),
+    ("2", "The arguments are wrong; the same record is printed."),
 ]
 ANSWERS_EXAMPLES = [
     ("The script's answers, numbered:", "dipq-answers list pay.csv"),
@@ -81,32 +82,32 @@ def load() -> Iterator[str]:
 def synopsis(parser: ArgumentParser) -> List[str]:
     """The command, and what stands behind it without a hyphen."""
     given = [action for action in parser._actions if not action.option_strings]
-    told = " ".join(rf"[\fI{one.metavar}\fR ..]" if one.nargs == "*" else rf"\fI{one.metavar}\fR" for one in given)
-    return [rf"\fB{prose(parser.prog)}\fR {told} [\fIOPTION\fR ..] < \fIFILE\fR"]
+    names = " ".join(rf"[\fI{one.metavar}\fR ..]" if one.nargs == "*" else rf"\fI{one.metavar}\fR" for one in given)
+    return [rf"\fB{prose(parser.prog)}\fR {names} [\fIOPTION\fR ..] < \fIFILE\fR"]
 
 
 def words(actions: Iterable[Action]) -> Iterator[str]:
     """An item for each word."""
     for action in actions:
         value = (action.metavar or action.dest.upper()) if action.nargs != 0 else ""
-        told = "An answer, as told below." if action.dest == "pick" else sentence(action.help or "")
+        text = "An answer; see PICK below." if action.dest == "pick" else sentence(action.help or "")
         names = ", ".join(rf"\fB{exact(name)}\fR" for name in action.option_strings)
         yield from item(" ".join(filter(None, [names, rf"\fI{exact(str(value))}\fR" if value else ""])), [
-            inline(told),
+            inline(text),
         ])
 
 
-def sentence(told: str) -> str:
-    return f"{told[:1].upper()}{told[1:]}" + ("" if told.endswith(".") else ".")
+def sentence(text: str) -> str:
+    return f"{text[:1].upper()}{text[1:]}" + ("" if text.endswith(".") else ".")
 
 
 def ending(
     statuses: Sequence[Sequence[str]], examples: Sequence[Sequence[str]], other: str, has_program: bool = True,
 ) -> Iterator[str]:
-    yield from section("exit status", (one for status, told in statuses for one in item(status, [inline(told)])))
+    yield from section("exit status", (one for status, text in statuses for one in item(status, [inline(text)])))
     yield ".SH EXAMPLES"
-    for told, command in examples:
-        yield from [*paragraph(told), *verbatim(command.split("\n"))]
+    for text, command in examples:
+        yield from [*paragraph(text), *verbatim(command.split("\n"))]
     if has_program:
         yield from section("environment", item(r"\fBDIPQ\fR", [prose(DIPQ)]))
     yield from section("see also", [".PP", SEE_ALSO.format(other)])
