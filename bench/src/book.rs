@@ -68,7 +68,7 @@ impl Book {
         place.ok_or(Refusal::NoTable)
     }
 
-    /// The table of a name, and the commit to read of it: the newest where none is told.
+    /// The table of a name, and the commit to read of it: the newest where none is named.
     pub fn read(&self, name: &[u8], commit: Option<u64>) -> Result<(&Table, u64), Refusal> {
         let newest = self.shown.unwrap_or(self.commits());
         let commit = commit.unwrap_or(newest);

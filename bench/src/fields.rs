@@ -76,7 +76,7 @@ pub fn split_asof(record: Record<'_>) -> (Record<'_>, Option<&[u8]>) {
     }
 }
 
-/// The commit that a suffix tells, where there is one.
+/// The commit that a suffix names, where there is one.
 pub fn commit(text: Option<&[u8]>) -> Result<Option<u64>, Refusal> {
     text.map(natural).transpose()
 }

@@ -1,4 +1,4 @@
-//! Scripts of large tables, and of the queries that workers share out: joins, anti-joins and aggregates. They are told apart
+//! Scripts of large tables, and of the queries that workers share out: joins, anti-joins and aggregates. They differ
 //! by how many rows have one value, and by when the rows of one value hold: the more rows match, the shorter they are, so
 //! that no answer for tables of 100,000 rows has more than 1,000,000 records.
 

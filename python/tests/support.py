@@ -56,7 +56,7 @@ def kept(script: str) -> Iterator[str]:
 
 class ToolCase(unittest.TestCase):
     def check(self, words: List[str], given: str, status: int, part: str) -> None:
-        """The tool ends with the status, and prints or tells this part; where something is at fault, in one line."""
+        """The tool ends with the status, and prints or reports this part; where something is wrong, in one line."""
         with self.subTest(" ".join(words)[:200]):
             ended, printed, said = run(words, given)
             self.assertEqual(ended, status, said)
