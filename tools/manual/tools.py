@@ -13,7 +13,7 @@ SEE_ALSO = (
     r"\fBdipq\fR(1), {}. In the repository of Ruzgalt, and in /usr/share/doc/dipq where its package is installed: "
     r"docs/RECIPES.md, docs/LOADING.md, docs/COMPUTING.md and docs/PICTURES.md, each command with what it prints."
 )
-DIPQ = "The program that answers scripts, in place of the dipq that is installed beside the tool."
+DIPQ = "The program that answers scripts. By default it is the dipq that is installed beside the tool."
 ANSWERS_STATUS = [
     ("0", "Nothing was refused; for `front`, nothing differs."),
     ("1", "Something isn't understood, or a command was refused; with `--go-on` refused commands count only for "
@@ -29,12 +29,12 @@ LOAD_STATUS = [
 ]
 ANSWERS_EXAMPLES = [
     ("The script's answers, numbered:", "dipq-answers list pay.csv"),
-    ("The answer to the command at line 7 as CSV, and what held on a day that the script doesn't ask for:",
+    ("The answer to the command at line 7 as CSV, and to a question that isn't in the script:",
      "dipq-answers csv pay.csv @7\ndipq-answers csv pay.csv --ask at,pay,2024-01-15"),
     ("A query of SQLite over all rows:",
      "dipq-answers sqlite pay.csv :memory: --ask pay=rows,pay \\\n"
      "    --query 'select person, max(euros) from pay group by person'"),
-    ("What each month comes to by person, as money and by last days; and what a raise would do, before it is one:",
+    ("Sums by month and person, as money and with last days; and what a raise would do:",
      "dipq-answers months pay.csv --ask rows,pay --sum cents --by person --to 2025-01-01 \\\n"
      "    --decimals cents=2 --last-day\n"
      "dipq-answers raise pay.csv pay cents --percent 2.5 --from 2025-01-01 --round half-up --dry-run"),

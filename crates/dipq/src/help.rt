@@ -1,6 +1,6 @@
 //! What the program says of itself.
 
-/// Where the words are none that it takes.
+/// Printed where the arguments are invalid.
 pub const USAGE: &str = "usage: dipq [--workers N]";
 
 /// The page that `--help` prints.
