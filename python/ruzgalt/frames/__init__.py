@@ -32,7 +32,8 @@ A module stands on those above it:
     doubts                  what may not be meant
     classes                 a number in place of a row's compared values
     pairs, groups, division join and anti; agg; dip
-    united, amounts         coalesce, gaps and overlaps; spread
+    united                  coalesce, gaps and overlaps
+    shares, amounts         what groups come to in pieces of the calendar; spread
     partitions, clipping    the same of Dask, by value; rows for slices of time
     slices                  by time
     calls                   pandas or Dask

@@ -3,15 +3,13 @@ from __future__ import annotations
 
 from dataclasses import replace
 from fractions import Fraction
-from typing import TYPE_CHECKING, Any, Iterator, List, Mapping, Optional, Tuple, Union
+from typing import TYPE_CHECKING, Any, Mapping, Optional, Union
 
-import numpy as np
 import pandas as pd
 
-from ruzgalt.frames import checks, groups, instants, intervals, pairs, points, split, zones
+from ruzgalt.frames import checks, groups, instants, intervals, pairs, shares, split, zones
 from ruzgalt.frames.answer import Columns
-from ruzgalt.frames.arrays import Cells, Ints, of_objects
-from ruzgalt.frames.ask import Found
+from ruzgalt.frames.arrays import of_objects
 from ruzgalt.frames.checks import are_spread
 from ruzgalt.frames.errors import Refused, label_at
 from ruzgalt.frames.kinds import Kind
@@ -20,17 +18,16 @@ from ruzgalt.frames.named import with_levels
 from ruzgalt.frames.options import (
     MONTH, NO_DECIMALS, PERIOD, PIECES, WORKERS, Names, Options, PeriodNames, options_of,
 )
+from ruzgalt.frames.shares import Shares
 from ruzgalt.frames.sides import Side
 from ruzgalt.frames.values import Values
-from ruzgalt.periods import amounts, pieces
+from ruzgalt.periods import pieces
 
 if TYPE_CHECKING:
     import dask.dataframe as dd
 
     Frame = Union[pd.DataFrame, dd.DataFrame]
 
-# Pieces are of seconds from the year 1 on.
-OFFSET = -points.FIRST
 # An end from then on stands for none that is known.
 NO_END = instants.second_of("9999-01-01")
 
@@ -137,11 +134,11 @@ def spread_in(frame: Any, side: Side, options: Options) -> Any:
     rows = shown(counted(side, options), options)
     codes, firsts = groups.group_codes(rows, len(by))
     found = split.agg(replace(rows, columns=[codes, rows.columns[-1]]), "sum", options.workers)
-    start, end, group, values = by_pieces(found, options)
-    columns = Columns(groups.groups_at(frame, by, rows.places[firsts[group]]))
-    times = [zones.begins_of(walls, zone) for walls in (start, end)]
+    told = shares.of_sums(found, pieces.calendar(PIECES[options.each]))
+    columns = Columns(groups.groups_at(frame, by, rows.places[firsts[told.group]]))
+    times = [zones.begins_of(walls, zone) for walls in (told.start, told.end)]
     columns.add(pairs.period_of(times[0], times[1], [side], options, options.form))
-    columns.add([(amount.name, (fractions if options.exact else wholes)(values, amount))])
+    columns.add([(amount.name, (fractions if options.exact else wholes)(told, amount))])
     return columns.frame()
 
 
@@ -170,34 +167,11 @@ def shown(side: Side, options: Options) -> Side:
     return side.during(zones.walls_of(side.start, zone), zones.walls_of(side.end, zone))
 
 
-def by_pieces(found: Found, options: Options) -> Tuple[Ints, Ints, Ints, List[Any]]:
-    """Start, end, group and value of each piece, of sums by group and start."""
-    calendar = pieces.calendar(PIECES[options.each])
-    told = [(group, one) for group, rows in rows_by_group(found) for one in amounts.by_piece(rows, calendar)]
-    group = np.array([one for one, _ in told], np.int64)
-    distinct, places = np.unique(np.array([one.piece for _, one in told], np.int64), return_inverse=True)
-    start, end = (
-        np.array([calendar.start_of(one + behind) - OFFSET for one in distinct.tolist()], np.int64)[places]
-        for behind in (0, 1)
-    )
-    return start, end, group, [Fraction(*one.exact) if options.exact else one.whole for _, one in told]
+def fractions(found: Shares, amount: Values) -> Any:
+    scale = 10 ** (amount.digits or 0)
+    return of_objects([Fraction(one, many * scale) for one, many in zip(found.above.tolist(), found.below.tolist())])
 
 
-def rows_by_group(found: Found) -> Iterator[Tuple[int, List[amounts.Row]]]:
-    """Each group's rows, with seconds from the year 1 on."""
-    start, end, group, value = found
-    cuts = np.flatnonzero(np.diff(group)) + 1
-    for first, behind in zip([0, *cuts], [*cuts, len(group)] if len(group) else []):
-        starts, ends = ((column[first:behind] + OFFSET).tolist() for column in (start, end))
-        yield int(group[first]), list(zip(starts, ends, value[first:behind].tolist()))
-
-
-def fractions(told: List[Any], amount: Values) -> Any:
-    return of_objects([one / 10 ** (amount.digits or 0) for one in told])
-
-
-def wholes(told: List[Any], amount: Values) -> Any:
-    """Sums as agg has them: of the column's dtype where it has decimals, else int64 or longer."""
-    is_short = all(-(2**63) <= one < 2**63 for one in told)
-    cells: Cells = np.array(told, np.int64 if is_short else object)
-    return cells if amount.digits is None else amount.restored(cells)
+def wholes(found: Shares, amount: Values) -> Any:
+    """As agg has sums: of the column's dtype where it has decimals, else int64 or longer."""
+    return found.whole if amount.digits is None else amount.restored(found.whole)

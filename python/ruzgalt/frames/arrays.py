@@ -25,3 +25,10 @@ def of_objects(cells: Sequence[Any]) -> Cells:
 
 def joined(parts: List[Cells]) -> Cells:
     return parts[0] if len(parts) == 1 else np.concatenate(parts)
+
+
+def narrowed(numbers: Cells) -> Cells:
+    """Python's numbers as int64, where all of them fit."""
+    if numbers.dtype == object and not np.asarray((numbers < -(2**63)) | (numbers >= 2**63), bool).any():
+        return numbers.astype(np.int64)
+    return numbers

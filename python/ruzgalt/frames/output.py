@@ -7,7 +7,7 @@ from typing import Callable, Dict, Iterator, List, Sequence, Tuple
 import numpy as np
 
 from ruzgalt.frames import points
-from ruzgalt.frames.arrays import NO_INTS, Bytes, Cells, Hashes, Ints, Marks, joined, of_objects
+from ruzgalt.frames.arrays import NO_INTS, Bytes, Cells, Hashes, Ints, Marks, joined, narrowed, of_objects
 from ruzgalt.frames.errors import Stopped
 from ruzgalt.frames.zones import DAY
 
@@ -141,9 +141,7 @@ def digits(data: Bytes, start: Ints, stop: Ints) -> Hashes:
 
 
 def long_ints(data: Bytes, start: Ints, stop: Ints) -> Cells:
-    numbers = [int(text) for text in texts(data, start, stop)]
-    is_short = all(-(1 << 63) <= number < 1 << 63 for number in numbers)
-    return np.array(numbers, np.int64 if is_short else object)
+    return narrowed(of_objects([int(text) for text in texts(data, start, stop)]))
 
 
 def commits(data: Bytes, start: Ints, stop: Ints) -> Cells:
