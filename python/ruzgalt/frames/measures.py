@@ -1,6 +1,6 @@
 """What an aggregate tells of the rows that hold: one measure, or several at once.
 
-A mean is a sum by a count, exact as a fraction until it is given back. Several measures are cut at the edges of all, so
+A mean is a sum by a count, in lowest terms until it is given back. Several measures are cut at the edges of all, so
 that all have one value in each period, and periods that follow one another with the same values are one.
 """
 from __future__ import annotations
@@ -19,7 +19,7 @@ from ruzgalt.frames.ask import Found
 from ruzgalt.frames.errors import Refused
 from ruzgalt.frames.named import same
 from ruzgalt.frames.sides import Side
-from ruzgalt.frames.values import Values
+from ruzgalt.frames.values import GREATEST, Values
 
 FUNCTIONS = ("count", "sum", "min", "max", "mean")
 # A function of the program, and the column whose numbers come together, but of a count.
@@ -54,6 +54,8 @@ class Measure:
 
 
 Measures = Sequence[Measure]
+# Floats hold each whole number up to this one.
+EXACT = 2**53
 # That some row holds, whichever: the greatest of a column that has 1 in each row. No column of an answer tells it.
 HELD = Measure("held", None, False)
 
@@ -115,11 +117,11 @@ def measured(side: Side, columns: Mapping[Any, Values], measures: Measures, work
 
 
 def measured_by(answer: Callable[[Ask], Found], measures: Measures) -> Found:
-    """The same of the program's answers."""
+    """The same of the program's answers. A mean is two values: a sum and a count, in lowest terms."""
     found: Dict[Ask, Found] = {asked: answer(asked) for asked in asks_of(measures)}
     start, end, group, *told = cut_at_all(list(found.values()))
     there = dict(zip(found, told))
-    values = [value_of(*(there[asked] for asked in one.asks)) for one in measures]
+    values = [value for one in measures for value in in_lowest_terms(*(there[asked] for asked in one.asks))]
     return (start, end, group, *values) if len(found) == 1 else closed_up((start, end, group, *values))
 
 
@@ -127,36 +129,50 @@ def ones(count: int) -> Values:
     return Values(None, "int", np.ones(count, np.int64))
 
 
-def value_of(value: Cells, *count: Cells) -> Cells:
-    """A value as it is, or a sum by its count."""
+def in_lowest_terms(value: Cells, *count: Cells) -> Sequence[Cells]:
+    """A value as it is, or a sum and a count as the fraction that is their mean: equal exactly where means are."""
     if not count:
-        return value
-    return of_objects([Fraction(one, many) for one, many in zip(value.tolist(), count[0].tolist())])
+        return [value]
+    # The rest has the same divisors with the count, and no sign.
+    common = np.gcd(value % count[0], count[0])
+    return [value // common, count[0] // common]
 
 
 def cut_at_all(found: Sequence[Found]) -> Found:
-    """Aggregates of the same rows, each cut where one of them is: start, end and group, and the value of each."""
+    """Aggregates of the same rows, each cut where one of them is: start, end and group, and the value of each.
+
+    All have values at the same time of a group. So a period begins where a row of any does, and until the first of
+    those that hold there ends.
+    """
     if len(found) == 1 or not len(found[0][0]):
         return (*found[0][:3], *(one[3] for one in found))
-    ranks, seconds, groups = ranked(found)
-    points = np.arange(len(seconds))
-    rows = [np.searchsorted(starts, points, "right") - 1 for starts, _ in ranks]
-    held = points[(rows[0] >= 0) & (ranks[0][1][rows[0]] > points)]
-    values = [one[3][row[held]] for one, row in zip(found, rows)]
-    return (seconds[held], seconds[held + 1], groups[held], *values)
-
-
-def ranked(found: Sequence[Found]) -> Tuple[List[Tuple[Ints, Ints]], Ints, Ints]:
-    """The ranks of starts and ends among those of all aggregates, by group and second; and which these are."""
-    seconds = np.concatenate([times for one in found for times in one[:2]])
-    groups = np.concatenate([one[2] for one in found for _ in one[:2]])
-    order = np.lexsort((seconds, groups))
+    start, group = (np.concatenate([one[place] for one in found]) for place in (0, 2))
+    order = by_group(start, group)
     is_new = np.ones(len(order), bool)
-    is_new[1:] = (np.diff(seconds[order]) != 0) | (np.diff(groups[order]) != 0)
+    is_new[1:] = (np.diff(start[order]) != 0) | (np.diff(group[order]) != 0)
     ranks = np.empty(len(order), np.int64)
     ranks[order] = np.cumsum(is_new) - 1
-    parts = np.split(ranks, np.cumsum([len(one[0]) for one in found for _ in one[:2]])[:-1])
-    return list(zip(parts[::2], parts[1::2])), seconds[order][is_new], groups[order][is_new]
+    firsts = order[is_new]
+    begins = np.split(ranks, np.cumsum([len(one[0]) for one in found])[:-1])
+    rows = [held_at(begun, len(firsts)) for begun in begins]
+    end = np.minimum.reduce([one[1][row] for one, row in zip(found, rows)])
+    return (start[firsts], end, group[firsts], *(one[3][row] for one, row in zip(found, rows)))
+
+
+def by_group(start: Ints, group: Ints) -> Ints:
+    """The order by group and start of rows several stretches of which are in order: by one number, where it fits."""
+    low, many = int(start.min()), int(start.max()) - int(start.min()) + 1
+    fits = (int(group.max()) + 1) * many <= GREATEST
+    order: Ints = np.argsort(group * many + (start - low), kind="stable") if fits else np.lexsort((start, group))
+    return order
+
+
+def held_at(begins: Ints, count: int) -> Ints:
+    """The last row that began at or before each of so many places, of rows that begin at these."""
+    is_begun = np.zeros(count, np.int64)
+    is_begun[begins] = 1
+    rows: Ints = np.cumsum(is_begun) - 1
+    return rows
 
 
 def closed_up(found: Found) -> Found:
@@ -174,24 +190,36 @@ def closed_up(found: Found) -> Found:
 def columns_of(values: Sequence[Cells], measures: Measures, columns: Mapping[Any, Values],
                mean_as: str) -> List[Column]:
     """The values as columns of an answer."""
-    told = [(one, value) for one, value in zip(measures, values) if one != HELD]
-    return [(one.name, restored(value, one, columns, mean_as)) for one, value in told]
+    left = iter(values)
+    told = [(one, [next(left) for _ in one.asks]) for one in measures]
+    return [(one.name, restored(own, one, columns, mean_as)) for one, own in told if one != HELD]
 
 
-def restored(value: Cells, measure: Measure, columns: Mapping[Any, Values], mean_as: str) -> Any:
+def restored(value: Sequence[Cells], measure: Measure, columns: Mapping[Any, Values], mean_as: str) -> Any:
     """A least or greatest value is of the column's dtype, so is a sum of decimals; other sums are int64 or longer."""
     if measure.function == "count":
-        return value
+        return value[0]
     column = columns[measure.column]
     if measure.function == "mean":
-        return means_of(value, 10 ** (column.digits or 0), mean_as)
-    return column.restored(value) if measure.function != "sum" or column.digits is not None else value
+        return means_of(value[0], value[1], 10 ** (column.digits or 0), mean_as)
+    return column.restored(value[0]) if measure.function != "sum" or column.digits is not None else value[0]
 
 
-def means_of(value: Cells, scale: int, mean_as: str) -> Any:
+def means_of(above: Cells, below: Cells, scale: int, mean_as: str) -> Any:
     """Means of numbers of which so many are one: the nearest floats, exact Fractions, or Decimals as they divide."""
     if mean_as == "float":
-        return np.array([one.numerator / (one.denominator * scale) for one in value], "f8")
+        return nearest(above, below, scale)
+    pairs = zip(above.tolist(), below.tolist())
     if mean_as == "Fraction":
-        return of_objects([one / scale for one in value])
-    return of_objects([Decimal(one.numerator) / Decimal(one.denominator * scale) for one in value])
+        return of_objects([Fraction(one, many * scale) for one, many in pairs])
+    return of_objects([Decimal(one) / Decimal(many * scale) for one, many in pairs])
+
+
+def nearest(above: Cells, below: Cells, scale: int) -> Cells:
+    """The floats nearest to fractions. Where floats hold both numbers, their division is that; else Python's is."""
+    is_held = np.asarray((-EXACT <= above) & (above <= EXACT) & (below <= EXACT // scale), bool)
+    found = np.empty(len(above), "f8")
+    found[is_held] = above[is_held].astype("f8") / (below[is_held].astype("f8") * scale)
+    rest = zip(above[~is_held].tolist(), below[~is_held].tolist())
+    found[~is_held] = [one / (many * scale) for one, many in rest]
+    return found
