@@ -1,1 +1,2 @@
 pub mod FoundRows
+pub mod OuterLemmas

@@ -3,12 +3,14 @@
 //! Queries over the rows of tables: what held at a point, the division of a table's rows, and rows by their ids; and, by
 //! the crates that answer them, joins, anti-joins and aggregates, with the jobs that their workers run.
 
+mod laws;
 mod query;
 mod rows_by_id;
 
 pub use agg_core::{AggRow, AggRowRef, AggRows, AggShare, Func, agg};
 pub use anti_core::{AntiRow, AntiRows, GapPairs, anti};
 pub use join_core::{JoinAnswer, JoinOut, JoinPairs, JoinRow, JoinRows, join};
+pub use laws::join_and_anti_share_left_rows;
 pub use match_core::{QueryRefused, Side, items};
 pub use period_core::NoMemory;
 pub use query::{at, dip};
