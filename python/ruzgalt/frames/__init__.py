@@ -43,6 +43,7 @@ A module stands on those above it:
     keys, changes, unmeant  why a key refuses; what a change is; what may not be meant by it
     book                    what a store holds at one moment
     questions, divisions    what is asked of it
+    asking                  the questions of a store
     opening, batches        a script as a store; changes that are tried together
     written, raising        the script of a store, a page and pictures of it; raises
     store                   the store
