@@ -8,7 +8,7 @@ import pandas as pd
 from ruzgalt.frames import divisions, questions
 from ruzgalt.frames.division import Division
 from ruzgalt.frames.divisions import Verdict
-from ruzgalt.frames.options import FLOAT, SUFFIXES, Functions, Names, PairOfSuffixes, options_of
+from ruzgalt.frames.options import FLOAT, SUFFIXES, AsOf, Commit, Functions, Names, PairOfSuffixes, options_of
 from ruzgalt.frames.questions import Asked
 
 if TYPE_CHECKING:
@@ -25,18 +25,19 @@ class Asking:
     def known(self, name: Any) -> Table:
         return self.seen().known(name)
 
-    def asked(self, as_of: Optional[int] = None, **options: Any) -> Asked:
+    def asked(self, as_of: AsOf = None, **options: Any) -> Asked:
         return Asked(self.seen(), as_of, options_of(**options))
 
-    def rows(self, name: str, as_of: Optional[int] = None, *, points_as: Optional[str] = None) -> pd.DataFrame:
+    def rows(self, name: str, as_of: AsOf = None, *, points_as: Optional[str] = None) -> pd.DataFrame:
         """All rows of a table, as of a commit.
 
         Parameters
         ----------
         name : str
             The table.
-        as_of : int, optional
-            The number of a commit, as of which it is asked, where not of the newest. log() lists them.
+        as_of : int, str, date, datetime, Timestamp or Period, optional
+            The commit as of which it is asked, where not the newest: its number, its label, or a day, at whose midnight
+            it was the newest. log() and diary() list them.
         points_as : str, optional
             ns, us, ms, s, D, S, date or datetime: the answer's points, where not of the table's kind.
 
@@ -62,7 +63,7 @@ class Asking:
         """
         return questions.rows(self.asked(as_of, points_as=points_as), name)
 
-    def at(self, name: str, point: Any, as_of: Optional[int] = None, *,
+    def at(self, name: str, point: Any, as_of: AsOf = None, *,
            points_as: Optional[str] = None) -> pd.DataFrame:
         """The rows of a table that hold at a point, as of a commit.
 
@@ -72,8 +73,9 @@ class Asking:
             The table.
         point : str, date, datetime, Timestamp or Period
             A day is its midnight.
-        as_of : int, optional
-            The number of a commit, as of which it is asked, where not of the newest. log() lists them.
+        as_of : int, str, date, datetime, Timestamp or Period, optional
+            The commit as of which it is asked, where not the newest: its number, its label, or a day, at whose midnight
+            it was the newest. log() and diary() list them.
         points_as : str, optional
             ns, us, ms, s, D, S, date or datetime: the answer's points, where not of the table's kind.
 
@@ -96,15 +98,15 @@ class Asking:
         """
         return questions.at(self.asked(as_of, points_as=points_as), name, point)
 
-    def between(self, name: str, first: int, last: int, *, points_as: Optional[str] = None) -> pd.DataFrame:
+    def between(self, name: str, first: Commit, last: Commit, *, points_as: Optional[str] = None) -> pd.DataFrame:
         """The versions of rows that some commit from `first` to `last` shows.
 
         Parameters
         ----------
         name : str
             The table.
-        first, last : int
-            Numbers of commits, which log() lists; no days.
+        first, last : int, str, date, datetime, Timestamp or Period
+            Commits, as as_of= of the other questions takes them.
         points_as : str, optional
             ns, us, ms, s, D, S, date or datetime: the answer's points, where not of the table's kind.
 
@@ -132,15 +134,15 @@ class Asking:
         """
         return questions.versions(self.asked(points_as=points_as), "between", name, first, last)
 
-    def fromto(self, name: str, first: int, behind: int, *, points_as: Optional[str] = None) -> pd.DataFrame:
+    def fromto(self, name: str, first: Commit, behind: Commit, *, points_as: Optional[str] = None) -> pd.DataFrame:
         """The versions of rows that some commit from `first` on and before `behind` shows.
 
         Parameters
         ----------
         name : str
             The table.
-        first, behind : int
-            Numbers of commits, which log() lists; no days.
+        first, behind : int, str, date, datetime, Timestamp or Period
+            Commits, as as_of= of the other questions takes them.
         points_as : str, optional
             ns, us, ms, s, D, S, date or datetime: the answer's points, where not of the table's kind.
 
@@ -165,7 +167,7 @@ class Asking:
 
     def join(self, left: str, right: str, on: Names = None, *, left_on: Names = None, right_on: Names = None,
              suffixes: PairOfSuffixes = SUFFIXES, points_as: Optional[str] = None,
-             as_of: Optional[int] = None) -> pd.DataFrame:
+             as_of: AsOf = None) -> pd.DataFrame:
         """The pairs of rows of two tables that are equal in the columns `on`, each for as long as both hold.
 
         Parameters
@@ -180,8 +182,9 @@ class Asking:
             What is put behind names that are taken, of the left table and of the right one; None for nothing.
         points_as : str, optional
             ns, us, ms, s, D, S, date or datetime: the answer's points, where not of the tables' kind.
-        as_of : int, optional
-            The number of a commit, as of which it is asked, where not of the newest. log() lists them.
+        as_of : int, str, date, datetime, Timestamp or Period, optional
+            The commit as of which it is asked, where not the newest: its number, its label, or a day, at whose midnight
+            it was the newest. log() and diary() list them.
 
         Returns
         -------
@@ -210,11 +213,11 @@ class Asking:
                 from         to  left_id  right_id person  cents
         0 2024-03-01 2024-06-01        2         1  Grace   4800
         """
-        told = self.asked(as_of, left_on=left_on, right_on=right_on, suffixes=suffixes, points_as=points_as)
-        return questions.join(told, left, right, on)
+        asked = self.asked(as_of, left_on=left_on, right_on=right_on, suffixes=suffixes, points_as=points_as)
+        return questions.join(asked, left, right, on)
 
     def anti(self, left: str, right: str, on: Names = None, *, left_on: Names = None, right_on: Names = None,
-             points_as: Optional[str] = None, as_of: Optional[int] = None) -> pd.DataFrame:
+             points_as: Optional[str] = None, as_of: AsOf = None) -> pd.DataFrame:
         """The left table's rows, each for as long as no right one holds that is equal in the columns `on`.
 
         Parameters
@@ -227,8 +230,9 @@ class Asking:
             The compared columns in place of `on`, where the two tables have different names for them.
         points_as : str, optional
             ns, us, ms, s, D, S, date or datetime: the answer's points, where not of the tables' kind.
-        as_of : int, optional
-            The number of a commit, as of which it is asked, where not of the newest. log() lists them.
+        as_of : int, str, date, datetime, Timestamp or Period, optional
+            The commit as of which it is asked, where not the newest: its number, its label, or a day, at whose midnight
+            it was the newest. log() and diary() list them.
 
         Returns
         -------
@@ -256,11 +260,11 @@ class Asking:
            row_id       from         to person
         0       1 2024-02-01 2024-03-01  Grace
         """
-        told = self.asked(as_of, left_on=left_on, right_on=right_on, points_as=points_as)
-        return questions.anti(told, left, right, on)
+        asked = self.asked(as_of, left_on=left_on, right_on=right_on, points_as=points_as)
+        return questions.anti(asked, left, right, on)
 
     def agg(self, name: str, function: Functions, column: Optional[str] = None, by: Names = None,
-            as_of: Optional[int] = None, *, mean_as: str = FLOAT, points_as: Optional[str] = None) -> pd.DataFrame:
+            as_of: AsOf = None, *, mean_as: str = FLOAT, points_as: Optional[str] = None) -> pd.DataFrame:
         """count, sum, min, max or mean of the rows that hold, for each period in which it stays the same, by groups.
 
         Parameters
@@ -274,8 +278,9 @@ class Asking:
             The column of numbers of a sum, min, max or mean. A count has none, nor has a dict.
         by : name or list of names, optional
             Columns whose equal values are a group; without any all rows are one.
-        as_of : int, optional
-            The number of a commit, as of which it is asked, where not of the newest. log() lists them.
+        as_of : int, str, date, datetime, Timestamp or Period, optional
+            The commit as of which it is asked, where not the newest: its number, its label, or a day, at whose midnight
+            it was the newest. log() and diary() list them.
         mean_as : str, default "float"
             As what a mean comes: the nearest float, the Fraction that it is, or the Decimal as Decimals divide.
         points_as : str, optional
@@ -308,15 +313,16 @@ class Asking:
         """
         return questions.agg(self.asked(as_of, by=by, mean_as=mean_as, points_as=points_as), name, function, column)
 
-    def dip(self, name: str, as_of: Optional[int] = None) -> Division[pd.DataFrame]:
+    def dip(self, name: str, as_of: AsOf = None) -> Division[pd.DataFrame]:
         """The fewest parts into which the rows can be divided so that no two of a part hold at one time.
 
         Parameters
         ----------
         name : str
             The table.
-        as_of : int, optional
-            The number of a commit, as of which it is asked, where not of the newest. log() lists them.
+        as_of : int, str, date, datetime, Timestamp or Period, optional
+            The commit as of which it is asked, where not the newest: its number, its label, or a day, at whose midnight
+            it was the newest. log() and diary() list them.
 
         Returns
         -------
@@ -342,7 +348,7 @@ class Asking:
         return divisions.dip(self.asked(as_of), name)
 
     def check(self, name: str, parts: Union[Division[pd.DataFrame], pd.DataFrame], count: Optional[int] = None,
-              instant: Any = None, as_of: Optional[int] = None) -> Verdict:
+              instant: Any = None, as_of: AsOf = None) -> Verdict:
         """Whether the rows are divided into parts of which no two rows overlap, as few as can be.
 
         Parameters
@@ -355,8 +361,9 @@ class Asking:
             How many parts there are: of a frame; of a Division where not as it says.
         instant : str, date, datetime, Timestamp or Period, optional
             A point at which as many rows hold: of a frame that has rows; of a Division where not as it says.
-        as_of : int, optional
-            The number of a commit, as of which it is asked, where not of the newest. log() lists them.
+        as_of : int, str, date, datetime, Timestamp or Period, optional
+            The commit as of which it is asked, where not the newest: its number, its label, or a day, at whose midnight
+            it was the newest. log() and diary() list them.
 
         Returns
         -------
@@ -403,3 +410,43 @@ class Asking:
         2       3       1  update   pay      2       1
         """
         return questions.log(self.asked())
+
+    def diary(self, *, after: AsOf = None) -> pd.DataFrame:
+        """The labels and days of the commits, as a table of the store keeps them, which a script else doesn't.
+
+        `store.table("diary", store.diary())`, behind all other changes, keeps them; Store.from_script(..,
+        diary="diary") has them again, and `--diary diary` of tools/answers takes that table.
+
+        Parameters
+        ----------
+        after : int, str, date, datetime, Timestamp or Period, optional
+            The commit, as as_of= takes it, behind which those are that are wanted, where not all: `store.load("diary",
+            store.diary(after=..))` goes on with a table that is there.
+
+        Returns
+        -------
+        DataFrame
+            from and to, the days from which on and before which the commit was the newest, as period[D], or period[S]
+            where some have times; newest and commit, its number, in int64; label, a text, which is empty where it has
+            none. Of a label's commit without a day newest is 0, and the period is all of time. Rows are by commit,
+            those without a day first.
+
+        Raises
+        ------
+        Refused
+            Where the commit isn't there.
+
+        Examples
+        --------
+        >>> store.update("pay", "2024-07-01", None, {"cents": 5600}, {"person": "Ada"}, label="July", day="2024-07-25")
+        commit 4: 1 added, 1 closed
+        >>> store.delete("pay", "2024-09-01", None, {"person": "Grace"}, label="Grace leaves", day="2024-08-12")
+        commit 5: 1 added, 1 closed
+        >>> store.diary()
+                 from          to  newest  commit         label
+        0  2024-07-25  2024-08-12       4       4          July
+        1  2024-08-12  9999-12-31       5       5  Grace leaves
+        >>> [store.at("pay", "2024-09-01", as_of=commit)["person"].tolist() for commit in ("July", "2024-08-12", 5)]
+        [['Grace', 'Ada'], ['Ada'], ['Ada']]
+        """
+        return self.asked().diary(after)

@@ -9,6 +9,7 @@ import numpy as np
 from ruzgalt.frames import ask, checks, keys, script, unmeant
 from ruzgalt.frames.arrays import Ints
 from ruzgalt.frames.changes import Change, Changed
+from ruzgalt.frames.diaries import Diary
 from ruzgalt.frames.errors import Refused, Stopped
 from ruzgalt.frames.output import Output
 from ruzgalt.frames.script import Command, Script
@@ -28,6 +29,7 @@ class Book:
     size    so many bytes the script has
     counts  of each commit that was accepted, how many versions it added, and how many it closed
     rows    of tables by their names the rows that they have now, where these are known
+    diary   the labels and days of the commits
     """
 
     workers: int = 4
@@ -36,6 +38,7 @@ class Book:
     size: int = 0
     counts: Ints = field(default_factory=lambda: NO_COUNTS)
     rows: Mapping[str, Standing] = field(default_factory=dict)
+    diary: Diary = field(default_factory=Diary)
 
     @property
     def script(self) -> Script:
@@ -49,10 +52,14 @@ class Book:
         return self.tables[name]
 
     def behind(self, change: Change, closed: int = 1) -> Book:
-        """The book with a change that closes so many versions. Whether it is refused, isn't looked at."""
+        """The book with a change that closes so many versions. Whether its rows are refused, isn't looked at.
+
+        Raises Refused for its label and its day.
+        """
         tables = {**self.tables, change.name: change.done(self.tables.get(change.name), closed)}
-        commands = (*self.commands, *change.commands)
-        return replace(self, tables=tables, commands=commands, size=self.size + script.size_of(change.commands))
+        commands, size = (*self.commands, *change.commands), self.size + script.size_of(change.commands)
+        diary = self.diary.behind(len(commands), change.note) if change.commands else self.diary
+        return replace(self, tables=tables, commands=commands, size=size, diary=diary)
 
     def run(self, *question: Command) -> Tuple[Output, Ints]:
         """The answer to a question, and what each commit did. Raises Refused for the first command that is refused.

@@ -9,6 +9,7 @@ import numpy as np
 from ruzgalt.frames import checks, doubts, points, script, values
 from ruzgalt.frames.arrays import NO_INTS, Ints
 from ruzgalt.frames.ask import REMEDIES
+from ruzgalt.frames.diaries import NO_NOTE, Note
 from ruzgalt.frames.errors import Refused
 from ruzgalt.frames.named import names_of, same
 from ruzgalt.frames.options import Names, Options
@@ -57,12 +58,14 @@ class Change:
 
     made     the table, where it is made by this
     portion  the seconds at which updates or a delete may cut rows
+    note     the label of its last commit, and its day
     """
 
     name: str
     commands: Sequence[Command]
     made: Optional[Table] = None
     portion: Ints = field(default_factory=lambda: NO_INTS)
+    note: Note = NO_NOTE
 
     @property
     def side(self) -> Optional[Side]:

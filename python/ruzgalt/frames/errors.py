@@ -20,7 +20,7 @@ class Refused(ValueError):
     ----------
     name : str
         The refusal's name in the language, as BadPeriod or KeyOverlap, also where the value never came to the program;
-        WrongKind of a dtype that has no kind of the store.
+        WrongKind of a dtype that has no kind of the store; of a store's commits NoLabel and NoDay.
     reason : str
         What is wrong and what to do, in one line.
     column : name or None

@@ -13,7 +13,7 @@ from ruzgalt import answers
 from ruzgalt.answers import Answer
 from ruzgalt.checking import refusals
 from ruzgalt.errors import Misfit
-from ruzgalt.frames import ask, checks, kinds, points, running, script
+from ruzgalt.frames import ask, checks, diaries, kinds, points, running, script
 from ruzgalt.frames.arrays import NO_INTS, Cells
 from ruzgalt.frames.book import LOG, Book, counts_of
 from ruzgalt.frames.errors import Refused, Stopped, doubt
@@ -34,8 +34,11 @@ Given = Union[bytes, str, "os.PathLike[str]"]
 NAMED = 10
 
 
-def book_of(given: Given, options: Any, empty: Book) -> Book:
-    """The book of a script's accepted changes. Raises Refused, Stopped; warns of refused changes."""
+def book_of(given: Given, options: Any, diary: Any, empty: Book) -> Book:
+    """The book of a script's accepted changes, with the labels and days of a diary's table, where one is named.
+
+    Raises Refused, Stopped; warns of refused changes.
+    """
     found = answers_of(bytes_of(given), empty.workers)
     kept = [command_of(one) for one in found if one.command.word in CHANGES and not one.refusal]
     schemas = found[-1].tables if found else {}
@@ -43,7 +46,8 @@ def book_of(given: Given, options: Any, empty: Book) -> Book:
     names = given.names if isinstance(given, Script) else {}
     given_of = {name: {"names": names.get(name, {}), **options.get(name, {})} for name in schemas}
     made = {name: table_of(schema, given_of[name]) for name, schema in schemas.items()}
-    return filled(Book(empty.workers, made, tuple(kept)))
+    book = filled(Book(empty.workers, made, tuple(kept)))
+    return book if diary is None else replace(book, diary=diaries.read(book, diary, schemas))
 
 
 def answers_of(data: bytes, workers: int) -> List[Answer]:

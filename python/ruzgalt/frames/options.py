@@ -1,9 +1,13 @@
 """What may be given to join, anti, agg and dip beside their frames."""
 from __future__ import annotations
 
+import datetime
 from dataclasses import dataclass, field
 from types import MappingProxyType
 from typing import Any, Callable, Dict, List, Literal, Mapping, Optional, Sequence, Tuple, Union
+
+import numpy as np
+import pandas as pd
 
 from ruzgalt.frames import checks, intervals, kinds
 from ruzgalt.frames.checks import Pair, Suffixes
@@ -17,6 +21,9 @@ Names = Union[str, int, Sequence[Any], None]
 Functions = Union[str, Mapping[Any, Union[str, Sequence[str]]]]
 PeriodNames = Union[str, int, Tuple[Any, Any], List[Any]]
 PairOfSuffixes = Union[Suffixes, List[Optional[str]]]
+# A commit by its number, its label or a day, and that of a question, which may be the newest.
+Commit = Union[int, str, datetime.date, np.datetime64, pd.Period]
+AsOf = Optional[Commit]
 # Of both frames of a pair, or of one of them alone.
 OneSided = Union[bool, Literal["left", "right"]]
 Told = Optional[Tuple[Any, ...]]

@@ -2,24 +2,26 @@
 from __future__ import annotations
 
 from dataclasses import dataclass, replace
-from typing import Any, Iterator, List, Optional, Sequence, Tuple
+from typing import Any, Iterator, List, Sequence, Tuple
 
 import numpy as np
 import pandas as pd
 
-from ruzgalt.frames import answer, checks, doubts, groups, instants, measures, pairs, script, unmeant
+from ruzgalt.frames import answer, checks, diaries, doubts, groups, instants, measures, pairs, script, unmeant
 from ruzgalt.frames.answer import Columns
 from ruzgalt.frames.arrays import Cells
 from ruzgalt.frames.book import Book
 from ruzgalt.frames.errors import Refused
 from ruzgalt.frames.kinds import Kind
 from ruzgalt.frames.measures import Measures
-from ruzgalt.frames.options import Options, compared
+from ruzgalt.frames.options import AsOf, Options, compared
 from ruzgalt.frames.sides import Side
 from ruzgalt.frames.tables import Table, coded
 from ruzgalt.frames.values import Values
 
 LOG = ("commit", "caller", "kind", "table", "added", "closed")
+# What versions are asked for by.
+BOUNDS = {"between": ("first", "last"), "fromto": ("first", "behind")}
 
 
 @dataclass(frozen=True)
@@ -27,26 +29,32 @@ class Asked:
     """A question: of which book, at which commit, and with which options, beside those that its tables have."""
 
     book: Book
-    as_of: Optional[int] = None
+    as_of: AsOf = None
     options: Options = Options()
 
     @property
     def suffix(self) -> List[str]:
         return [] if self.as_of is None else ["asof", commit("as_of", self.as_of, self.book)]
 
+    def diary(self, after: AsOf) -> Any:
+        """The rows of the diary of commits behind one, where not of all."""
+        return self.book.diary.frame(0 if after is None else int(commit("after", after, self.book)))
+
     def block(self, words: Sequence[str], kinds: str) -> Iterator[Cells]:
         return iter(self.book.answer(script.command(*words, *self.suffix)).block(kinds))
 
 
-def commit(option: str, number: Any, book: Book, is_to_be_there: bool = True) -> str:
-    """The number of a commit, as a field. Raises Refused (BadNumber, Future)."""
+def commit(option: str, given: Any, book: Book, is_to_be_there: bool = True) -> str:
+    """The number of a commit, by itself, by a label or by a day, as a field. Raises Refused."""
     newest = len(book.commands)
-    if not checks.is_whole(number) or number < 0:
-        told = f"{option}={checks.shown(number)}: commits are whole numbers, here 0 to {newest}, and no days"
-        raise Refused("BadNumber", f"{told}; log() lists them")
-    if is_to_be_there and number > newest:
-        raise Refused("Future", f"{option}={number}: the commits are 0 to {newest}; log() lists them")
-    return str(int(number))
+    if isinstance(given, (str, *diaries.DAYS)) and not pd.isna(given):
+        return str(book.diary.commit_of(option, given))
+    if not checks.is_whole(given) or given < 0:
+        wanted = f"a commit's number is wanted, here 0 to {newest}, or its label, or a day"
+        raise Refused("BadNumber", f"{option}={checks.shown(given)}: {wanted}; log() and diary() list the commits")
+    if is_to_be_there and given > newest:
+        raise Refused("Future", f"{option}={given}: the commits are 0 to {newest}; log() lists them")
+    return str(int(given))
 
 
 def rows(asked: Asked, name: str) -> Any:
@@ -77,9 +85,9 @@ def listed(asked: Asked, name: str, words: Sequence[str], *kinds: Kind) -> Any:
 def versions(asked: Asked, word: str, name: str, first: Any, last: Any) -> Any:
     """Of `between` and `fromto`, of which the second leaves out the last commit."""
     table = asked.book.known(name)
-    numbers = [commit(option, one, asked.book, False) for option, one in (("first", first), ("last", last))]
-    if first > last or (word == "fromto" and first == last):
-        raise Refused("BadPeriod", f"{first} to {last}: the first commit comes before the last")
+    numbers = [commit(option, one, asked.book, False) for option, one in zip(BOUNDS[word], (first, last))]
+    if int(numbers[0]) > int(numbers[1]) or (word == "fromto" and numbers[0] == numbers[1]):
+        raise Refused("BadPeriod", f"{' to '.join(numbers)}: the first commit comes before the last")
     cells = asked.block([word, name, *numbers], "ippcc" + table.readers)
     kind = asked.options.kind_of(table.period, table.kind)
     columns = Columns([("row_id", next(cells)), *table.period_cells(cells, kind)])

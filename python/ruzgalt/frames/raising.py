@@ -8,6 +8,7 @@ import pandas as pd
 from ruzgalt.checking import raises
 from ruzgalt.frames import checks, points, script
 from ruzgalt.frames.changes import Change, Changed, condition
+from ruzgalt.frames.diaries import NO_NOTE, Note, note_of
 from ruzgalt.frames.errors import doubt
 from ruzgalt.frames.script import Command
 from ruzgalt.frames.written import answered, refusing
@@ -30,12 +31,13 @@ class Raising:
     def known(self, name: Any) -> Table:
         raise NotImplementedError
 
-    def change(self, change: Change) -> Optional[Changed]:
+    def change(self, change: Change, note: Note = NO_NOTE) -> Optional[Changed]:
         raise NotImplementedError
 
     def raise_by(self, name: str, column: Any, percent: Any, start: Any, end: Any = None, *,
                  where: Optional[Mapping[str, Any]] = None, round: Optional[str] = None,
-                 dry_run: bool = False) -> Union[Changed, pd.DataFrame, None]:
+                 dry_run: bool = False, label: Optional[str] = None,
+                 day: Any = None) -> Union[Changed, pd.DataFrame, None]:
         """Raises amounts by a part of themselves: an update for each amount that rows have, exactly.
 
         Parameters
@@ -55,6 +57,11 @@ class Raising:
             floor, as Python's decimal has them.
         dry_run : bool, default False
             Changes nothing, and answers a frame of what each update would do.
+        label : str, optional
+            What the change's commit is called, of several the last one: as_of= takes it. No other commit has it.
+        day : str, date, datetime, Timestamp or Period, optional
+            The day of the change, from whose midnight on its commits are there. No earlier one than that of a commit
+            before.
 
         Returns
         -------
@@ -84,17 +91,19 @@ class Raising:
         >>> store.raise_by("pay", "cents", "2.5", "2024-09-01")
         commit 5: 4 added, 2 closed
         """
-        is_dry = checks.flag("dry_run", dry_run)
+        is_dry, note = checks.flag("dry_run", dry_run), note_of(label, day)
         with self.lock:
+            self.seen().diary.refuse(note)
             made = raise_of(self.seen(), self.known(name), column, (str(percent), start, end), (where, round))
             if is_dry:
                 names = naming.apart(["rows", "exact", "raised", column])
                 return pd.DataFrame(list(made.table().values()), columns=[names[0], names[3], *names[1:3]])
             commands = [Command(fields, [script.record(fields)]) for fields in made.updates()]
             if not commands:
+                note.refuse_without_commit()
                 doubt(f"raise of {name}: {'; '.join(made.notes())}")
                 return None
-            return self.change(Change(name, commands, portion=self.known(name).portion(start, end)))
+            return self.change(Change(name, commands, portion=self.known(name).portion(start, end)), note)
 
 
 def raise_of(book: Book, table: Table, column: Any, told: Any, which: Any) -> raises.Raise:

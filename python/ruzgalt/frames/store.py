@@ -18,6 +18,7 @@ from ruzgalt.frames.asking import Asking
 from ruzgalt.frames.batches import Batch, Draft
 from ruzgalt.frames.book import Book, accepted
 from ruzgalt.frames.changes import Change, Changed
+from ruzgalt.frames.diaries import NO_NOTE, Note, note_of
 from ruzgalt.frames.errors import Refused, doubt
 from ruzgalt.frames.opening import Given
 from ruzgalt.frames.options import (
@@ -31,6 +32,7 @@ from ruzgalt.frames.written import Written
 class Store(Asking, Raising, Written):
     """Tables with a past, in memory: each change is a commit, and each question may be asked as of any of them.
 
+    A commit is asked for by its number, by a label that its change was given, or by a day on which it was the newest.
     What is refused changes nothing. Threads may share a store: a change is done alone, and a batch is one change.
     `copy.copy` makes another store of the same commits; so does pickle.
 
@@ -77,7 +79,8 @@ class Store(Asking, Raising, Written):
 
     @classmethod
     def from_script(cls, script: Given, *, workers: int = WORKERS,
-                    options: Optional[Mapping[str, Mapping[str, Any]]] = None) -> Store:
+                    options: Optional[Mapping[str, Mapping[str, Any]]] = None,
+                    diary: Optional[str] = None) -> Store:
         """A store of a script's accepted changes; its questions and refused changes are left out.
 
         Parameters
@@ -89,6 +92,9 @@ class Store(Asking, Raising, Written):
         options : dict, optional
             Of tables by their names, a dict of what `table` takes: period, open_end, last_day, decimals, missing.
             Numbers become Decimals by decimals. `names` are as a Script has them of a table, for one from a file.
+        diary : str, optional
+            The table that has the commits' labels and days, as `diary()` made it, or as the tools take it: its first
+            column has the newest commit from a row's start on.
 
         Returns
         -------
@@ -98,7 +104,7 @@ class Store(Asking, Raising, Written):
         Raises
         ------
         Refused
-            Where there is no such file, or options are of no table or column.
+            Where there is no such file, options are of no table or column, or the diary is none.
         Stopped
             Where the program ended without all answers.
 
@@ -113,7 +119,7 @@ class Store(Asking, Raising, Written):
         <Store of 3 commits, tables: pay>
         """
         store = cls(workers=workers)
-        store.book = opening.book_of(script, {} if options is None else options, store.book)
+        store.book = opening.book_of(script, {} if options is None else options, diary, store.book)
         return store
 
     def __repr__(self) -> str:
@@ -158,7 +164,8 @@ class Store(Asking, Raising, Written):
 
     def table(self, name: str, frame: pd.DataFrame, *, period: PeriodNames = PERIOD, key: Names = (),
               open_end: bool = False, last_day: bool = False, decimals: Mapping[Any, int] = NO_DECIMALS,
-              missing: Mapping[Any, Any] = NO_STAND_INS) -> Optional[Changed]:
+              missing: Mapping[Any, Any] = NO_STAND_INS, label: Optional[str] = None,
+              day: Any = None) -> Optional[Changed]:
         """Makes a table of a frame's columns, but for the period's two, and loads its rows.
 
         Parameters
@@ -180,6 +187,11 @@ class Store(Asking, Raising, Written):
         missing : dict, optional
             What stands in the store for a missing cell of a column, as `{"note": "?"}`: a value that no cell has. It
             comes back as missing; such a column isn't compared or added up.
+        label : str, optional
+            What the change's commit is called, of several the last one: as_of= takes it. No other commit has it.
+        day : str, date, datetime, Timestamp or Period, optional
+            The day of the change, from whose midnight on its commits are there. No earlier one than that of a commit
+            before.
 
         Returns
         -------
@@ -205,9 +217,11 @@ class Store(Asking, Raising, Written):
         """
         given = {"open_end": open_end, "last_day": last_day, "decimals": decimals, "missing": missing}
         of_table = options_of(period=period, **given)
-        return self.change(changes.making(name, checks.frame("frame", frame), key, of_table))
+        note = note_of(label, day)
+        return self.change(changes.making(name, checks.frame("frame", frame), key, of_table), note)
 
-    def load(self, name: str, frame: pd.DataFrame) -> Optional[Changed]:
+    def load(self, name: str, frame: pd.DataFrame, *, label: Optional[str] = None,
+             day: Any = None) -> Optional[Changed]:
         """Adds the rows of a frame that has the table's columns and no others, in any order.
 
         Parameters
@@ -216,6 +230,11 @@ class Store(Asking, Raising, Written):
             The table.
         frame : DataFrame
             Of pandas, with the period's columns and the table's.
+        label : str, optional
+            What the change's commit is called, of several the last one: as_of= takes it. No other commit has it.
+        day : str, date, datetime, Timestamp or Period, optional
+            The day of the change, from whose midnight on its commits are there. No earlier one than that of a commit
+            before.
 
         Returns
         -------
@@ -240,10 +259,11 @@ class Store(Asking, Raising, Written):
         commit 4: 2 added, 0 closed
         """
         with self.lock:
-            return self.change(changes.loading(self.known(name), frame))
+            return self.change(changes.loading(self.known(name), frame), note_of(label, day))
 
     def update(self, name: str, start: Any, end: Any, set: Mapping[str, Any],
-               where: Optional[Mapping[str, Any]] = None) -> Optional[Changed]:
+               where: Optional[Mapping[str, Any]] = None, *, label: Optional[str] = None,
+               day: Any = None) -> Optional[Changed]:
         """Gives rows other values from `start` on and before `end`: all rows, or those that have all values of `where`.
 
         Parameters
@@ -256,6 +276,11 @@ class Store(Asking, Raising, Written):
             Columns with the values that they get.
         where : dict, optional
             Columns with the values that rows are to have.
+        label : str, optional
+            What the change's commit is called, of several the last one: as_of= takes it. No other commit has it.
+        day : str, date, datetime, Timestamp or Period, optional
+            The day of the change, from whose midnight on its commits are there. No earlier one than that of a commit
+            before.
 
         Returns
         -------
@@ -282,9 +307,11 @@ class Store(Asking, Raising, Written):
         with self.lock:
             table = self.known(name)
             fields = ["set", *table.pairs("set", set), *changes.condition(table, where)]
-            return self.change(changes.changing("update", table, table.portion(start, end), fields))
+            made = changes.changing("update", table, table.portion(start, end), fields)
+            return self.change(made, note_of(label, day))
 
-    def delete(self, name: str, start: Any, end: Any, where: Optional[Mapping[str, Any]] = None) -> Optional[Changed]:
+    def delete(self, name: str, start: Any, end: Any, where: Optional[Mapping[str, Any]] = None, *,
+               label: Optional[str] = None, day: Any = None) -> Optional[Changed]:
         """Takes the time from `start` on and before `end` out of rows: all, or those that have all values of `where`.
 
         Parameters
@@ -295,6 +322,11 @@ class Store(Asking, Raising, Written):
             In a table of last days `end` is the last day. None as the end is no end: 9999-12-31.
         where : dict, optional
             Columns with the values that rows are to have.
+        label : str, optional
+            What the change's commit is called, of several the last one: as_of= takes it. No other commit has it.
+        day : str, date, datetime, Timestamp or Period, optional
+            The day of the change, from whose midnight on its commits are there. No earlier one than that of a commit
+            before.
 
         Returns
         -------
@@ -321,9 +353,11 @@ class Store(Asking, Raising, Written):
         with self.lock:
             table = self.known(name)
             fields = changes.condition(table, where)
-            return self.change(changes.changing("delete", table, table.portion(start, end), fields))
+            made = changes.changing("delete", table, table.portion(start, end), fields)
+            return self.change(made, note_of(label, day))
 
-    def update_rows(self, name: str, frame: pd.DataFrame, where: Names = None) -> Optional[Changed]:
+    def update_rows(self, name: str, frame: pd.DataFrame, where: Names = None, *, label: Optional[str] = None,
+                    day: Any = None) -> Optional[Changed]:
         """An update for each row of a frame, in their order, each of which is a commit. All are done, or none.
 
         Parameters
@@ -335,6 +369,11 @@ class Store(Asking, Raising, Written):
             out.
         where : name or list of names, optional
             The columns in which rows are to be equal, where not the table's key.
+        label : str, optional
+            What the change's commit is called, of several the last one: as_of= takes it. No other commit has it.
+        day : str, date, datetime, Timestamp or Period, optional
+            The day of the change, from whose midnight on its commits are there. No earlier one than that of a commit
+            before.
 
         Returns
         -------
@@ -360,13 +399,20 @@ class Store(Asking, Raising, Written):
         commit 5: 3 added, 3 closed
         """
         with self.lock:
-            return self.change(changes.updating(self.known(name), frame, where))
+            return self.change(changes.updating(self.known(name), frame, where), note_of(label, day))
 
-    def batch(self) -> Batch:
+    def batch(self, *, label: Optional[str] = None, day: Any = None) -> Batch:
         """The changes within are tried together at the end: all are kept, or none and the first refusal is raised.
 
-        A question within is answered with the changes before it, which are tried for that; other threads wait for the
-        batch's end.
+        Each change within is a commit, as by itself, and may have a label and a day of its own. A question within is
+        answered with the changes before it, which are tried for that; other threads wait for the batch's end.
+
+        Parameters
+        ----------
+        label : str, optional
+            What the batch's last commit is called.
+        day : str, date, datetime, Timestamp or Period, optional
+            The day of those changes within to which none is given.
 
         Returns
         -------
@@ -376,7 +422,8 @@ class Store(Asking, Raising, Written):
         Raises
         ------
         Refused
-            At the end, where a change is refused; at the begin, where the store is in a batch.
+            At the end, where a change is refused, or a label has no commit; at the begin, where the store is in a
+            batch.
         Stopped
             Where the program ended without all answers.
 
@@ -388,19 +435,24 @@ class Store(Asking, Raising, Written):
         >>> changed
         [commit 4: 3 added, 1 closed, commit 5: 0 added, 1 closed]
         """
-        return Batch(self)
+        return Batch(self, note_of(label, day))
 
-    def change(self, change: Change) -> Optional[Changed]:
+    def change(self, change: Change, note: Note = NO_NOTE) -> Optional[Changed]:
+        """Does a change, with what is given of its commits; in a batch at its end."""
         with self.lock:
+            made = replace(change, note=note if self.draft is None else note.within(self.draft.note))
+            if not made.commands:
+                note.refuse_without_commit()
+            self.seen().diary.refuse(made.note)
             if self.draft is None:
-                return self.accept([change])[0]
-            self.draft = Draft(self.draft.book.behind(change), (*self.draft.changes, change))
+                return self.accept([made])[0]
+            self.draft = self.draft.behind(made)
             return None
 
     def accept(self, asked: Sequence[Change]) -> List[Changed]:
         """Tries changes in one run, and keeps them all or raises Refused, or Doubt where warnings are errors."""
         book, changed, doubts = accepted(self.book, asked)
-        for told in doubts:
-            doubt(told)
+        for one in doubts:
+            doubt(one)
         self.book = book
         return changed

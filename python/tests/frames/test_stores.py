@@ -267,15 +267,17 @@ class Points(Case):
 
     def test_between_is_of_commits(self):
         made = store(frame())
-        for first, last in (("2024-01-01", "2024-02-01"), (DAYS("2024-01-01"), 2), (0, True), (0.0, 2), (-1, 2)):
+        for first, last in ((0, True), (0.0, 2), (-1, 2), (None, 2)):
             self.refuses(lambda: made.between("t", first, last), "BadNumber", "commits", "log()")
+        for first, last in (("2024-01-01", "2024-02-01"), (DAYS("2024-01-01"), 2)):
+            self.refuses(lambda: made.between("t", first, last), "NoDay", "day=")
         self.refuses(lambda: made.between("t", 2, 1), "BadPeriod")
         self.refuses(lambda: made.fromto("t", 1, 1), "BadPeriod")
         self.assertEqual(len(made.between("t", np.int64(0), 9)), 2)
 
     def test_as_of_is_a_commit(self):
         made = store(frame())
-        for as_of in ("2024-06-01", -1, 2.0, True, pd.NaT):
+        for as_of in (-1, 2.0, True, pd.NaT, np.datetime64("NaT"), [2]):
             for ask in (lambda: made.rows("t", as_of=as_of), lambda: made.join("t", "t", as_of=as_of),
                         lambda: made.check("t", made.dip("t"), as_of=as_of)):
                 self.refuses(ask, "BadNumber", "0 to 2")

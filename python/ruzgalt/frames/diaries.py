@@ -1,0 +1,234 @@
+"""Labels and days of a store's commits, and the table that keeps them.
+
+A commit without a day counts with the next one that has a day, as to `tools/answers history --diary`: as of a day the
+newest commit is the last one whose day is that day or before. So days don't go back.
+"""
+from __future__ import annotations
+
+import datetime
+import difflib
+from bisect import bisect_right
+from dataclasses import dataclass, field, replace
+from itertools import islice
+from typing import TYPE_CHECKING, Any, Dict, Iterator, List, Mapping, NamedTuple, Optional, Sequence, Tuple
+
+import numpy as np
+import pandas as pd
+
+from ruzgalt.answers import history
+from ruzgalt.checking.looks import fold
+from ruzgalt.errors import Misfit
+from ruzgalt.frames import checks, instants, points, script
+from ruzgalt.frames.arrays import Cells
+from ruzgalt.frames.errors import Refused
+from ruzgalt.frames.kinds import Kind
+from ruzgalt.script import forms
+from ruzgalt.script.schemas import Schema
+
+if TYPE_CHECKING:
+    from ruzgalt.frames.book import Book
+
+# The columns of a diary beside its period: the tools read the first, and Store.from_script all of them.
+NEWEST, COMMIT, LABEL = COLUMNS = ("newest", "commit", "label")
+# Of an unknown label so many are listed, and among so many a near one is looked for.
+LISTED, LOOKED_AT = 10, 1_000
+# So much of two labels that look alike is the same.
+ALIKE = 0.75
+# What stands for a day; a text is one, or a label.
+DAYS = (datetime.date, np.datetime64, pd.Period)
+
+
+@dataclass(frozen=True)
+class Note:
+    """What is given of a change beside what it does: labels of its last commit, and the second of its day."""
+
+    labels: Tuple[str, ...] = ()
+    second: Optional[int] = None
+
+    def within(self, batch: Note) -> Note:
+        """The same of a change in a batch, which has the batch's day where it has none."""
+        return replace(self, second=batch.second) if self.second is None else self
+
+    def refuse_without_commit(self) -> None:
+        """Raises Refused where a label has no commit to name."""
+        if self.labels:
+            raise Refused("BadCommand", f"label={self.labels[0]!r} names a commit, and this change makes none")
+
+
+NO_NOTE = Note()
+
+
+def note_of(label: Any, day: Any) -> Note:
+    """Raises Refused where a label or a day is none."""
+    labels = () if label is None else (label_of(label),)
+    return Note(labels, None if day is None else second_of(day))
+
+
+def second_of(day: Any) -> int:
+    second = instants.second_of(day)
+    if second >= points.NO_END:
+        raise Refused("BadPoint", f"day={day!r}: 9999-12-31 stands for no end, so it is no day of a commit")
+    return second
+
+
+def label_of(given: Any) -> str:
+    """The label. Raises Refused where it is no text of the store, or could be taken for a number or a day."""
+    if not isinstance(given, str):
+        raise checks.wrong("label", given, "a text is wanted")
+    label, shown = str.__str__(given), checks.shown(given)
+    if not label.strip():
+        raise Refused("BadName", f"label={shown} is blank, so nobody would find it")
+    if is_number(label):
+        raise Refused("BadName", f"label={shown} reads as the number of a commit: a word beside it, as 'run {label}'")
+    if forms.POINT.fullmatch(label.strip()):
+        raise Refused("BadName", f"label={shown} reads as a day: day= is for that, or a word beside it")
+    if not forms.is_utf8(label):
+        raise Refused("BadUtf8", f"label={shown} has half of a surrogate pair, so it is no text")
+    if not forms.is_short(label):
+        raise Refused("TooLong", f"label={shown} has more than 4,096 bytes: a shorter one")
+    return label
+
+
+def is_number(label: str) -> bool:
+    try:
+        int(label)
+    except ValueError:
+        return False
+    return True
+
+
+@dataclass(frozen=True)
+class Diary:
+    """Labels with their commits, and days with the newest commit from each on. It is never changed, as a book.
+
+    seconds  the days' midnights, or later seconds; they rise, and so do the commits
+    """
+
+    labels: Mapping[str, int] = field(default_factory=dict)
+    seconds: Tuple[int, ...] = ()
+    commits: Tuple[int, ...] = ()
+
+    def behind(self, commit: int, note: Note) -> Diary:
+        """The diary with what is given of a change, whose last commit this is. Raises Refused, as refuse does."""
+        if note == NO_NOTE:
+            return self
+        self.refuse(note)
+        made = replace(self, labels={**self.labels, **dict.fromkeys(note.labels, commit)})
+        if note.second is None:
+            return made
+        return replace(made, seconds=(*self.seconds, note.second), commits=(*self.commits, commit))
+
+    def refuse(self, note: Note) -> None:
+        """Raises Refused where a commit has one of the labels, or a later day."""
+        for label in note.labels:
+            if label in self.labels:
+                reason = f"label={checks.shown(label)} is that of commit {self.labels[label]}"
+                raise Refused("TwiceNamed", f"{reason}: another one; diary() lists them")
+        if note.second is not None and self.seconds and note.second < self.seconds[-1]:
+            last = f"{points.text_of(self.seconds[-1])}, the day of commit {self.commits[-1]}"
+            raise Refused("BadPoint", f"day={points.text_of(note.second)} is before {last}: days don't go back")
+
+    def commit_of(self, option: str, given: Any) -> int:
+        """The commit that has a label, or the newest one of a day. Raises Refused."""
+        if not isinstance(given, str):
+            return self.newest_at(option, given)
+        if given in self.labels:
+            return self.labels[given]
+        if forms.read_point(given) is not None:
+            return self.newest_at(option, given)
+        reason = f"{option}={checks.shown(given)} is no day, and no commit has this label{self.alike(given)}"
+        reason += f"; a commit's number is no text: {int(given)}" if is_number(given) else ""
+        raise Refused("NoLabel", f"{reason}; {self.listed()}")
+
+    def newest_at(self, option: str, day: Any) -> int:
+        place = bisect_right(self.seconds, instants.second_of(day))
+        if place:
+            return self.commits[place - 1]
+        given = f"{option}={str(day)!r}"
+        if not self.seconds:
+            remedy = "day= of a change gives one, diary= of Store.from_script reads them"
+            raise Refused("NoDay", f"{given}: no commit has a day; {remedy}")
+        raise Refused("NoDay", f"{given}: the first day of a commit is {points.text_of(self.seconds[0])}")
+
+    def alike(self, label: str) -> str:
+        """A label like this one, for a person."""
+        there = {fold(one): one for one in islice(reversed(list(self.labels)), LOOKED_AT)}
+        found = difflib.get_close_matches(fold(label), list(there), 1, ALIKE)
+        return f", but {there[found[0]]!r} looks alike" if found else ""
+
+    def listed(self) -> str:
+        if not self.labels:
+            return "label= of a change gives one, diary= of Store.from_script reads them"
+        newest = list(self.labels)[-LISTED:]
+        more = f" and {len(self.labels) - LISTED} more" if len(self.labels) > LISTED else ""
+        return f"there are {', '.join(map(checks.shown, newest))}{more}; diary() lists them"
+
+    def frame(self, after: int) -> pd.DataFrame:
+        """The rows of commits behind this one, as Store.diary has them."""
+        rows = [row for row in self.rows() if row.commit > after]
+        times = np.array([(row.start, row.end) for row in rows], np.int64).reshape(-1, 2)
+        kind = Kind("D" if points.has_all(Kind("D"), times) else "S")
+        ends = {name: points.series_of(column, kind) for name, column in zip(("from", "to"), times.T)}
+        newest, commits = np.array([(row.newest, row.commit) for row in rows], np.int64).reshape(-1, 2).T
+        labels = pd.Series([row.label for row in rows], dtype=object)
+        return pd.DataFrame({**ends, NEWEST: newest, COMMIT: commits, LABEL: labels})
+
+    def rows(self) -> Iterator[Row]:
+        """A row for each label and each day: first those of labels without a day, and all by commits."""
+        labels_of: Dict[int, List[str]] = {}
+        for label, commit in sorted(self.labels.items(), key=lambda one: one[1]):
+            labels_of.setdefault(commit, []).append(label)
+        for commit in sorted(set(labels_of) - set(self.commits)):
+            yield from (Row(points.FIRST, points.NO_END, 0, commit, label) for label in labels_of[commit])
+        for second, commit in zip(self.seconds, self.commits):
+            later = bisect_right(self.seconds, second)
+            end = self.seconds[later] if later < len(self.seconds) else points.NO_END
+            # A diary that somebody made may have a commit on several days.
+            for label in labels_of.pop(commit, [""]):
+                yield Row(second, end, commit, commit, label)
+
+
+class Row(NamedTuple):
+    """A row of a diary. newest is 0 where the label's commit has no day: the row says nothing of days then."""
+
+    start: int
+    end: int
+    newest: int
+    commit: int
+    label: str
+
+
+def read(book: Book, name: Any, schemas: Mapping[str, Schema]) -> Diary:
+    """The diary that a table of the book has. Raises Refused where it is none."""
+    table, schema, newest = book.known(name), schemas[name], len(book.commands)
+    start, end, *cells = book.answer(script.command("rows", table.name)).block("-pp" + table.readers)
+    rows = zip(points.texts_of(start), points.texts_of(end), *([str(cell) for cell in one] for one in cells))
+    try:
+        days = [(day, commit) for day, commit in history.days_of(schema, rows) if commit]
+    except Misfit as misfit:
+        raise Refused("WrongKind", str(misfit)) from None
+    columns = {column.name: (column.kind.value, own) for column, own in zip(schema.columns, cells)}
+    labels = list(labels_in(columns, cells[0]))
+    for reason in history.strange_commits([*days, *(("", commit) for _, commit in labels)], newest):
+        raise Refused("Future", f"{schema.name}: {reason}")
+    refuse_back(schema.name, days)
+    made = Diary({}, tuple(points.FIRST + forms.seconds(day) for day, _ in days), tuple(one for _, one in days))
+    for label, commit in labels:
+        if made.labels.get(label) != commit:
+            made = made.behind(commit, Note((label_of(label),)))
+    return made
+
+
+def labels_in(columns: Mapping[str, Tuple[str, Any]], newest: Cells) -> Iterator[Tuple[str, int]]:
+    """The labels of a diary's rows with their commits: those of a column of that name, or the newest ones."""
+    kind, labels = columns.get(LABEL, ("", []))
+    kind_of_commits, commits = columns.get(COMMIT, ("", []))
+    if kind == "text":
+        numbers = commits if kind_of_commits == "int" else newest
+        yield from ((label, int(commit)) for label, commit in zip(labels, numbers) if label)
+
+
+def refuse_back(name: str, days: Sequence[Tuple[str, int]]) -> None:
+    for (_, before), (day, commit) in zip(days, days[1:]):
+        if commit < before:
+            raise Refused("BadNumber", f"{name}: commit {commit} is the newest from {day} on, and {before} before that")

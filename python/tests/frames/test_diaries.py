@@ -1,0 +1,278 @@
+"""Labels and days of a store's commits: what they mean, what is refused, and the table that keeps them."""
+import copy
+import datetime
+import io
+import pickle
+import subprocess
+import sys
+import tempfile
+import unittest
+from pathlib import Path
+
+import numpy as np
+import pandas as pd
+
+import ruzgalt
+
+TOP = Path(__file__).resolve().parents[3]
+DAY = pd.to_datetime
+HOSTILE = ["a,b", 'a "b"', "a\nb", "a\r\nb", "a\0b", "\u00e9", "e\u0301", " July ", "July", "row", "end", "2024-07",
+           "1.5", "=1+1", "x" * 4096, "nan", "None", "as_of", "\U0001f600", "\ufeff"]
+NO_LABELS = [
+    *((blank, "BadName") for blank in ("", " \n")),
+    *((number, "BadName") for number in ("3", "-1", " 7 ", "\uff11")),
+    *((day, "BadName") for day in ("2024-07-01", " 2024-07-01", "2024-13-01", "2024-07-01T08:00:00")),
+    *((other, "BadCommand") for other in (7, b"x", ["x"], float("nan"), datetime.date(2024, 7, 1))),
+    ("x" * 4097, "TooLong"), ("\u20ac" * 1366, "TooLong"), ("\ud800", "BadUtf8"),
+]
+
+
+def frame(*keys, start="2024-01-01"):
+    keys = list(keys) or ["a", "b"]
+    return pd.DataFrame({"from": DAY(start), "to": DAY("2024-12-01"), "k": keys, "n": range(len(keys))})
+
+
+def store(**words):
+    made = ruzgalt.Store()
+    made.table("t", frame(), **words)
+    return made
+
+
+class Case(unittest.TestCase):
+    def refuses(self, call, name, *words):
+        with self.assertRaises(ruzgalt.Refused) as caught:
+            call()
+        self.assertEqual(caught.exception.name, name, caught.exception)
+        for word in words:
+            self.assertIn(word, caught.exception.reason)
+
+    def same(self, made, as_of, number):
+        pd.testing.assert_frame_equal(made.rows("t", as_of), made.rows("t", number))
+
+    def same_by_all(self, made, as_of, number):
+        """That a commit is meant by its label or day, by all questions."""
+        pd.testing.assert_frame_equal(made.at("t", "2024-06-01", as_of), made.at("t", "2024-06-01", number))
+        pd.testing.assert_frame_equal(made.between("t", as_of, as_of), made.between("t", number, number))
+        later = len(made.log()) + 1
+        pd.testing.assert_frame_equal(made.fromto("t", as_of, later), made.fromto("t", number, later))
+        for ask in (
+            lambda commit: made.join("t", "t", "k", as_of=commit),
+            lambda commit: made.anti("t", "t", "k", as_of=commit),
+            lambda commit: made.agg("t", "sum", "n", as_of=commit),
+            lambda commit: made.agg("t", "count", by=["k", "n"], as_of=commit),
+            lambda commit: made.dip("t", as_of=commit).parts,
+        ):
+            pd.testing.assert_frame_equal(ask(as_of), ask(number))
+        self.assertTrue(made.check("t", made.dip("t", number), as_of=as_of))
+
+
+class Labels(Case):
+    def test_every_change_takes_one_and_every_question(self):
+        made = store(label="made", key="k")
+        made.load("t", frame("c", "d"), label="loaded")
+        made.update("t", "2024-02-01", None, {"n": 7}, {"k": "a"}, label="updated")
+        made.update_rows("t", frame("a", "b", start="2024-03-01"), label="rows")
+        made.delete("t", "2024-09-01", None, {"k": "b"}, label="deleted")
+        made.raise_by("t", "n", 100, "2024-10-01", where={"k": "d"}, label="raised")
+        commits = {"made": 2, "loaded": 3, "updated": 4, "rows": 6, "deleted": 7, "raised": 8}
+        for label, number in commits.items():
+            with self.subTest(label):
+                self.same(made, label, number)
+        self.same_by_all(made, "updated", 4)
+        self.assertEqual(dict(made.diary()[["label", "commit"]].values.tolist()), commits)
+
+    def test_hostile_ones_are_kept_as_they_are(self):
+        made = store()
+        for place, label in enumerate(HOSTILE):
+            made.update("t", "2024-02-01", None, {"n": place}, {"k": "a"}, label=label)
+        made.table("diary", made.diary())
+        for one in (made, copy.copy(made), pickle.loads(pickle.dumps(made)),
+                    ruzgalt.Store.from_script(bytes(made.script()), diary="diary")):
+            for place, label in enumerate(HOSTILE):
+                self.assertEqual(one.at("t", "2024-03-01", label)["n"].max(), max(place, 1), label)
+            self.assertEqual(one.diary()["label"].tolist(), HOSTILE)
+
+    def test_what_is_no_label_is_refused_and_nothing_is_changed(self):
+        made = store(label="first")
+        before = made.script()
+        for label, name in NO_LABELS:
+            with self.subTest(repr(label)[:20]):
+                self.refuses(lambda: made.load("t", frame("c"), label=label), name, "label=")
+                self.refuses(lambda: made.batch(label=label), name)
+        self.refuses(lambda: made.load("t", frame("c"), label="first"), "TwiceNamed", "commit 2", "another one")
+        self.refuses(lambda: made.raise_by("t", "n", 5, "2024-07-01", dry_run=True, label="first"), "TwiceNamed")
+        self.assertEqual((made.script(), len(made.diary())), (before, 1))
+
+    def test_a_refused_change_leaves_its_label_free(self):
+        made = store(key="k")
+        self.refuses(lambda: made.load("t", frame(), label="more"), "KeyOverlap")
+        self.assertEqual(made.load("t", frame("c"), label="more").commit, 3)
+
+    def test_a_label_of_no_commit_is_refused(self):
+        made = store(key="k")
+        self.refuses(lambda: made.update_rows("t", frame().iloc[:0], label="none"), "BadCommand", "makes none")
+        self.refuses(lambda: made.raise_by("t", "n", 5, "2030-01-01", label="none"), "BadCommand", "makes none")
+        with self.assertRaises(ruzgalt.Refused), made.batch(label="none"):
+            pass
+        self.assertEqual(len(made.diary()), 0)
+
+    def test_an_unknown_one_is_refused_with_those_that_are_there(self):
+        made = store()
+        self.refuses(lambda: made.rows("t", "july"), "NoLabel", "label= of a change")
+        for place in range(12):
+            made.update("t", "2024-02-01", None, {"n": place}, {"k": "a"}, label=f"Payslips, week {place}")
+        self.refuses(lambda: made.rows("t", "payslips, week 11"), "NoLabel", "'Payslips, week 11' looks alike",
+                     "and 2 more")
+        self.refuses(lambda: made.at("t", "2024-02-01", "Payslip, week 5"), "NoLabel", "looks alike")
+        self.refuses(lambda: made.between("t", "7", 9), "NoLabel", "a commit's number is no text: 7")
+        self.refuses(lambda: made.fromto("t", 1, "2024-02-30"), "NoLabel", "no day")
+
+
+class Days(Case):
+    def test_the_newest_commit_at_midnight_is_meant(self):
+        made = store(day="2024-01-10")
+        made.update("t", "2024-02-01", None, {"n": 5}, {"k": "a"})
+        made.update("t", "2024-02-01", None, {"n": 6}, {"k": "a"}, day=datetime.date(2024, 2, 10))
+        made.update("t", "2024-02-01", None, {"n": 7}, {"k": "a"}, day=pd.Timestamp("2024-02-10"))
+        made.update("t", "2024-02-01", None, {"n": 8}, {"k": "a"}, day="2024-02-11T12:00:00")
+        for day, number in (
+            ("2024-01-10", 2), (datetime.date(2024, 2, 9), 2), (DAY("2024-02-10"), 5), (np.datetime64("2024-02-11"), 5),
+            (pd.Period("2024-02-12", "D"), 6), ("2024-02-11T11:59:59", 5), (datetime.datetime(2024, 2, 11, 12), 6),
+            ("9999-12-31", 6),
+        ):
+            with self.subTest(day):
+                self.same(made, day, number)
+        self.same_by_all(made, "2024-02-10", 5)
+        self.refuses(lambda: made.rows("t", "2024-01-09"), "NoDay", "2024-01-10")
+        self.refuses(lambda: store().rows("t", "2024-01-09"), "NoDay", "day=")
+        self.refuses(lambda: made.rows("t", pd.Period("2024-01", "M")), "WrongKind")
+
+    def test_days_do_not_go_back(self):
+        made = store(day="2024-01-10")
+        self.refuses(lambda: made.load("t", frame("c"), day="2024-01-09"), "BadPoint", "commit 2", "don't go back")
+        for day, name in (("soon", "BadPoint"), (5, "WrongKind"), ("9999-12-31", "BadPoint"),
+                          (pd.Timestamp("2024-02-01", tz="UTC"), "BadPoint")):
+            self.refuses(lambda: made.load("t", frame("c"), day=day), name)
+        self.assertEqual((len(made.log()), len(made.diary())), (2, 1))
+
+    def test_of_a_batch_each_change_may_have_its_own(self):
+        made = store(day="2024-01-10", label="first")
+        with made.batch(label="batch", day="2024-02-10"):
+            made.load("t", frame("c"), label="c")
+            self.assertEqual(len(made.rows("t", "2024-02-10")), 3)
+            made.load("t", frame("d"), day="2024-02-12", label="d")
+            made.load("t", frame("e"), day="2024-02-12")
+            self.refuses(lambda: made.load("t", frame("f")), "BadPoint", "don't go back")
+            self.refuses(lambda: made.load("t", frame("f"), label="c"), "TwiceNamed")
+        told = made.diary()[["from", "commit", "label"]].astype(str).values.tolist()
+        self.assertEqual(told, [["2024-01-10", "2", "first"], ["2024-02-10", "3", "c"], ["2024-02-12", "4", "d"],
+                                ["2024-02-12", "5", "batch"]])
+        before = made.script()
+        for words in ({"label": "d"}, {"day": "2024-02-11"}):
+            with self.assertRaises(ruzgalt.Refused), made.batch(**words):
+                self.fail("the batch begins")
+        with self.assertRaises(ruzgalt.Refused), made.batch(label="g"):
+            made.load("t", frame("g"), label="g")
+            made.load("t", frame("h"))
+        self.assertEqual((made.script(), len(made.diary())), (before, 4))
+
+
+# The diary of the pages: of each day the newest commit from then on.
+OF_TOOLS = """table,notes,newest,int,who,text
+load,notes
+row,2024-01-02,2024-01-20,2,Ada
+row,2024-01-20,9999-12-31,4,Grace
+end
+"""
+
+
+class Kept(Case):
+    def made(self):
+        made = store(day="2024-01-10", key="k")
+        made.load("t", frame("c"), label="c, without a day")
+        made.update("t", "2024-02-01", None, {"n": 5}, {"k": "a"}, day="2024-02-10", label='"July"')
+        made.update("t", "2024-02-01", None, {"n": 6}, {"k": "a"}, day="2024-02-10")
+        made.update("t", "2024-02-01", None, {"n": 7}, {"k": "a"}, label="last")
+        return made
+
+    def test_the_table_has_a_row_for_each_label_and_each_day(self):
+        rows = self.made().diary()
+        self.assertEqual([str(one) for one in rows.dtypes], ["period[D]", "period[D]", "int64", "int64", "object"])
+        days = [[f"{one.year:04}-{one.month:02}-{one.day:02}" for one in rows[name]] for name in ("from", "to")]
+        self.assertEqual(list(zip(*days, *(rows[name] for name in ("newest", "commit", "label")))), [
+            ("0001-01-01", "9999-12-31", 0, 3, "c, without a day"), ("0001-01-01", "9999-12-31", 0, 6, "last"),
+            ("2024-01-10", "2024-02-10", 2, 2, ""), ("2024-02-10", "9999-12-31", 4, 4, '"July"'),
+            ("2024-02-10", "9999-12-31", 5, 5, ""),
+        ])
+        self.assertEqual(self.made().diary(after="2024-01-31")["commit"].tolist(), [3, 6, 4, 5])
+        self.assertEqual(store().diary().columns.tolist(), rows.columns.tolist())
+
+    def test_a_script_has_them_again(self):
+        made = self.made()
+        made.table("diary", made.diary())
+        again = ruzgalt.Store.from_script(made.script(), diary="diary")
+        pd.testing.assert_frame_equal(again.diary(), made.diary())
+        for as_of in ('"July"', "last", "c, without a day", "2024-02-10", "2024-01-11"):
+            wanted = made.rows("t", as_of, points_as="D").values.tolist()
+            self.assertEqual(again.rows("t", as_of, points_as="D").values.tolist(), wanted)
+        more = frame("z").astype({"from": "period[D]", "to": "period[D]"})
+        self.refuses(lambda: again.load("t", more, day="2024-02-09"), "BadPoint")
+        self.refuses(lambda: again.load("t", more, label="last"), "TwiceNamed")
+        again.load("t", more, label="z", day="2024-03-01")
+        again.load("diary", again.diary(after="last"))
+        third = ruzgalt.Store.from_script(again.script(), diary="diary")
+        pd.testing.assert_frame_equal(third.diary(), again.diary())
+
+    def test_an_empty_one_is_kept_too(self):
+        made = store()
+        made.table("diary", made.diary())
+        again = ruzgalt.Store.from_script(made.script(), diary="diary")
+        self.assertEqual(len(again.diary()), 0)
+
+    def test_the_tools_read_its_days(self):
+        made = self.made()
+        made.table("diary", made.diary())
+        with tempfile.TemporaryDirectory() as folder:
+            path = Path(folder, "t.csv")
+            made.save(path)
+            command = [sys.executable, "tools/answers", "history", path, "t", "--diary", "diary"]
+            ran = subprocess.run([*map(str, command)], cwd=TOP, capture_output=True, text=True, check=True)
+        printed = pd.read_csv(io.StringIO(ran.stdout))
+        days = dict(printed[["commit", "entered"]].dropna().values.tolist())
+        self.assertEqual(days, {2: "2024-01-10", 3: "2024-02-10", 4: "2024-02-10", 5: "2024-02-10"})
+        self.assertIn("commits without a day, which --retroactive leaves out: 6", ran.stderr)
+
+    def test_a_diary_that_somebody_made_is_read(self):
+        made = self.made()
+        again = ruzgalt.Store.from_script(bytes(made.script()) + OF_TOOLS.encode(), diary="notes")
+        for day, number in (("2024-01-19", 2), ("2024-01-20", 4), ("2030-01-01", 4)):
+            self.same(again, day, number)
+        self.refuses(lambda: again.rows("t", "2024-01-01"), "NoDay", "2024-01-02")
+        self.assertEqual(again.diary()["commit"].tolist(), [2, 4])
+        labels = OF_TOOLS.replace("who", "label")
+        again = ruzgalt.Store.from_script(bytes(made.script()) + labels.encode(), diary="notes")
+        self.same(again, "Grace", 4)
+
+    def test_what_is_no_diary_is_refused(self):
+        script = bytes(self.made().script())
+        for old, new, name, word in (
+            ("notes", "notes2", "NoTable", "notes"), ("newest,int", "newest,text", "WrongKind", "first column"),
+            (",4,", ",40,", "Future", "commit 40"), (",2,", ",5,", "BadNumber", "commit 4"),
+            ("who", "label", None, ""), ("Grace", "Ada", None, ""), ("Grace", "2024-01-01", None, ""),
+        ):
+            made = script + OF_TOOLS.replace(old, new).encode()
+            with self.subTest(new):
+                if name is None:
+                    ruzgalt.Store.from_script(made, diary="notes")
+                else:
+                    self.refuses(lambda: ruzgalt.Store.from_script(made, diary="notes"), name, word)
+        labels = OF_TOOLS.replace("who", "label")
+        for new, name in (("Ada", "TwiceNamed"), ("2024-01-01", "BadName"), ("7", "BadName")):
+            made = script + labels.replace("Grace", new).encode()
+            self.refuses(lambda: ruzgalt.Store.from_script(made, diary="notes"), name)
+        for none in (5, ["notes"], "", "t2"):
+            self.refuses(lambda: ruzgalt.Store.from_script(script, diary=none), "NoTable")
+
+
+if __name__ == "__main__":
+    unittest.main()
