@@ -390,7 +390,12 @@ def dip(frame: pd.DataFrame, by: Names = None, *, period: PeriodNames = PERIOD, 
     2 parts of 3 rows, as many as hold at 2024-01-03 00:00:00
     >>> division.parts.to_dict(), division.count, division.instant
     ({'a': 0, 'b': 1, 'c': 0}, 2, Timestamp('2024-01-03 00:00:00'))
-    >>> ruzgalt.dip(stay.assign(ward=["A", "A", "B"]), by="ward").count.to_dict()
+    >>> by_ward = ruzgalt.dip(stay.assign(ward=["A", "A", "B"]), by="ward")
+    >>> by_ward
+    3 rows in 2 groups of 1 to 2 parts
+    'A': 2 parts, as many as hold at 2024-01-03 00:00:00
+    'B': 1 part, as many as hold at 2024-01-05 00:00:00
+    >>> by_ward.count.to_dict()
     {'A': 2, 'B': 1}
     """
     options = options_of(

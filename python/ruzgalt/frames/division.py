@@ -17,8 +17,8 @@ from ruzgalt.frames.output import Output, reading
 from ruzgalt.frames.sides import Side
 from ruzgalt.script import forms
 
-# So many tables a run has.
-TABLES = 64
+# So many tables a run has, and of so many groups each is shown.
+TABLES, SHOWN = 64, 10
 OTHERWISE = "agg(frame, 'count') tells how many parts it has, the greatest count, and the instant, where that begins"
 # A Series of a frame's division, a DataFrame of a store's.
 Parts = TypeVar("Parts")
@@ -49,6 +49,10 @@ class Division(Generic[Parts]):
     (2, Timestamp('2024-01-03 00:00:00'), [0, 1])
     >>> stay.assign(part=division)["part"].tolist(), len(division)
     ([0, 1], 2)
+    >>> ruzgalt.dip(stay.assign(ward=["A", "B"]), by="ward")
+    2 rows in 2 groups of 1 part
+    'A': 1 part, as many as hold at 2024-01-01 00:00:00
+    'B': 1 part, as many as hold at 2024-01-03 00:00:00
     """
 
     parts: Parts
@@ -57,9 +61,9 @@ class Division(Generic[Parts]):
 
     def __repr__(self) -> str:
         if isinstance(self.count, pd.Series):
-            return f"parts of {len(self)} rows in {len(self.count)} groups, in each as many as hold at one instant"
-        told = f"{self.count} part{'s' * (self.count != 1)} of {len(self)} row{'s' * (len(self) != 1)}"
-        return told if self.instant is None else f"{told}, as many as hold at {self.instant}"
+            return "\n".join(lines_of_groups(len(self), self.count, self.instant))
+        parts = f"{many(self.count, 'part')} of {many(len(self), 'row')}"
+        return parts if self.instant is None else f"{parts}, as many as hold at {self.instant}"
 
     # What else is asked of it is asked of its parts. What pandas asks each object by names of its own isn't.
 
@@ -82,6 +86,27 @@ class Division(Generic[Parts]):
 
     def __array__(self, dtype: Any = None, copy: Any = None) -> Any:
         return np.array(self.parts, dtype)
+
+
+def many(number: int, word: str) -> str:
+    return f"{number:,} {word}{'s' * (number != 1)}"
+
+
+def lines_of_groups(rows: int, count: Any, instant: Any) -> Iterator[str]:
+    """What a division of groups is shown as: how many parts they have, and each group's, of many the first ones."""
+    bounds = " to ".join(f"{one:,}" for one in sorted({count.min(), count.max()})) if len(count) else "no"
+    yield f"{many(rows, 'row')} in {many(len(count), 'group')} of {bounds} part{'s' * (bounds != '1')}"
+    for group, parts, point in zip(count.index[:SHOWN], count[:SHOWN], instant[:SHOWN]):
+        yield f"{shown(group)}: {many(parts, 'part')}, as many as hold at {point}"
+    if len(count) > SHOWN:
+        yield f".. and {len(count) - SHOWN:,} more: .count and .instant have all"
+
+
+def shown(group: Any) -> str:
+    """A group's value, or several."""
+    if isinstance(group, tuple):
+        return ", ".join(map(shown, group))
+    return repr(group) if isinstance(group, str) else str(group)
 
 
 def dip(frame: Any, options: Options) -> Division[Any]:

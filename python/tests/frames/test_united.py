@@ -81,6 +81,19 @@ class Divisions(unittest.TestCase):
                 self.assertEqual(got.parts[told["k"] == k].tolist(), one.parts.tolist())
         self.assertEqual((len(got.count), str(got.instant.dtype)), (130, "datetime64[ns]"))
 
+    def test_groups_are_shown_with_their_parts(self):
+        told = frame(("2024-01-01", "2024-01-03", "a\n", 1), ("2024-01-02", "2024-01-05", "a\n", 2))
+        self.assertEqual(repr(ruzgalt.dip(told, ["k", "x"])).splitlines()[:2], [
+            "2 rows in 2 groups of 1 part", "'a\\n', 1: 1 part, as many as hold at 2024-01-01 00:00:00",
+        ])
+        self.assertEqual(repr(ruzgalt.dip(told.iloc[:0], "k")), "0 rows in 0 groups of no parts")
+        days = pd.date_range("2024-01-02", periods=1_200)
+        groups = [min(one, 11) for one in range(1_200)]
+        told = pd.DataFrame({"from": days, "to": days + pd.Timedelta(days=9), "k": groups})
+        printed = repr(ruzgalt.dip(told, "k")).splitlines()
+        self.assertEqual(printed[0], "1,200 rows in 12 groups of 1 to 9 parts")
+        self.assertEqual((len(printed), printed[-1]), (12, ".. and 2 more: .count and .instant have all"))
+
     def test_groups_of_several_columns(self):
         told = frame(("2024-01-01", "2024-01-03", "a", 1), ("2024-01-02", "2024-01-05", "a", 2))
         self.assertEqual(ruzgalt.dip(told, ["k", "x"]).count.to_dict(), {("a", 1): 1, ("a", 2): 1})
