@@ -428,7 +428,7 @@ class Updates(Case):
         printed, told = load(text, *words, "--update", "pid")
         self.assertEqual(printed, wanted)
         self.assertEqual(told, ["the file has no column name, grade, so updates leave it as it is"])
-        part = "Start: where not all columns are set, the file has the table's names, and pay has pid, name, grade, eur"
+        part = "Start: where not all columns are given, the file has the table's names, and pay has pid, name, grade, e"
         self.refused(part, text, *words, "PID", "Start", "--update", "PID")
         self.refused("Euros is '5x': no number", text.replace("500", "5x"), *words, "--update", "pid")
         self.refused("--update pid: none of the columns Euros", text, *words, "Euros", "--update", "pid")
@@ -450,6 +450,54 @@ class Updates(Case):
         self.refused("Name is no name of a table's", rows("A,1,2024-01-01,2024-03-05"), *WORDS, "--update", "Name")
 
 
+class Deletes(Case):
+    RECORD = ["--table", "table,pay,person,text,grade,text,euros,int,key,person"]
+    TEXT = 'Person,euros,Start,End\n"Hill, Grace",500,2024-01-01,2024-03-05\n'
+    WORDS = ["pay", "Start", "End"]
+
+    def test_a_row_becomes_a_delete_of_its_values_and_portion(self) -> None:
+        wanted = 'delete,pay,2024-01-01,2024-03-05,where,person,"Hill, Grace",euros,50000\n'
+        words = ["person=Person", "euros", "--decimals", "euros=2", "--delete"]
+        self.loaded(wanted, self.TEXT, *self.WORDS, *words)
+        self.loaded(wanted, self.TEXT.replace("03-05", "03-04"), *self.WORDS, *words, "--last-day")
+
+    def test_without_a_column_the_key_says_which_rows_are_deleted(self) -> None:
+        wanted = 'delete,pay,2024-01-01,2024-03-05,where,person,"Hill, Grace"\n'
+        self.loaded(wanted, self.TEXT, *self.WORDS, *self.RECORD, "--delete")
+        plain = ["posts", "Start", "End", "--table", "table,posts", "--delete"]
+        self.loaded("delete,posts,2024-01-01,2024-03-05\n", "Start,End\n2024-01-01,2024-03-05\n", *plain)
+        none = "table,pay,person,text"
+        self.refused("--delete: pay has no key", self.TEXT, *self.WORDS, "--table", none, "--delete")
+        self.refused("--delete: no COLUMN is given", self.TEXT, *self.WORDS, "--delete")
+        text = self.TEXT.replace("Person", "Who")
+        self.refused("not in the header: person", text, *self.WORDS, *self.RECORD, "--delete")
+
+    def test_values_and_names_are_to_fit_the_table(self) -> None:
+        text = self.TEXT.replace("500", "5x")
+        self.refused("euros is '5x': no number", text, *self.WORDS, "euros", *self.RECORD, "--delete")
+        self.refused("Start: where not all columns are given", text, *self.WORDS, "Start", *self.RECORD, "--delete")
+        self.refused("one of them", self.TEXT, *self.WORDS, "euros", "Person", "--delete", "--update", "Person")
+
+    def test_deletes_that_would_do_the_same_are_reported(self) -> None:
+        words = [*self.WORDS, *self.RECORD, "--delete"]
+        longer = self.TEXT + '"Hill, Grace",500,2024-01-01,2024-05-05\n'
+        part = "line 3 deletes the same Person from the same point on as line 2, and the longer one would do alone"
+        self.told(part, longer, *words)
+        header, _, row = self.TEXT.partition("\n")
+        _, notes = load(f"{header}\n{row}{row}", *words)
+        self.assertEqual(notes[0], "line 3 makes the same delete as line 2, and both stand")
+        self.told("no row stands behind the header, so nothing is changed", header, *words)
+
+    def test_deletes_are_parted_as_the_load_is(self) -> None:
+        lines = [f"{name},{place},2024-01-01,2024-03-05" for place, name in enumerate("ABCDEFGH")]
+        text = "person,euros,Start,End\n" + "".join(f"{line}\n" for line in lines)
+        words = [*self.WORDS, "person", "euros", "--part", "1/2"]
+        deleted, loaded = (load(text, *words, *more)[0] for more in (["--delete"], []))
+        self.assertEqual(re.findall("person,([A-H])", deleted), re.findall(",([A-H]),", loaded))
+        words = [*self.WORDS, "euros", *self.RECORD, "--part", "1/2", "--delete"]
+        self.refused("--part: rows are parted by person", text, *words)
+
+
 class Claims(Case):
     def test_parts_and_ids_become_a_check(self) -> None:
         text = "Post,Contract\nA,1\nB,2\nA,3\n"
@@ -463,7 +511,7 @@ class Claims(Case):
     def test_words_of_a_load_are_refused(self) -> None:
         words = ["posts", "P", "I", "--check"]
         self.refused("--check x: no point", "P,I\nA,1\n", *words, "x")
-        for more in (["--part", "1/2"], ["--update", "P"], ["--table", "table,posts"]):
+        for more in (["--part", "1/2"], ["--update", "P"], ["--delete"], ["--table", "table,posts"]):
             self.refused(f"--check takes no {more[0]}", "P,I\nA,1\n", *words, "2024-01-05", *more)
 
     def test_an_id_that_is_none_is_refused_with_its_line(self) -> None:

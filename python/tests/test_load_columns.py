@@ -91,6 +91,16 @@ class Columns(unittest.TestCase):
         self.assertEqual(loaded([*file.words, "--update", first], file), wanted)
 
     @DRAWN
+    @given(files(), st.integers(1, 3))
+    def test_deletes_have_the_table_s_names(self, file: File, count: int) -> None:
+        names = file.names[:count]
+        wanted = [
+            ["delete", "t", "2024-01-01", "2024-02-01", "where", *(one for pair in zip(names, row) for one in pair)]
+            for row in file.rows
+        ]
+        self.assertEqual(loaded([*file.words[:count], "--delete"], file), wanted)
+
+    @DRAWN
     @given(files(), st.data())
     def test_equal_rows_are_loaded_once(self, file: File, data: Any) -> None:
         again = data.draw(st.lists(st.sampled_from(file.rows), max_size=6)) if file.rows else []

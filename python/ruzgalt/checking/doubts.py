@@ -109,12 +109,12 @@ class Ends:
         line, end = next(pair for pair in zip(chain(*self.lines), ends) if pair[1] in starts)
         return f"line {starts[end]} after line {line}"
 
-    def told_of_starts(self) -> Iterator[str]:
-        """Tells of updates of one key from one point on."""
+    def told_of_starts(self, are_deletes: bool) -> Iterator[str]:
+        """Reports updates, or deletes, of one key from one point on."""
         pair = first_pair(self.starts, self.lines)
         if pair:
-            told = f"updates the same {self.key} from the same point on as line {pair[1]}"
-            yield f"line {pair[0]} {told}, and the later one stands"
+            word, which = ("deletes", "longer one would do alone") if are_deletes else ("updates", "later one stands")
+            yield f"line {pair[0]} {word} the same {self.key} from the same point on as line {pair[1]}, and the {which}"
 
     def remedy(self) -> str:
         if self.is_last_day:
@@ -223,9 +223,13 @@ def first_pair(numbers: "array[int]", lines: Sequence[Sequence[int]]) -> Optiona
 
 
 class Twins:
-    """Tells a row that is equal to one before it. Of a row a number is kept, which is looked at when all are there."""
+    """Reports a row of a file that makes the same record as one before it.
 
-    def __init__(self) -> None:
+    Of a row a number is kept, which is looked at when all are there.
+    """
+
+    def __init__(self, made: str = "row") -> None:
+        self.made = made
         self.lines: List[Sequence[int]] = []
         self.rows = array("q")
 
@@ -236,10 +240,11 @@ class Twins:
     def told(self) -> Iterator[str]:
         pair = first_pair(self.rows, self.lines)
         if pair:
-            yield of_twins(f"line {pair[0]}", f"line {pair[1]}", len(self.rows) - len(set(self.rows)))
+            yield of_twins(f"line {pair[0]}", f"line {pair[1]}", len(self.rows) - len(set(self.rows)), self.made)
 
 
-def of_twins(one: str, other: str, count: int) -> str:
-    """That one row is the same as another, where so many rows are the same as one before them."""
-    more = f"; {count - 1} more rows are so" if count > 1 else ""
-    return f"{one} makes the same row as {other}, and both are loaded{more}"
+def of_twins(one: str, other: str, count: int, made: str = "row") -> str:
+    """That one row is the same as another, where so many rows are the same as one before them; or updates, or deletes.
+    """
+    more = f"; {count - 1} more {made}s are so" if count > 1 else ""
+    return f"{one} makes the same {made} as {other}, and both {'are loaded' if made == 'row' else 'stand'}{more}"

@@ -21,12 +21,12 @@ from ruzgalt.script.forms import is_name, read_point
 from ruzgalt.script.records import visible
 from ruzgalt.script.schemas import Schema
 
-ABOUT = """Turns a CSV file with a header into a load. FROM, TO and the COLUMNs are names of the file's header, in the
-order of a row's fields; other columns of the file are left out. The file is UTF-8; its fields are parted by commas,
-semicolons or tabs, whichever its header has most of. Or it is a workbook of Excel (.xlsx), where Python's openpyxl is
-installed: its dates and numbers are what they are there. Values are taken as they are, unless an option tells of them.
-What may not be meant is told on standard error, and loaded. Where something is at fault, no load is printed but one
-record that the store refuses, so that a script of which it is a part has a refused command."""
+ABOUT = """Turns a CSV file with a header into a load, or into updates or deletes. FROM, TO and the COLUMNs are names of
+the file's header, in the order of a row's fields; other columns of the file are left out. The file is UTF-8; its fields
+are parted by commas, semicolons or tabs, whichever its header has most of. Or it is a workbook of Excel (.xlsx), where
+Python's openpyxl is installed: its dates and numbers are what they are there. Values are taken as they are, unless an
+option says otherwise. What may not be meant is reported on standard error, and loaded. Where something is at fault, no
+load is printed but one record that the store refuses, so that a script of which it is a part has a refused command."""
 # What is printed in place of a load.
 FAILED = b"csv-to-load failed\n"
 
@@ -84,6 +84,11 @@ def words_of_table(parser: ArgumentParser) -> None:
         "--update", action="append", default=[], metavar="COLUMN",
         help="prints updates of rows with this value, and no load: FROM and TO are the portion, others are set",
     )
+    parser.add_argument(
+        "--delete", action="store_true",
+        help="prints deletes of the rows that have the COLUMNs' values, and no load: FROM and TO are the portion; with "
+        "--table and no COLUMN they are those of the table's key",
+    )
 
 
 def words_of_values(parser: ArgumentParser) -> None:
@@ -124,6 +129,10 @@ def refuse_words(options: Namespace) -> None:
     twice = [name for name in columns if columns.count(name) > 1]
     if twice:
         raise Misfit(f"{twice[0]} is told twice, and a column of the file fills one of the table's")
+    if options.delete and options.update:
+        raise Misfit("--delete makes deletes of the file's rows, and --update makes updates: one of them")
+    if options.delete and not columns and not options.record:
+        raise Misfit("--delete: no COLUMN is given, and each delete would be of all rows of its time")
     if options.update and len(options.update) == len(columns):
         raise Misfit("--update: no column is left that would be set")
     if options.unit and not options.decimals:
@@ -162,7 +171,7 @@ def load_of(options: Namespace) -> Tuple[Load, Optional[Schema], List[str]]:
         options.decimals = [(name_of(name, of_file), digits) for name, digits in options.decimals]
     refuse_words(options)
     load = Load(sheet, options, fitted)
-    if options.part and options.update:
+    if options.part and not load.is_load:
         load.part_by(schema)
     return load, schema, notes
 
@@ -173,7 +182,8 @@ def claimed(options: Namespace) -> Tuple[bytes, List[str]]:
         raise Misfit(f"--check: a division has a part and an id alone, and not {options.column[0]}")
     if options.check != "-" and read_point(options.check) is None:
         raise Misfit(f"--check {options.check}: no point, as 2024-01-05, and no - for a table without rows")
-    unused = [word for word in ("part", "update", "record", "decimals", "drop_equal") if getattr(options, word)]
+    words = ("part", "update", "delete", "record", "decimals", "drop_equal")
+    unused = [word for word in words if getattr(options, word)]
     if unused:
         word = unused[0].replace("record", "table").replace("_", "-")
         raise Misfit(f"--check takes no --{word}: it makes no load")
@@ -200,8 +210,8 @@ def made(options: Namespace) -> Tuple[List[bytes], List[str], List[str], int]:
         return [check], [], notes, 0
     load, schema, notes = load_of(options)
     head = records.encode(records.to_text([schema.fields])) if schema and options.print_table else b""
-    opening = b"" if options.update else records.encode(records.to_text([["load", options.table]]))
-    end = b"" if options.update else b"end\n"
+    opening = records.encode(records.to_text([["load", options.table]])) if load.is_load else b""
+    end = b"end\n" if load.is_load else b""
     try:
         pieces = list(made_of(load))
     except Misfit as error:

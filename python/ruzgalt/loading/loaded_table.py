@@ -46,24 +46,31 @@ def rename(options: Namespace, header: Sequence[str]) -> None:
 def fit(options: Namespace, schema: Schema, header: Sequence[str]) -> Tuple[Schema, List[str]]:
     """The table's columns in the order of the COLUMNs, and those that updates leave as they are for want of a column.
 
-    Fills the COLUMNs in where none is given, and of a load those that stand beside renamed ones. Refuses columns that
-    aren't the table's, as far as names tell.
+    Fills the COLUMNs in where none is given, for deletes those of the key, and of a load those that stand beside
+    renamed ones. Refuses columns that aren't the table's, as far as names show it.
     """
     left_out: List[str] = []
-    if options.renamed and not options.update:
+    if options.renamed and not (options.update or options.delete):
         options.column = in_order(options, schema, header)
     elif not options.column:
-        pairs = [(name, name_in(header, name)) for name in schema.names]
+        pairs = [(name, name_in(header, name)) for name in (key_of(schema) if options.delete else schema.names)]
         left_out = [name for name, found in pairs if options.update and found not in header]
         options.column = [found for name, found in pairs if name not in left_out]
     told = [name_for(options, name) for name in options.column]
-    fitted = some_of(schema, told) if options.update else schema
+    fitted = some_of(schema, told) if options.update or options.delete else schema
     if fitted is schema:
         refuse_others(told, schema)
     of_file = dict(zip(fitted.names, options.column))
     options.update = [name_of(name, of_file) for name in options.update]
     options.decimals = [(name_of(name, of_file), digits) for name, digits in options.decimals]
     return fitted, left_out
+
+
+def key_of(schema: Schema) -> List[str]:
+    """The columns of the key, by which rows are deleted where no COLUMN is given."""
+    if schema.columns and not schema.key:
+        raise Misfit(f"--delete: {schema.name} has no key, so COLUMNs are to say by which values its rows are deleted")
+    return [schema.names[place] for place in schema.key]
 
 
 def in_order(options: Namespace, schema: Schema, header: Sequence[str]) -> List[str]:
@@ -101,13 +108,14 @@ def name_of(name: str, of_file: Dict[str, str]) -> str:
 
 
 def some_of(schema: Schema, columns: Sequence[str]) -> Schema:
-    """The table's columns that these are by their names, for updates, which set some alone; the table where all are."""
+    """The table's columns that these are by their names, for changes, which name some alone; the table where all are.
+    """
     if len(columns) >= len(schema.names):
         return schema
     unknown = [name for name in columns if plain(name) not in schema.names]
     if unknown:
         known = f"the file has the table's names, and {schema.name} has {', '.join(schema.names)}"
-        raise Misfit(f"{visible(unknown[0])}: where not all columns are set, {known}")
+        raise Misfit(f"{visible(unknown[0])}: where not all columns are given, {known}")
     places = [schema.place(plain(name)) for name in columns]
     kept = [places.index(place) for place in schema.key if place in places]
     return Schema(schema.name, tuple(schema.columns[place] for place in places), tuple(kept))

@@ -1,4 +1,4 @@
-"""A load, or updates, made of a CSV file with a header, piece by piece."""
+"""A load, or updates or deletes, made of a CSV file with a header, piece by piece."""
 from argparse import Namespace
 from itertools import compress, repeat
 from operator import ge
@@ -73,15 +73,30 @@ class Load:
         self.faults: List[str] = []
         self.count_of_faults = self.rows = self.printed = self.bytes = 0
         self.either_line: Optional[int] = None
-        self.notes, self.twins, self.repeats = Notes(), Twins(), Repeats()
+        self.notes, self.twins, self.repeats = Notes(), Twins(self.made_word), Repeats()
         self.left_out: Optional[str] = None
         self.equals = Equals(options.drop_equal)
         self.nameless = [place for place, name in enumerate(sheet.header) if not name.strip()]
         key = ", ".join(options.column[place] for place in self.keys) or "table"
         self.ends, self.overwrites = Ends(options.end, key, options.last_day), Overwrites(key)
 
+    @property
+    def is_load(self) -> bool:
+        """Whether the file's rows are loaded, and change no rows that are there."""
+        return not (self.options.update or self.options.delete)
+
+    @property
+    def made_word(self) -> str:
+        """The first word of the record that a row of the file becomes."""
+        return "row" if self.is_load else "delete" if self.options.delete else "update"
+
     def key_places(self) -> List[int]:
-        """The columns that tell whose fact a row is: those of the table's key, or else the first."""
+        """The columns by which rows are of one fact: those of the table's key, or else the first.
+
+        Of updates and deletes they are those whose values the changed rows have.
+        """
+        if self.options.delete:
+            return list(range(len(self.options.column)))
         if self.options.update:
             return [self.options.column.index(name) for name in self.options.update]
         if self.schema and self.schema.key:
@@ -214,41 +229,43 @@ class Load:
             self.faults.append(told)
 
     def names_in_store(self) -> List[str]:
-        """The names of the table's columns: those of the file, where no table is told and updates need them."""
+        """The names of the table's columns: those of the file, where no table is given and changes name them."""
         if self.schema:
             return self.schema.names
         names = [name_for(self.options, column) for column in self.options.column]
         wrong = [name for name in names if not is_name(name)]
-        if self.options.update and wrong:
+        if wrong and not self.is_load:
             told = f"NAME={visible(wrong[0])} or --table tells the table's"
             raise Misfit(f"{visible(wrong[0])} is no name of a table's column: {told}")
         return names
 
     def records_of(self, columns: List[Sequence[str]]) -> List[str]:
-        """The records of a load, or else an update for each row. Fields stand in quotes already that need them."""
-        made = map(self.update_of, zip(*columns)) if self.options.update else zip(repeat("row"), *columns)
+        """The records of a load, or else a change for each row. Fields stand in quotes already that need them."""
+        made = zip(repeat(self.made_word), *columns) if self.is_load else map(self.change_of, zip(*columns))
         return list(map(",".join, made))
 
-    def update_of(self, row: Sequence[str]) -> Sequence[str]:
+    def change_of(self, row: Sequence[str]) -> Sequence[str]:
+        """The update or the delete, within the row's period, of the rows that have its values of the key."""
         start, end, *values = row
         pairs = list(zip(self.stored, values))
         changed = [text for place, pair in enumerate(pairs) if place not in self.keys for text in pair]
         known = [text for place in self.keys for text in pairs[place]]
-        return ["update", self.options.table, start, end, "set", *changed, "where", *known]
+        portion, where = [self.options.table, start, end], ["where", *known] if known else []
+        return [self.made_word, *portion, *(["set", *changed] if changed else []), *where]
 
     def noted(self) -> Iterator[str]:
         """What may not be meant."""
         if not self.rows:
-            yield "no row stands behind the header, so the load has none"
+            yield f"no row stands behind the header, so {'the load has none' if self.is_load else 'nothing is changed'}"
         yield from [*self.notes.told(), *self.ends.told(), *self.twins.told(), *self.told_of_scales()]
         if self.left_out:
             yield self.left_out
-        if not self.options.update and self.options.column and not (self.schema and self.schema.key):
+        if self.is_load and self.options.column and not (self.schema and self.schema.key):
             yield from self.repeats.told()
         yield from [*self.told_of_points(), *self.told_of_words(), *self.equals.told()]
         yield from self.sheet.told(self.places[:2], self.places[2:])
-        if self.options.update:
-            yield from [*self.ends.told_of_starts(), *self.overwrites.told()]
+        if not self.is_load:
+            yield from [*self.ends.told_of_starts(self.options.delete), *self.overwrites.told()]
         if self.rows > MOST_ROWS * 9 // 10 or self.bytes > MOST_BYTES * 9 // 10:
             limits = f"a script has {MOST_BYTES:,} bytes at most, a table {MOST_ROWS:,} versions of rows"
             told = f"{self.rows:,} rows in {self.bytes:,} bytes leave little room for corrections"
