@@ -118,7 +118,7 @@ class Words(ToolCase):
             (["--percent", "2.5", "--from", "1.7.2024"], "--from 1.7.2024: no point"),
             ([*more, "--to", "2024-07-01T00:00:00"], "isn't before --to"),
             ([*more, "--where", "name=A"], "the table pay has no column name; its columns are person, euros"),
-            ([*more, "--where", "euros=05"], "--where euros: BadNumber"),
+            ([*more, "--where", "euros=05"], "--where euros=05: no whole number in digits alone"),
         ]:
             self.check([*pay, *words], "", 1, told)
         wrong = ["tools/answers", "raise", EXAMPLE, "pay", "person", "--answers", EXAMPLE + ".stdout", *more]

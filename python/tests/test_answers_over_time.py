@@ -10,7 +10,7 @@ from collections import defaultdict
 from datetime import date, timedelta
 from fractions import Fraction
 from pathlib import Path
-from typing import Any, Callable, DefaultDict, Dict, List, NamedTuple, Set, Tuple
+from typing import Any, Callable, DefaultDict, Dict, List, NamedTuple, Optional, Set, Tuple
 
 from tests.support import EXAMPLE, TOP, ToolCase, kept, run
 
@@ -55,9 +55,13 @@ class Case(NamedTuple):
 
     @property
     def script(self) -> str:
-        table = ["table", "t", *(one for name in self.texts for one in (name, "text")), self.amounts, "int"]
-        rows = [["row", str(row.start), str(row.end), *row.group, str(row.amount)] for row in self.rows]
-        return printed([table, ["load", "t"], *rows, ["end"], ["rows", "t"]])
+        return self.script_of("t", self.rows)
+
+    def script_of(self, name: str, rows: List[Row]) -> str:
+        """A table that has some of the rows, and the question for them."""
+        table = ["table", name, *(one for name in self.texts for one in (name, "text")), self.amounts, "int"]
+        records = [["row", str(row.start), str(row.end), *row.group, str(row.amount)] for row in rows]
+        return printed([table, ["load", name], *records, ["end"], ["rows", name]])
 
     @property
     def named(self) -> List[str]:
@@ -100,6 +104,12 @@ def plain_sums(rows: List[Row], each: str) -> Dict[Place, Fraction]:
     return found
 
 
+def differences(rows: List[Row], less: List[Row], each: str) -> Dict[Place, Fraction]:
+    """What each group comes to in each piece, less what it comes to by other rows."""
+    found, others = plain_sums(rows, each), plain_sums(less, each)
+    return {place: found.get(place, Fraction(0)) - others.get(place, Fraction(0)) for place in {*found, *others}}
+
+
 @unittest.skipUnless(PROGRAM.exists(), "a built program to answer records that hypothesis draws")
 class OverTime(unittest.TestCase):
     @DRAWN
@@ -112,21 +122,44 @@ class OverTime(unittest.TestCase):
         self.assertEqual(status, 0, said)
         header, *records = read(text)
         self.assertEqual(header, ["valid_from", "valid_to", *case.named])
-        wanted = plain_sums(case.rows, each)
+        self.check_sums(records, plain_sums(case.rows, each), each, said)
+        for start, end, *_ in records:
+            days = [date.fromisoformat(start) + timedelta(more) for more in (-1, 0)]
+            self.assertNotEqual(*map(KEYS[each], days))
+            self.assertEqual(KEYS[each](days[1]), KEYS[each](date.fromisoformat(end) - timedelta(1)))
+
+    def check_sums(self, records: List[List[str]], wanted: Dict[Place, Fraction], each: str, said: str) -> None:
+        """Each sum is next to the exact one, those of a group to its own sum, and what is rounded is reported."""
         found = {(tuple(group), KEYS[each](date.fromisoformat(start))): int(told) for start, _, *group, told in records}
         self.assertEqual(sorted(found), sorted(wanted))
         self.assertEqual(len(found), len(records))
-        self.assertEqual(bool(said), any(one.denominator != 1 for one in wanted.values()))
+        self.assertEqual("rounded" in said, any(one.denominator != 1 for one in wanted.values()))
         for group in {group for group, _ in wanted}:
             whole = sum(told for (one, _), told in found.items() if one == group)
             exact = sum((told for (one, _), told in wanted.items() if one == group), Fraction(0))
             self.assertLessEqual(abs(whole - exact), Fraction(1, 2))
         for piece, exact in wanted.items():
             self.assertLess(abs(found[piece] - exact), 1)
-        for start, end, *_ in records:
-            days = [date.fromisoformat(start) + timedelta(more) for more in (-1, 0)]
-            self.assertNotEqual(*map(KEYS[each], days))
-            self.assertEqual(KEYS[each](days[1]), KEYS[each](date.fromisoformat(end) - timedelta(1)))
+            self.assertTrue(exact.denominator > 1 or found[piece] == exact)
+
+    @DRAWN
+    @given(cases(), st.sampled_from(sorted(KEYS)), st.sampled_from([None, "3", "rows,less"]), st.data())
+    def test_differences_and_wanted_values_are_those_of_days(
+        self, case: Case, each: str, less: Optional[str], data: Any,
+    ) -> None:
+        some = st.lists(st.sampled_from(case.rows), max_size=4) if case.rows else st.just([])
+        taken, added = data.draw(some), data.draw(some)
+        value = data.draw(st.sampled_from([*(row.group[0] for row in case.rows), "none"])) if case.texts else None
+        words = ["months", "--program", str(PROGRAM), "--each", each, "--sum", case.named[-1]]
+        words += [word for name in case.named[:-1] for word in ("--by", name)]
+        words += [] if value is None else ["--where", f"{case.named[0]}={value}"]
+        with kept(case.script_of("less", taken) + case.script_of("t", added)) as script:
+            status, text, said = run(["tools/answers", *words, script, *([] if less is None else ["--less", less])])
+        self.assertEqual(status, 0, said)
+        counted, taken = ([one for one in rows if value in (None, *one.group[:1])] for rows in (added, taken))
+        self.check_sums(read(text)[1:], differences(counted, taken if less else [], each), each, said)
+        is_noted = value is not None and not (counted or less and taken)
+        self.assertEqual("no record has the values of --where" in said, is_noted)
 
     @DRAWN
     @given(cases(), st.integers(0, 2))
@@ -170,6 +203,15 @@ class Words(ToolCase):
         cut = ["--sum", "sum_euros", "--from", "2024-06-16", "--to", "2024-07-01T12:00:00"]
         # 41,810 for 15 of 30 days, and 41,830 for half of a day of 31.
         self.check([*PAYROLL, "--go-on", *cut], "", 0, "2024-06-01,2024-07-01,20905\n2024-07-01,2024-08-01,675\n")
+
+    def test_a_difference_is_of_two_answers(self) -> None:
+        months = [*PAYROLL, "--go-on", "--sum", "sum_euros", "--from", "2024-05-01", "--to", "2024-08-01"]
+        june = "2024-05-01,2024-06-01,0\n2024-06-01,2024-07-01,480\n2024-07-01,2024-08-01,360\n"
+        self.check([*months, "last", "--less", "last-1"], "", 0, june)
+        self.check([*months, "--less", "last-1"], "", 0, june)
+        self.check([*months, "last", "--less", "last"], "", 1, "--less last: that is the answer whose amounts are")
+        self.check([*months, "--less", "before"], "", 1, "before: neither a number, nor @LINE, nor last or last-N")
+        self.check([*months, "--less", "@29"], "", 1, "an `at` tells of its point alone")
 
 
 if __name__ == "__main__":

@@ -8,6 +8,7 @@
     reading             the answers of a script, each with its command; what this package gives by its own name
     picks               answers chosen by number, line or name
     asking              the program is asked for a script's answers
+    conditions          records that have some values
     changes, history    what really changed between two answers; what each commit changed
     grouped             records that hold for a time, by the values of columns
     calendar, unions    what they come to by month; the periods in which one of a group holds

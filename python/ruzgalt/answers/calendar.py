@@ -1,13 +1,15 @@
-"""What an answer's records come to in each month, quarter, year or week, by the values of some columns."""
-from typing import Iterable, Iterator, List, NamedTuple, Optional, Sequence, Tuple
+"""What an answer's records come to in each month, quarter, year or week, by the values of some columns; and how much
+more that is than what another answer's come to.
+"""
+from typing import Dict, Iterable, Iterator, List, NamedTuple, Optional, Sequence, Tuple
 
-from ruzgalt.answers import Answer, grouped
+from ruzgalt.answers import Answer, conditions, grouped
 from ruzgalt.errors import Misfit
 from ruzgalt.periods import amounts, pieces
 from ruzgalt.script.forms import at_second, print_point, read_point, seconds
 from ruzgalt.script.reader import Row
 from ruzgalt.script.records import short
-from ruzgalt.script.schemas import PERIOD, Kind, Table, unique
+from ruzgalt.script.schemas import PERIOD, Column, Kind, Table, unique
 
 BEGINNING, END = "0001-01-01", "9999-12-31T23:59:59"
 # An end from then on stands for none that is known.
@@ -15,35 +17,78 @@ NO_END = "9999-01-01"
 
 
 class Wish(NamedTuple):
-    """The column whose numbers are summed, those whose values have a sum each, the pieces, and the time to count."""
+    """The column whose numbers are summed, those whose values have a sum each, the pieces, the time to count, and which
+    records are counted.
+    """
 
     summed: str
     by: Sequence[str] = ()
     each: str = "month"
     start: Optional[str] = None
     end: Optional[str] = None
+    where: conditions.Where = ()
 
 
 class Sums(NamedTuple):
-    """A record for each group and each piece that one of its records touches; and how many sums were rounded."""
+    """A record for each group and each piece that one of its records touches; how many sums were rounded; and how many
+    records were counted.
+    """
 
     table: Table
     rounded: int
+    counted: int
 
 
-def sums(answer: Answer, wish: Wish) -> Sums:
-    """The sums of each group in the order of time, which add up to its exact sum, rounded once."""
+class Side(NamedTuple):
+    """An answer of which records are counted: the columns of the groups and of the amounts, and each group's records.
+
+    The sign says whether amounts are added or taken away.
+    """
+
+    answer: Answer
+    columns: List[Column]
+    records: Dict[grouped.Values, List[List[str]]]
+    sign: int
+
+
+def sums(answer: Answer, wish: Wish, less: Optional[Answer] = None) -> Sums:
+    """The sums of each group in the order of time, which add up to its exact sum, rounded once.
+
+    Where there is another answer, its exact sums are taken from them.
+    """
     refuse_points(wish)
-    groups = grouped.by_columns(answer, wish.by)
-    place, calendar = summed_place(answer, wish.summed), pieces.calendar(wish.each)
+    sides = [side_of(answer, wish, 1), *([side_of(less, wish, -1)] if less else [])]
+    refuse_other_kinds(sides)
+    calendar, columns = pieces.calendar(wish.each), sides[0].columns
     found: List[Row] = []
     rounded = 0
-    for values, records in groups.records:
-        counted = ((start, end, int(record[place])) for start, end, record in cuts(answer, records, wish))
-        told = amounts.by_piece(counted, calendar)
-        rounded += sum(one.is_rounded for one in told)
-        found.extend([*period_of(one.piece, calendar), *values, str(one.whole)] for one in told)
-    return Sums(Table(unique([*PERIOD, *groups.columns, answer.table.columns[place]]), found), rounded)
+    for values in grouped.in_order(columns[:-1], {values for side in sides for values in side.records}):
+        made = amounts.by_piece((row for side in sides for row in rows_of(side, values, wish)), calendar)
+        rounded += sum(one.is_rounded for one in made)
+        found.extend([*period_of(one.piece, calendar), *values, str(one.whole)] for one in made)
+    counted = sum(len(records) for side in sides for records in side.records.values())
+    return Sums(Table(unique([*PERIOD, *columns]), found), rounded, counted)
+
+
+def side_of(answer: Answer, wish: Wish, sign: int) -> Side:
+    groups = grouped.by_columns(answer, wish.by, wish.where)
+    summed = answer.table.columns[summed_place(answer, wish.summed)]
+    return Side(answer, [*groups.columns, summed], groups.records, sign)
+
+
+def refuse_other_kinds(sides: Sequence[Side]) -> None:
+    """Refuses columns of one name that have numbers in one answer, and texts in the other."""
+    for one, other in zip(sides[0].columns, sides[-1].columns):
+        if one.kind is not other.kind:
+            places = " and ".join(side.answer.place for side in sides)
+            raise Misfit(f"{places}: {one.name} is {one.kind.value} in one, and {other.kind.value} in the other")
+
+
+def rows_of(side: Side, values: grouped.Values, wish: Wish) -> Iterator[amounts.Row]:
+    """The counted part of each record of a group, with its amount."""
+    place = side.answer.table.place(wish.summed)
+    for start, end, record in cuts(side.answer, side.records.get(values, []), wish):
+        yield start, end, side.sign * int(record[place])
 
 
 def summed_place(answer: Answer, name: str) -> int:

@@ -4,7 +4,7 @@ how many parts there are.
 from typing import Dict, Iterable, Iterator, List, NamedTuple, Optional, Sequence, Tuple
 
 from ruzgalt import answers
-from ruzgalt.answers import Answer, asking
+from ruzgalt.answers import Answer, asking, grouped
 from ruzgalt.checking import replay
 from ruzgalt.checking.replay import Version
 from ruzgalt.errors import Misfit
@@ -20,7 +20,7 @@ COUNTS = [*ints("rows", "parts"), Column("instant", Kind.POINT)]
 class Group(NamedTuple):
     """Rows of equal values in some columns, by rising id."""
 
-    values: Tuple[str, ...]
+    values: grouped.Values
     rows: List[Version]
 
 
@@ -92,15 +92,11 @@ def fields_of(version: Version) -> List[str]:
 
 def groups_of(rows: Iterable[Version], schema: Schema, names: Sequence[str]) -> List[Group]:
     places = [schema.place(name) for name in names]
-    is_int = [schema.columns[place].kind is Kind.INT for place in places]
-    found: Dict[Tuple[str, ...], List[Version]] = {}
+    found: Dict[grouped.Values, List[Version]] = {}
     for version in rows:
         found.setdefault(tuple(version.row.values[place] for place in places), []).append(version)
-
-    def by_size(values: Tuple[str, ...]) -> Tuple[object, ...]:
-        return tuple(int(text) if number else text for number, text in zip(is_int, values))
-
-    return [Group(values, found[values]) for values in sorted(found, key=by_size)]
+    columns = [schema.columns[place] for place in places]
+    return [Group(values, found[values]) for values in grouped.in_order(columns, found)]
 
 
 def batches(groups: Sequence[Group]) -> Iterator[List[Group]]:

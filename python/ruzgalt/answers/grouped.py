@@ -1,8 +1,8 @@
 """Records that hold for a time, by the values of some of their columns."""
 from collections import defaultdict
-from typing import DefaultDict, List, NamedTuple, Sequence, Tuple
+from typing import DefaultDict, Dict, Iterable, List, NamedTuple, Sequence, Tuple
 
-from ruzgalt.answers import Answer
+from ruzgalt.answers import Answer, conditions
 from ruzgalt.errors import Misfit
 from ruzgalt.script.language import Answered
 from ruzgalt.script.records import short
@@ -16,27 +16,33 @@ Values = Tuple[str, ...]
 class Groups(NamedTuple):
     """The columns by which an answer's records are grouped, and the records of each group, by its values.
 
-    Groups are in the order of their values, columns from the left and numbers by size.
+    Groups are in the order of their values.
     """
 
     columns: List[Column]
-    records: List[Tuple[Values, List[List[str]]]]
+    records: Dict[Values, List[List[str]]]
 
 
-def by_columns(answer: Answer, names: Sequence[str]) -> Groups:
-    """The answer's records by the values of these columns, or where there are none, all of them."""
+def by_columns(answer: Answer, names: Sequence[str], where: conditions.Where = ()) -> Groups:
+    """The answer's records that have some values, by those of these columns; or where there are none, all of them."""
     refuse_others(answer)
-    places = [place_of(answer, name) for name in names]
+    places, wanted = [place_of(answer, name) for name in names], conditions.places(answer.table, where)
     found: DefaultDict[Values, List[List[str]]] = defaultdict(list)
     for record in answer.table.texts():
-        found[tuple(record[place] for place in places)].append(record)
+        if conditions.has(record, wanted):
+            found[tuple(record[place] for place in places)].append(record)
     columns = [answer.table.columns[place] for place in places]
+    return Groups(columns, {values: found[values] for values in in_order(columns, found)})
+
+
+def in_order(columns: Sequence[Column], found: Iterable[Values]) -> List[Values]:
+    """The values of these columns in order, columns from the left and numbers by size."""
     is_int = [column.kind is Kind.INT for column in columns]
 
     def by_size(values: Values) -> Tuple[object, ...]:
         return tuple(int(text) if number else text for number, text in zip(is_int, values))
 
-    return Groups(columns, [(values, found[values]) for values in sorted(found, key=by_size)])
+    return sorted(found, key=by_size)
 
 
 def period_place(answer: Answer) -> int:

@@ -5,7 +5,7 @@ The records are by commit; those of a commit as in an answer to `changed`.
 from itertools import islice
 from typing import Dict, Iterable, Iterator, List, Optional, Sequence, Tuple
 
-from ruzgalt.answers import Answer
+from ruzgalt.answers import Answer, conditions
 from ruzgalt.answers.changes import Held, changes, order
 from ruzgalt.checking.replay import Replay, Version, behind
 from ruzgalt.errors import Misfit
@@ -23,12 +23,12 @@ Days = List[Tuple[str, int]]
 
 
 def of_table(
-    found: Sequence[Answer], name: str, where: Sequence[Tuple[str, str]], days: Optional[Days] = None,
+    found: Sequence[Answer], name: str, where: conditions.Where, days: Optional[Days] = None,
 ) -> Table:
     """All changes of rows with these values, each with the day of its commit where days are given."""
     refuse_missing(found, name)
     schema, replay = found[-1].tables[name], behind(found)
-    wanted = [(schema.place(column), value) for column, value in where]
+    wanted = conditions.places(schema, where)
     lines = {one.commits: one.place for one in found if not one.refusal and one.command.word in CHANGES}
     entered = [] if days is None else [Column("entered", Kind.POINT)]
     columns = unique([*ints("commit"), Column("place", Kind.TEXT), *entered, *CHANGE, *schema.columns])
@@ -59,7 +59,7 @@ def changes_of(
     before: Dict[int, List[Held]] = {}
     after: Dict[int, List[Held]] = {}
     for version in versions:
-        if all(version.row.values[place] == value for place, value in wanted):
+        if conditions.has(version.row.values, wanted):
             held = version.row.start, version.row.end, version.row.values
             after.setdefault(version.made, []).append(held)
             if version.closed is not None:

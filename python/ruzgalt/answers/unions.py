@@ -14,7 +14,7 @@ def united(answer: Answer, names: Sequence[str]) -> Table:
     """
     groups, place = grouped.by_columns(answer, names), grouped.period_place(answer)
     found: List[Row] = [
-        [*period, *values] for values, records in groups.records
+        [*period, *values] for values, records in groups.records.items()
         for period in spans.united((record[place], record[place + 1]) for record in records)
     ]
     return Table(unique([*PERIOD, *groups.columns]), found)

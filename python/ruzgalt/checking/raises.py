@@ -3,13 +3,11 @@ import re
 from collections import Counter
 from typing import Iterator, List, NamedTuple, Optional, Sequence, Tuple
 
-from ruzgalt.answers import Answer
+from ruzgalt.answers import Answer, conditions
 from ruzgalt.answers.history import refuse_missing
-from ruzgalt.checking import refusals, replay
+from ruzgalt.checking import replay
 from ruzgalt.errors import Misfit
 from ruzgalt.periods.rounding import Fraction, rounded
-from ruzgalt.script.fields import Field
-from ruzgalt.script.language import Role
 from ruzgalt.script.forms import is_integer, printed, read_point
 from ruzgalt.script.records import short
 from ruzgalt.script.schemas import Column, Kind, Schema, Table, ints, unique
@@ -27,7 +25,7 @@ class Wish(NamedTuple):
     percent: str
     start: str
     end: Optional[str] = None
-    where: Sequence[Tuple[str, str]] = ()
+    where: conditions.Where = ()
     rounding: Optional[str] = None
 
 
@@ -52,17 +50,13 @@ class Raise:
         self.wish, self.schema = wish, answers[-1].tables[wish.table]
         self.factor = factor_of(wish.percent)
         self.place = column_place(self.schema, wish.column)
-        refuse_values(answers[-1], self.schema, wish.where)
+        wanted = conditions.places(self.schema, wish.where)
         refuse_points(wish)
-        rows = [version.row for version in replay.behind(answers).open[wish.table].with_values(self.wanted)]
+        rows = [version.row for version in replay.behind(answers).open[wish.table].with_values(wanted)]
         self.start = printed(wish.start)
         self.end = printed(wish.end) if wish.end else LAST if any(row.end > NO_END for row in rows) else NO_END
         counts = Counter(int(row.values[self.place]) for row in rows if row.start < self.end and self.start < row.end)
         self.steps = [self.step(amount, counts[amount]) for amount in sorted(counts, key=self.order)]
-
-    @property
-    def wanted(self) -> replay.Pairs:
-        return [(self.schema.place(name), value) for name, value in self.wish.where]
 
     def order(self, amount: int) -> Tuple[int, int]:
         """Amounts go away from zero by a raise, so the farthest is first, and towards it by a cut."""
@@ -134,13 +128,6 @@ def column_place(schema: Schema, name: str) -> int:
     if schema.columns[place].kind is not Kind.INT:
         raise Misfit(f"{name}: a column of texts, and amounts are numbers")
     return place
-
-
-def refuse_values(last: Answer, schema: Schema, where: Sequence[Tuple[str, str]]) -> None:
-    for name, value in where:
-        told = refusals.told_of_value(last, Field(0, value, Role.VALUE, schema, schema.columns[schema.place(name)]))
-        if told:
-            raise Misfit(f"--where {name}: {told}")
 
 
 def refuse_points(wish: Wish) -> None:

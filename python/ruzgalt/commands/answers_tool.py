@@ -15,7 +15,7 @@ from ruzgalt.checking.replay import Replay
 from ruzgalt.commands import called, going_on, over_time, picture, streams
 from ruzgalt.commands.given import Found, bytes_of, chosen, last, read, warn
 from ruzgalt.commands.progress import Progress
-from ruzgalt.commands.words import Words, look_of, pair, some_commits, words_of_looks
+from ruzgalt.commands.words import Words, look_of, pair, some_commits, words_of_looks, words_of_where
 from ruzgalt.errors import Misfit
 from ruzgalt.page import contents, document, sources
 from ruzgalt.script import commands, records
@@ -333,9 +333,7 @@ def words_of_changed(parser: ArgumentParser) -> None:
 
 def words_of_history(parser: ArgumentParser) -> None:
     parser.add_argument("table", metavar="TABLE", help="a table of the script")
-    parser.add_argument(
-        "--where", type=pair, action="append", default=[], metavar="COLUMN=VALUE", help="only rows with this value",
-    )
+    words_of_where(parser)
     parser.add_argument("--diary", metavar="TABLE", help="a table whose first column is the newest commit of a time")
     parser.add_argument(
         "--commit", type=some_commits, metavar="N",

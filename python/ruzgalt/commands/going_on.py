@@ -6,7 +6,7 @@ from ruzgalt.answers import export, next_script
 from ruzgalt.checking import fitting, raises
 from ruzgalt.commands import streams
 from ruzgalt.commands.given import last, read, warn
-from ruzgalt.commands.words import pair
+from ruzgalt.commands.words import pair, words_of_where
 from ruzgalt.periods.rounding import ROUNDINGS
 from ruzgalt.script import records
 
@@ -46,9 +46,7 @@ def words_of_raise(parser: ArgumentParser) -> None:
     parser.add_argument("--percent", required=True, metavar="NUMBER", help="how much more, as 2.5, or less, as -3")
     parser.add_argument("--from", dest="start", required=True, metavar="POINT", help="from when on")
     parser.add_argument("--to", dest="end", metavar="POINT", help="up to when, where not for good")
-    parser.add_argument(
-        "--where", type=pair, action="append", default=[], metavar="COLUMN=VALUE", help="only rows with this value",
-    )
+    words_of_where(parser)
     parser.add_argument(
         "--round", dest="rounding", choices=ROUNDINGS, metavar="HOW",
         help=f"how an amount becomes a whole number: {', '.join(ROUNDINGS)}, as Python's decimal has them",

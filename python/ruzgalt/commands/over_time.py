@@ -1,15 +1,19 @@
 """The words of `months` and `coalesce` of tools/answers, and what they print."""
 from argparse import ArgumentParser, Namespace
+from typing import Optional, Tuple
 
-from ruzgalt.answers import calendar, export, unions
+from ruzgalt.answers import Answer, calendar, export, picks, unions
 from ruzgalt.commands import streams
 from ruzgalt.commands.given import last, read, warn
-from ruzgalt.commands.words import look_of, words_of_looks
+from ruzgalt.commands.words import look_of, words_of_looks, words_of_where
+from ruzgalt.errors import Misfit
 from ruzgalt.periods import pieces
 
 OF_MONTHS = """An amount is what a record comes to in each whole month (or other piece of the calendar) that it holds;
 in one that it holds in part, it comes to that part, by days. The sums of a group are whole numbers that add up to its
-exact sum, rounded once, half up: what rounding leaves over goes to those with the largest remainders."""
+exact sum, rounded once, half up: what rounding leaves over goes to those with the largest remainders. With --less they
+are differences: for each group and each month that a record of one of the two answers touches, the exact sum of the
+answer less that of the other."""
 OF_COALESCE = """The periods are as long as can be. Without a COLUMN all records are one group."""
 
 
@@ -22,19 +26,50 @@ def words_of_months(parser: ArgumentParser) -> None:
     parser.add_argument("--each", choices=pieces.EACH, default="month", help="the pieces; weeks begin on Mondays")
     parser.add_argument("--from", dest="start", metavar="POINT", help="counts from there on")
     parser.add_argument("--to", dest="end", metavar="POINT", help="counts up to there: wanted where an end isn't known")
+    words_of_where(parser)
+    parser.add_argument(
+        "--less", metavar="ANSWER",
+        help="takes from each sum what this answer comes to: a PICK, or a question, as rows,T,asof,3",
+    )
     words_of_looks(parser)
 
 
 def do_months(options: Namespace) -> None:
-    [answer] = last(read(options), [options.pick] if options.pick else [], 1)
-    wish = calendar.Wish(options.sum, options.by, options.each, options.start, options.end)
-    sums, look = calendar.sums(answer, wish), look_of(options)
+    wish = calendar.Wish(options.sum, options.by, options.each, options.start, options.end, options.where)
+    answer, less = summed(options)
+    sums, look = calendar.sums(answer, wish, less), look_of(options)
     look.refuse_strangers(sums.table)
     streams.show_records(export.to_csv(look.of(sums.table)))
+    if options.where and not sums.counted:
+        warn("no record has the values of --where")
     if sums.rounded:
-        whose = "those of each group add up to its exact sum" if options.by else "all add up to the exact sum"
-        count = f"{sums.rounded:,} of {len(sums.table.records):,} sums"
+        exact = "difference" if options.less else "sum"
+        whose = f"those of each group add up to its exact {exact}" if options.by else f"all add up to the exact {exact}"
+        count = f"{sums.rounded:,} of {len(sums.table.records):,} {exact}s"
         warn(f"{count} were rounded, and {whose}, rounded once, half up: the largest remainders count up")
+
+
+def summed(options: Namespace) -> Tuple[Answer, Optional[Answer]]:
+    """The answer whose amounts are summed, and that whose sums are taken from them, where one is given.
+
+    It is the one that is picked or asked, or else the last that is more than an `ok` and isn't the other one.
+    """
+    words = [options.pick] if options.pick else []
+    if options.less is None:
+        [answer] = last(read(options), words, 1)
+        return answer, None
+    # No pick has a comma, and each question of records does.
+    is_question = "," in options.less
+    options.ask = [*([options.less] if is_question else []), *options.ask]
+    found = read(options)
+    less = found.asked[0] if is_question else picks.picked(found.answers, options.less, found.names).answer
+    others = [one for one in found.answers if one is not less and picks.is_asked(one)]
+    if options.pick and picks.find(found.answers, options.pick.partition("=")[0]) is less:
+        raise Misfit(f"--less {options.less}: that is the answer whose amounts are summed")
+    if not words and all(one is less for one in found.asked):
+        words = [str(one.number) for one in others[-1:]]
+    both = last(found, [*words, str(less.number)], 2)
+    return next(one for one in both if one is not less), less
 
 
 def words_of_coalesce(parser: ArgumentParser) -> None:

@@ -7,7 +7,7 @@ from typing import Sequence
 
 from ruzgalt.answers import Answer
 from ruzgalt.answers.amounts import Amounts
-from ruzgalt.commands.words import decimals, pair
+from ruzgalt.commands.words import decimals, words_of_where
 from ruzgalt.pictures import figures, svg, terminal
 
 
@@ -15,9 +15,7 @@ def words_of_picture(parser: ArgumentParser) -> None:
     parser.add_argument("--svg", action="store_true", help="prints SVG for a browser, and not text")
     parser.add_argument("--by", metavar="COLUMN", help="a lane for each of its values (of the first column)")
     parser.add_argument("--label", metavar="COLUMN", help="what stands in the bars")
-    parser.add_argument(
-        "--where", type=pair, action="append", default=[], metavar="COLUMN=VALUE", help="only records with this value",
-    )
+    words_of_where(parser)
     parser.add_argument("--from", dest="start", metavar="POINT", help="the first point that is shown")
     parser.add_argument("--to", dest="end", metavar="POINT", help="the end of what is shown")
     parser.add_argument(

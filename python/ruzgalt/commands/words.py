@@ -23,6 +23,14 @@ def pair(word: str) -> Tuple[str, str]:
     return name, value
 
 
+def words_of_where(parser: ArgumentParser) -> None:
+    """Which records are looked at."""
+    parser.add_argument(
+        "--where", type=pair, action="append", default=[], metavar="COLUMN=VALUE",
+        help="only records with this value; it may stand again",
+    )
+
+
 def some_commits(word: str) -> Tuple[int, Optional[int]]:
     """N, or FIRST-LAST of several, or FIRST- of all from there on: the first, and the last where it is given."""
     first, mark, last = word.partition("-")

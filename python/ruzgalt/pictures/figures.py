@@ -3,7 +3,7 @@ from collections import defaultdict
 from dataclasses import replace
 from typing import Dict, Iterable, List, Optional, Sequence, Tuple
 
-from ruzgalt.answers import Answer
+from ruzgalt.answers import Answer, conditions
 from ruzgalt.checking import replay
 from ruzgalt.errors import Misfit
 from ruzgalt.pictures.shapes import NOTHING, Bar, Bars, Groups, Picture, Step, Steps, counted
@@ -67,7 +67,7 @@ def division(answers: Sequence[Answer], answer: Answer, wish: Wish) -> Bars:
     """A lane for each part, and the instant. The rows' periods are those that the script's changes have left."""
     versions = {str(version.row_id): version.row for version in replay.rows_of(answers, answer)}
     table = Table(unique([*ints("row_id"), *PERIOD, *answer.tables[answer.command.front[1]].columns]))
-    wish.refuse_values(table)
+    conditions.places(table, wish.where)
     wish.amounts.refuse_strangers(table)
     if {record[1] for record in answer.table.texts()} != set(versions):
         raise Misfit(f"{answer.place}: {short(answer.command.text)}: the ids aren't those of the table's rows")

@@ -2,15 +2,14 @@
 from dataclasses import dataclass, field
 from typing import Dict, Iterable, List, Optional, Sequence, Tuple
 
-from ruzgalt.answers import Answer
+from ruzgalt.answers import Answer, conditions
 from ruzgalt.answers.amounts import Amounts
-from ruzgalt.answers.lists import FORMS
 from ruzgalt.errors import Misfit
 from ruzgalt.pictures.shapes import Bar
 from ruzgalt.pictures.timeline import Span, span_of
 from ruzgalt.script.forms import printed, read_point, seconds
 from ruzgalt.script.records import visible
-from ruzgalt.script.schemas import Kind, Table
+from ruzgalt.script.schemas import Table
 
 Record = Dict[str, str]
 
@@ -21,7 +20,7 @@ class Wish:
 
     by: Optional[str] = None
     label: Optional[str] = None
-    where: Sequence[Tuple[str, str]] = ()
+    where: conditions.Where = ()
     start: Optional[str] = None
     end: Optional[str] = None
     amounts: Amounts = field(default_factory=Amounts)
@@ -54,19 +53,9 @@ class Wish:
 
     def wanted(self, table: Table) -> List[Record]:
         """The records as fields by their names, those that are asked for."""
-        self.refuse_values(table)
+        conditions.places(table, self.where)
         records = (dict(zip(table.names, record)) for record in table.texts())
         return [record for record in records if self.wants(record)]
-
-    def refuse_values(self, table: Table) -> None:
-        """A value that no record of its column can have would be taken for one that none has."""
-        for name, value in self.where:
-            place = table.place(name)
-            kind = table.columns[place].kind
-            has_form = FORMS.get(kind)
-            # The end of a version that is open is empty.
-            if has_form and not has_form(value) and (value or name != "sys_to"):
-                raise Misfit(f"--where {name}={visible(value)}: {NO_VALUE[kind]}")
 
     def labelled(self, record: Record, names: Sequence[str]) -> str:
         """The record's values of these columns."""
@@ -74,13 +63,6 @@ class Wish:
         if missing:
             raise Misfit(f"there is no column {missing[0]}, but {', '.join(record)}")
         return " ".join(" ".join(self.amounts.printed(name, record[name]).split()) for name in names)
-
-
-# What is told of a value that is none of its column's kind.
-NO_VALUE = {
-    Kind.INT: "no whole number in digits alone, as 480050 for cents, or -8",
-    Kind.POINT: "no point as it is printed, as 2024-01-05 or 2024-01-05T08:30:00; that of a midnight is its date",
-}
 
 
 def bar_of(record: Record, lane: int, label: str) -> Bar:
