@@ -102,6 +102,25 @@ class Words(ToolCase):
                 name, *others = command
                 self.check(["tools/answers", name, "-", *others, "--answers", answers], script, 0, wanted)
 
+    def test_other_tables_are_printed_for_a_spreadsheet_too(self) -> None:
+        rows = 'row,2024-01-01,2024-02-01,"=A;B",5\nrow,2024-03-01,2024-04-01,"=A;B",7\n'
+        script = f"table,pay,person,text,euros,int\nload,pay\n{rows}end\nrows,pay\nrows,pay,asof,1\n"
+        told = 'ok,1\nok,2\nrow,1,2024-01-01,2024-02-01,"=A;B",5\nrow,2,2024-03-01,2024-04-01,"=A;B",7\nend,2\nend,0\n'
+        for command, wanted in [
+            (["gaps", "person", "--of", "3"], "valid_from;valid_to;person\r\n2024-02-01;2024-03-01;\"'=A;B\"\r\n"),
+            (["coalesce", "person", "--of", "3"], "2024-01-01;2024-02-01;\"'=A;B\"\r\n"),
+            (["months", "3", "--sum", "euros", "--by", "person"], "2024-01-01;2024-02-01;\"'=A;B\";5\r\n"),
+            (["changed", "4", "3"], "+;2024-01-01;2024-02-01;\"'=A;B\";5\r\n"),
+            (["history", "pay"], "2;line 2;+;2024-01-01;2024-02-01;\"'=A;B\";5\r\n"),
+            (["overlaps", "person", "--of", "3"], "row_id;other_row_id;valid_from;valid_to;person\r\n"),
+        ]:
+            with kept(told) as answers:
+                words = ["tools/answers", command[0], "-", *command[1:], "--answers", answers]
+                self.check([*words, "--for-spreadsheet", "--german"], script, 0, wanted)
+                note = f"a spreadsheet would run {'2 fields, the first' if 'pay' in command else ''}"
+                self.check(words, script, 0, "" if command[0] == "overlaps" else note)
+                self.check([*words, "--german"], script, 1, "stands beside --for-spreadsheet or --decimals")
+
     def test_queries_print_money(self) -> None:
         sqlite = ["tools/answers", "sqlite", EXAMPLE, ":memory:", "--answers", EXAMPLE + ".stdout", "4=pay"]
         query = "select person, valid_to, sum(euros) as total from pay group by person"

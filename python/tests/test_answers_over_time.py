@@ -18,7 +18,7 @@ try:
     from hypothesis import given, settings
     from hypothesis import strategies as st
 
-    from tests.test_answers_hostile import NAMES, TEXTS, printed
+    from tests.test_answers_hostile import NAMES, TEXTS, is_run, printed
 except ModuleNotFoundError as error:
     raise unittest.SkipTest("records that hypothesis draws") from error
 
@@ -168,9 +168,13 @@ class OverTime(unittest.TestCase):
         with kept(case.script) as script:
             words = ["tools/answers", "coalesce", script, "--program", str(PROGRAM), *names]
             status, text, said = run(words)
-        self.assertEqual((status, said), (0, ""))
+        self.assertEqual(status, 0, said)
         header, *records = read(text)
         self.assertEqual(header, ["valid_from", "valid_to", *names])
+        # What a spreadsheet would run is reported, and nothing else.
+        count = sum(map(is_run, (field for _, _, *group in records for field in group)))
+        self.assertEqual(said.count("\n"), min(count, 1))
+        self.assertEqual(f"would run {count} fields" in said or "would run a field" in said, count > 0)
         wanted: DefaultDict[Tuple[str, ...], Set[date]] = defaultdict(set)
         for row in case.rows:
             wanted[row.group[:count]].update(row.days)

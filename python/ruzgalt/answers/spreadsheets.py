@@ -1,7 +1,8 @@
 """Answers as CSV for a spreadsheet, which runs a text that begins like a formula, and takes UTF-8 for another encoding.
 
 What is guarded, and how, is as OWASP's page on CSV injection has it: a text that begins with =, +, -, @, a tab, the end
-of a line, or a wide form of such a sign gets an apostrophe before it. Numbers stay as they are.
+of a line, or a wide form of such a sign gets an apostrophe before it. Numbers stay as they are, and a + or - alone,
+which has nothing to run.
 """
 import csv
 import io
@@ -14,7 +15,7 @@ from ruzgalt.script.reader import BYTE_ORDER_MARK, PIECE
 from ruzgalt.script.records import encode
 from ruzgalt.script.schemas import Kind, Table
 
-FORMULA = re.compile("[=+@\t\r\n\uff1d\uff0b\uff0d\uff20]|-(?!\\d+(?:[.,]\\d+)?\\Z)", re.ASCII)
+FORMULA = re.compile("(?![+-]\\Z)(?:[=+@\t\r\n\uff1d\uff0b\uff0d\uff20]|-(?!\\d+(?:[.,]\\d+)?\\Z))", re.ASCII)
 # What stands in the bytes of records of which a field may begin so: a sign, which is seldom there, or a minus behind
 # what ends a field, where it isn't that of a number.
 SIGNS = (b"=", b"+", b"@", b"\t", b"\r", b"\xef\xbc")

@@ -6,13 +6,13 @@ import textwrap
 from argparse import ArgumentParser, Namespace
 from functools import partial
 from pathlib import Path
-from typing import Callable, Dict, Iterator, NamedTuple, Optional, Sequence
+from typing import Callable, Dict, NamedTuple, Optional, Sequence
 
 from ruzgalt import answers, which
-from ruzgalt.answers import asking, changes, databases, divided, export, front, history, picks, spreadsheets
+from ruzgalt.answers import asking, changes, databases, divided, export, front, history, picks
 from ruzgalt.checking import fitting, marks, overlaps, queries, refusals, single
 from ruzgalt.checking.replay import Replay
-from ruzgalt.commands import called, going_on, over_time, picture, streams
+from ruzgalt.commands import called, going_on, over_time, picture, printed, streams
 from ruzgalt.commands.given import Found, bytes_of, chosen, last, read, warn
 from ruzgalt.commands.progress import Progress
 from ruzgalt.commands.words import Words, look_of, pair, some_commits, words_of_looks, words_of_where
@@ -66,24 +66,20 @@ def warn_of_marks(found: Sequence[marks.Mark]) -> None:
 def do_csv(options: Namespace) -> None:
     if options.replace and not options.folder:
         raise Misfit("--replace replaces files of a --folder, and none is given: what is printed replaces no file")
-    if options.german and not (options.for_spreadsheet or options.decimals):
-        raise Misfit("--german is of a spreadsheet or of decimals, and stands beside --for-spreadsheet or --decimals")
     if options.folder and (options.rows or options.by or options.counts):
         raise Misfit("--rows, --by and --counts are of one division, and not of a --folder")
     if options.rows and options.counts:
         raise Misfit("--rows has a record for each row, and --counts one for all, or for each group: one of them")
-    found, look = read(options), look_of(options)
+    found = read(options)
     if options.folder:
         picked = chosen(found, options.pick)
-        look.refuse_strangers(*(pick.answer.table for pick in picked))
-        export.to_folder(picked, Path(options.folder), options.replace, partial(printed, options))
-        warn_of_formulas(options, [pick.answer.table for pick in picked])
+        tables = [pick.answer.table for pick in picked]
+        look_of(options).refuse_strangers(*tables)
+        export.to_folder(picked, Path(options.folder), options.replace, partial(printed.pieces, options))
+        printed.warn_of_formulas(options, tables)
     else:
         [answer] = last(found, options.pick, 1)
-        table = asked_table(options, found, answer)
-        look.refuse_strangers(table)
-        streams.show_records(printed(options, table))
-        warn_of_formulas(options, [table])
+        printed.show(options, asked_table(options, found, answer))
 
 
 def asked_table(options: Namespace, found: Found, answer: answers.Answer) -> Table:
@@ -96,21 +92,6 @@ def asked_table(options: Namespace, found: Found, answer: answers.Answer) -> Tab
     if options.counts:
         return divided.counted(answer)
     return divided.with_rows(found.answers, answer) if options.rows else answer.table
-
-
-def printed(options: Namespace, table: Table) -> Iterator[bytes]:
-    """The table as CSV, exactly, as a person reads it, or for a spreadsheet."""
-    table = look_of(options).of(table)
-    return spreadsheets.to_csv(table, options.german) if options.for_spreadsheet else export.to_csv(table)
-
-
-def warn_of_formulas(options: Namespace, tables: Sequence[Table]) -> None:
-    """Reports once what a spreadsheet would run, where it isn't guarded."""
-    found = [] if options.for_spreadsheet else list(filter(None, map(spreadsheets.run_in, tables)))
-    if found:
-        count = sum(run.fields for run in found)
-        fields = f"{count} fields, the first" if count > 1 else "a field,"
-        warn(f"a spreadsheet would run {fields} {records.visible(found[0].first)}: --for-spreadsheet guards against it")
 
 
 def do_json(options: Namespace) -> None:
@@ -148,29 +129,22 @@ def asked(
     return answer
 
 
-def show_table(options: Namespace, table: Table) -> None:
-    """Prints a table as CSV, as a person reads it where that is wanted."""
-    look = look_of(options)
-    look.refuse_strangers(table)
-    streams.show_records(export.to_csv(look.of(table)))
-
-
 def do_changed(options: Namespace) -> None:
     before, after = last(read(options), options.pick, 2)
     if before.commit > after.commit:
         both = f"the first of the two reads commit {before.commit}, and the second {after.commit}"
         warn(f"{both}: `-` is what the first has alone, which is later")
-    show_table(options, changes.between(before, after))
+    printed.show(options, changes.between(before, after))
 
 
 def do_overlaps(options: Namespace) -> None:
     [answer] = last(read(options), options.of, 1)
-    show_table(options, overlaps.in_answer(answer, options.column))
+    printed.show(options, overlaps.in_answer(answer, options.column))
 
 
 def do_gaps(options: Namespace) -> None:
     [answer] = last(read(options), options.of, 1)
-    show_table(options, overlaps.gaps_in_answer(answer, options.column))
+    printed.show(options, overlaps.gaps_in_answer(answer, options.column))
 
 
 def do_history(options: Namespace) -> None:
@@ -188,7 +162,7 @@ def do_history(options: Namespace) -> None:
     if options.where and not table.records:
         warn(f"no row of {options.table} ever had what --where tells")
     table = history.retroactive(table) if options.retroactive else table
-    show_table(options, table if wanted is None else history.of_commits(table, wanted))
+    printed.show(options, table if wanted is None else history.of_commits(table, wanted))
 
 
 def commits_of(options: Namespace, newest: int) -> Optional[range]:
@@ -273,10 +247,6 @@ def words_of_csv(parser: ArgumentParser) -> None:
     with_picks(parser)
     parser.add_argument("--folder", metavar="FOLDER", help="a file NAME.csv for each answer there, and not one table")
     parser.add_argument("--replace", action="store_true", help="replaces files of these names in the folder")
-    parser.add_argument(
-        "--for-spreadsheet", action="store_true",
-        help="puts an apostrophe before texts that a spreadsheet would run as formulas, and a byte order mark in front",
-    )
     parser.add_argument("--rows", action="store_true", help="of a division: each row's period and values too")
     parser.add_argument(
         "--by", action="append", default=[], metavar="COLUMN",
@@ -286,7 +256,7 @@ def words_of_csv(parser: ArgumentParser) -> None:
         "--counts", action="store_true",
         help="of a division, or with --by of each group's: how many rows and parts it has, and its instant",
     )
-    words_of_looks(parser, "decimals are as 1234,50; beside --for-spreadsheet: semicolons between fields")
+    printed.words_of_tables(parser)
 
 
 def words_of_sqlite(parser: ArgumentParser) -> None:
@@ -323,12 +293,12 @@ def words_of_page(parser: ArgumentParser) -> None:
 def words_of_overlaps(parser: ArgumentParser) -> None:
     parser.add_argument("column", nargs="+", metavar="COLUMN", help="a column of the key")
     parser.add_argument("--of", action="append", default=[], metavar="PICK", help="the answer, where it isn't the last")
-    words_of_looks(parser)
+    printed.words_of_tables(parser)
 
 
 def words_of_changed(parser: ArgumentParser) -> None:
     with_picks(parser)
-    words_of_looks(parser)
+    printed.words_of_tables(parser)
 
 
 def words_of_history(parser: ArgumentParser) -> None:
@@ -340,7 +310,7 @@ def words_of_history(parser: ArgumentParser) -> None:
         help="only what this commit changed; as N-M those from N to M, as N- all from N on",
     )
     parser.add_argument("--retroactive", action="store_true", help="only the time before the day that the diary tells")
-    words_of_looks(parser)
+    printed.words_of_tables(parser)
 
 
 def words_of_front(parser: ArgumentParser) -> None:
@@ -455,6 +425,7 @@ def main(words: Sequence[str]) -> int:
     options = parser_of(words[0], tool).parse_intermixed_args(words[1:])
     try:
         with Progress(f"{called.ANSWERS_SAY} {words[0]}"):
+            printed.refuse_words(options)
             return tool.do(options) or 0
     except OSError as error:
         told = error.strerror or str(error)

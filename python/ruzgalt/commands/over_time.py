@@ -2,10 +2,10 @@
 from argparse import ArgumentParser, Namespace
 from typing import Optional, Tuple
 
-from ruzgalt.answers import Answer, calendar, export, picks, unions
-from ruzgalt.commands import streams
+from ruzgalt.answers import Answer, calendar, picks, unions
+from ruzgalt.commands import printed
 from ruzgalt.commands.given import last, read, warn
-from ruzgalt.commands.words import look_of, words_of_looks, words_of_where
+from ruzgalt.commands.words import words_of_where
 from ruzgalt.errors import Misfit
 from ruzgalt.periods import pieces
 
@@ -31,15 +31,14 @@ def words_of_months(parser: ArgumentParser) -> None:
         "--less", metavar="ANSWER",
         help="takes from each sum what this answer comes to: a PICK, or a question, as rows,T,asof,3",
     )
-    words_of_looks(parser)
+    printed.words_of_tables(parser)
 
 
 def do_months(options: Namespace) -> None:
     wish = calendar.Wish(options.sum, options.by, options.each, options.start, options.end, options.where)
     answer, less = summed(options)
-    sums, look = calendar.sums(answer, wish, less), look_of(options)
-    look.refuse_strangers(sums.table)
-    streams.show_records(export.to_csv(look.of(sums.table)))
+    sums = calendar.sums(answer, wish, less)
+    printed.show(options, sums.table)
     if options.where and not sums.counted:
         warn("no record has the values of --where")
     if sums.rounded:
@@ -75,11 +74,9 @@ def summed(options: Namespace) -> Tuple[Answer, Optional[Answer]]:
 def words_of_coalesce(parser: ArgumentParser) -> None:
     parser.add_argument("column", nargs="*", metavar="COLUMN", help="a column whose values make the groups")
     parser.add_argument("--of", action="append", default=[], metavar="PICK", help="the answer, where it isn't the last")
-    words_of_looks(parser)
+    printed.words_of_tables(parser)
 
 
 def do_coalesce(options: Namespace) -> None:
     [answer] = last(read(options), options.of, 1)
-    table, look = unions.united(answer, options.column), look_of(options)
-    look.refuse_strangers(table)
-    streams.show_records(export.to_csv(look.of(table)))
+    printed.show(options, unions.united(answer, options.column))

@@ -1,7 +1,7 @@
 // Tables saved as CSV: as the program prints them, or for a spreadsheet, which runs what begins like a formula.
 
 // What is guarded, and by what, is as spreadsheets.py has it.
-const FORMULA = /^(?:[=+@\t\r\n\uff1d\uff0b\uff0d\uff20]|-(?!\d+(?:[.,]\d+)?$))/;
+const FORMULA = /^(?![+-]$)(?:[=+@\t\r\n\uff1d\uff0b\uff0d\uff20]|-(?!\d+(?:[.,]\d+)?$))/;
 const GUARD = "'", BYTE_ORDER_MARK = "\ufeff";
 const FORMS = [
   { name: "as the program prints them", mark: ",", end: "\n", isGuarded: false },
