@@ -97,10 +97,8 @@ impl fmt::Display for Name {
     ghost output = { λ name. Some name };
 
     fn fmt<W: fmt::Write>(&self, f: &mut fmt::Formatter<W>) -> fmt::Result {
-        match str::from_utf8(self.as_bytes()) {
-            Ok(text) => f.write_str(text),
-            Err(_) => unreachable!(),
-        }
+        // A name is ASCII.
+        f.write_str(unsafe { str::from_utf8_unchecked(self.as_bytes()) })
     }
 }
 

@@ -17,9 +17,8 @@ part_at-requires-clause-place c =
     let size = length-cut 0 c.self.inside.ends.items c.self.inside.bytes.items in
     omega (arith, c.requires, size, ap length c.self.view_is, ap length c.deref-2.ensures.value)
 
-pub unreachable-requires : goal.unreachable-requires
-unreachable-requires c =
-    c.in-Err.ensures.cases.0
+pub from_utf8_unchecked-requires : goal.from_utf8_unchecked-requires
+from_utf8_unchecked-requires c =
     (part-text c.self.inside.ends.items c.self.inside.bytes.items c.deref-2.result.now c.deref.result.now
     c.part_at.result.now c.args.place c.self.invariant c.deref-2.ensures.value c.deref.ensures.value
     c.part_at.ensures).1
@@ -30,4 +29,4 @@ returns-clause-short c =
     part-text c.self.inside.ends.items c.self.inside.bytes.items c.deref-2.result.now c.deref.result.now
     c.part_at.result.now c.args.place c.self.invariant c.deref-2.ensures.value c.deref.ensures.value
     c.part_at.ensures in
-    omega (arith, is.0, ap length c.in-Ok.ensures.cases.0)
+    omega (arith, is.0, ap length c.from_utf8_unchecked.ensures)
