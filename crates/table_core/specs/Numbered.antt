@@ -17,7 +17,7 @@ numbered used [] = []
 numbered used (d ∷ ds) = row_of (used + 1) d ∷ numbered (used + 1) ds
 
 -- drafts as rows with these ids
-abbrev pub named : List ℕ → List Draft → List Row
-named [] drafts = []
-named (id ∷ ids) [] = []
-named (id ∷ ids) (d ∷ ds) = row_of id d ∷ named ids ds
+abbrev pub with_ids : List ℕ → List Draft → List Row
+with_ids [] drafts = []
+with_ids (id ∷ ids) [] = []
+with_ids (id ∷ ids) (d ∷ ds) = row_of id d ∷ with_ids ids ds

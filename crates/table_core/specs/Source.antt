@@ -9,4 +9,4 @@ use Rattle.table_core.specs.declared.source.Source.TheVariants as source
 -- all rows that are shared
 abbrev pub rows_from : Source → List Row
 rows_from (source.Numbered drafts) = numbered 0 (arc_value drafts)
-rows_from (source.Named rows) = arc_value rows
+rows_from (source.WithIds rows) = arc_value rows

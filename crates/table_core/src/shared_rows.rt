@@ -8,7 +8,7 @@ ghost use Rattle.table_core.specs.Source.{rows_from};
 
 use crate::NoMemory;
 use crate::row_ref::RowRef;
-use crate::source::{NamedRows, Source};
+use crate::source::{RowsWithIds, Source};
 use period_core::Point;
 use row_core::RowList;
 use std::alloc::{AllocError, Global};
@@ -42,7 +42,7 @@ impl SharedRows {
         ensures { IfOk result (λ shared. shared ≡ rows) }
     {
         Ok(SharedRows {
-            source: Source::Named(Arc::new(alloc, NamedRows::of(alloc, rows)?)?),
+            source: Source::WithIds(Arc::new(alloc, RowsWithIds::of(alloc, rows)?)?),
             places: None,
         })
     }

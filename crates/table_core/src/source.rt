@@ -15,29 +15,29 @@ use std::sync::Arc;
 
 /// Rows that have ids of their own. Contracts see the list.
 #[derive(Debug, Drop)]
-pub(crate) struct NamedRows {
+pub(crate) struct RowsWithIds {
     ids: Vec<u64>,
     drafts: Drafts,
 }
 
-impl Model for NamedRows {
+impl Model for RowsWithIds {
     ghost use Rattle.std.specs.Prelude.{◌≡◌, List, length};
     ghost use Rattle.row_core.specs.declared.row.Row.{Row};
-    ghost use Rattle.table_core.specs.Numbered.{named};
+    ghost use Rattle.table_core.specs.Numbered.{with_ids};
 
     ghost Value = { List Row };
 
-    ghost view = { λ n. named n.ids.items n.drafts };
+    ghost view = { λ r. with_ids r.ids.items r.drafts };
 
-    ghost invariant = { λ n. length n.ids.items ≡ length n.drafts };
+    ghost invariant = { λ r. length r.ids.items ≡ length r.drafts };
 }
 
-impl NamedRows {
+impl RowsWithIds {
     /// Those of a list.
-    pub(crate) fn of(alloc: Global, list: RowList) -> Result<NamedRows, NoMemory>
+    pub(crate) fn of(alloc: Global, list: RowList) -> Result<RowsWithIds, NoMemory>
         ensures { IfOk result (λ rows. rows ≡ list) }
     {
-        let mut rows = NamedRows {
+        let mut rows = RowsWithIds {
             ids: Vec::new(alloc),
             drafts: Drafts::new(alloc),
         };
@@ -84,7 +84,7 @@ impl NamedRows {
 #[derive(Debug, Drop)]
 pub(crate) enum Source {
     Numbered(Arc<Drafts>),
-    Named(Arc<NamedRows>),
+    WithIds(Arc<RowsWithIds>),
 }
 
 impl Source {
@@ -94,7 +94,7 @@ impl Source {
     {
         match self {
             Source::Numbered(drafts) => Ok(Source::Numbered(Arc::try_clone(drafts)?)),
-            Source::Named(rows) => Ok(Source::Named(Arc::try_clone(rows)?)),
+            Source::WithIds(rows) => Ok(Source::WithIds(Arc::try_clone(rows)?)),
         }
     }
 
@@ -104,7 +104,7 @@ impl Source {
     {
         match self {
             Source::Numbered(drafts) => drafts.len(),
-            Source::Named(rows) => rows.len(),
+            Source::WithIds(rows) => rows.len(),
         }
     }
 
@@ -115,7 +115,7 @@ impl Source {
     {
         match self {
             Source::Numbered(drafts) => numbered_at(drafts, place),
-            Source::Named(rows) => rows.at(place),
+            Source::WithIds(rows) => rows.at(place),
         }
     }
 }

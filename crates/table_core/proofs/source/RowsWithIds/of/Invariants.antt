@@ -1,5 +1,5 @@
 use Rattle.std.proofs.Common.{◌≡◌}
-use Rattle.table_core.proofs.source.NamedRows.of.Given as goal
+use Rattle.table_core.proofs.source.RowsWithIds.of.Given as goal
 
 -- the rows so far
 abbrev pub invariant-loop-row : goal.invariant-loop-row
