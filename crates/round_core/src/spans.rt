@@ -1,10 +1,11 @@
 //! Items of one class, cut at an instant: half of the workers find the plateaus of what the items hold before it, and the
 //! others those of what they hold from it on. One worker cuts many items too, and finds the one after the other.
 
-ghost use Rattle.std.specs.Prelude.{◌<◌, ◌≤◌, IfOk, IfSome, length};
+ghost use Rattle.std.specs.Prelude.{◌<◌, ◌≤◌, IfOk, IfSome, None, Some, length};
 ghost use Rattle.std.specs.Thread.{IsSync};
 ghost use Rattle.dip_core.specs.Item.{item_limit};
 ghost use Rattle.grid_core.specs.Bundles.{ClassesRise};
+ghost use Rattle.share_core.specs.Ranges.{range};
 ghost use Rattle.work_core.specs.Limits.{worker_limit};
 ghost use Rattle.round_core.specs.Plateaus.{ArePlateaus};
 ghost use Rattle.round_core.specs.Spans.{AreOfOneClass, ArePlateausWithin};
@@ -113,8 +114,50 @@ pub(crate) fn plateaus_of_spans<R: Threads + Sync, G: Gate>(
     }
 }
 
-/// The plateaus of items of one class, cut at an instant: half of the workers find those before it, the others those from it
-/// on, and one finds both. They may be cut so often again.
+/// The plateaus of what items of one class hold before an instant.
+#[cycle(spans)]
+fn plateaus_before<R: Threads + Sync, G: Gate>(
+    crew: &Crew<'_, R, G>,
+    measure: Measure,
+    items: &[Item],
+    at: Point,
+    cuts: u32,
+) -> Result<Plateaus, NoMemory>
+    requires few { length items.now ≤ item_limit }
+    requires class { AreOfOneClass items.now }
+    ensures { IfOk result
+        (λ plateaus. ArePlateausWithin (range None (Some at)) measure items.now plateaus) }
+{
+    let span = Range {
+        from: None,
+        before: Some(at),
+    };
+    plateaus_within(crew, measure, items, &span, cuts)
+}
+
+/// The plateaus of what items of one class hold from an instant on.
+#[cycle(spans)]
+fn plateaus_from<R: Threads + Sync, G: Gate>(
+    crew: &Crew<'_, R, G>,
+    measure: Measure,
+    items: &[Item],
+    at: Point,
+    cuts: u32,
+) -> Result<Plateaus, NoMemory>
+    requires few { length items.now ≤ item_limit }
+    requires class { AreOfOneClass items.now }
+    ensures { IfOk result
+        (λ plateaus. ArePlateausWithin (range (Some at) None) measure items.now plateaus) }
+{
+    let span = Range {
+        from: Some(at),
+        before: None,
+    };
+    plateaus_within(crew, measure, items, &span, cuts)
+}
+
+/// The plateaus of items of one class, cut at an instant: where there are several workers, half of them find those before
+/// it, and the others those from it on. They may be cut so often again.
 #[cycle(spans)]
 fn plateaus_cut_at<R: Threads + Sync, G: Gate>(
     crew: &Crew<'_, R, G>,
@@ -127,47 +170,52 @@ fn plateaus_cut_at<R: Threads + Sync, G: Gate>(
     requires class { AreOfOneClass items.now }
     ensures { IfOk result (λ plateaus. ArePlateaus measure items.now plateaus) }
 {
-    let before = Range {
-        from: None,
-        before: Some(at),
-    };
-    let behind = Range {
-        from: Some(at),
-        before: None,
-    };
-    if crew.workers < 2 {
-        let early = plateaus_within(crew, measure, items, &before, cuts);
-        let late = plateaus_within(crew, measure, items, &behind, cuts);
-        return both_spliced(early, late);
+    if crew.workers >= 2 {
+        return plateaus_of_halves(crew, measure, items, at, cuts);
     }
-    let Crew {
-        rt,
-        alloc,
-        workers,
-        gate,
-        ..
-    } = *crew;
-    let few = workers / 2;
-    let others = workers - few;
+    let early = plateaus_before(crew, measure, items, at, cuts);
+    let late = plateaus_from(crew, measure, items, at, cuts);
+    both_spliced(early, late)
+}
+
+/// The same by several workers, half of them on either side of the instant.
+#[cycle(spans)]
+fn plateaus_of_halves<R: Threads + Sync, G: Gate>(
+    crew: &Crew<'_, R, G>,
+    measure: Measure,
+    items: &[Item],
+    at: Point,
+    cuts: u32,
+) -> Result<Plateaus, NoMemory>
+    requires workers { 2 ≤ crew.now.workers }
+    requires few { length items.now ≤ item_limit }
+    requires class { AreOfOneClass items.now }
+    ensures { IfOk result (λ plateaus. ArePlateaus measure items.now plateaus) }
+{
+    let (rt, alloc, gate) = (crew.rt, crew.alloc, crew.gate);
+    let few = crew.workers / 2;
+    let others = crew.workers - few;
     let (early, late) = join(
         rt,
         || -> Result<Plateaus, NoMemory>
             requires { IsSync R.row × IsSync G.row × (0 < few) × (few ≤ worker_limit)
                 × (length items.now ≤ item_limit) × AreOfOneClass items.now }
             ensures { IfOk result (λ plateaus.
-                ArePlateausWithin before measure items.entry.now plateaus) }
-        {
-            let crew = Crew::new(rt, alloc, few, gate);
-            plateaus_within(&crew, measure, items, &before, cuts)
-        },
+                ArePlateausWithin (range None (Some at)) measure items.entry.now plateaus) }
+        { plateaus_before(&Crew::new(rt, alloc, few, gate), measure, items, at, cuts) },
         || -> Result<Plateaus, NoMemory>
             requires { IsSync R.row × IsSync G.row × (0 < others) × (others ≤ worker_limit)
                 × (length items.now ≤ item_limit) × AreOfOneClass items.now }
             ensures { IfOk result (λ plateaus.
-                ArePlateausWithin behind measure items.entry.now plateaus) }
+                ArePlateausWithin (range (Some at) None) measure items.entry.now plateaus) }
         {
-            let crew = Crew::new(rt, alloc, others, gate);
-            plateaus_within(&crew, measure, items, &behind, cuts)
+            plateaus_from(
+                &Crew::new(rt, alloc, others, gate),
+                measure,
+                items,
+                at,
+                cuts,
+            )
         },
     );
     both_spliced(early, late)

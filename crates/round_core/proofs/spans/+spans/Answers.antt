@@ -19,12 +19,12 @@ plateaus_of_spans-plateaus_cut_at-requires-clause-class g t c κs within =
     (subst (λ (o : Option ℤ). IfSome o (λ at. (0 < c.args.cuts) × AreOfOneClass c.args.items.now)) c.in-Some.is
     c.in_ok-at.ensures).1
 
-pub plateaus_cut_at-returns-then-crew-lt2 : goal.plateaus_cut_at-returns-then-crew-lt2
-plateaus_cut_at-returns-then-crew-lt2 g t c =
-    c.both_spliced.ensures c.args.measure c.args.at c.args.items.now c.requires.class c.plateaus_within-early.ensures
-    c.plateaus_within-late.ensures
-
 pub plateaus_cut_at-returns : goal.plateaus_cut_at-returns
 plateaus_cut_at-returns g t c =
-    c.both_spliced-2.ensures c.args.measure c.args.at c.args.items.now c.requires.class c.join-early.ensures.first
+    c.both_spliced.ensures c.args.measure c.args.at c.args.items.now c.requires.class c.plateaus_before-early.ensures
+    c.plateaus_from-late.ensures
+
+pub plateaus_of_halves-returns : goal.plateaus_of_halves-returns
+plateaus_of_halves-returns g t c =
+    c.both_spliced.ensures c.args.measure c.args.at c.args.items.now c.requires.class c.join-early.ensures.first
     c.join-early.ensures.second
