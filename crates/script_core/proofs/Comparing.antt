@@ -38,6 +38,15 @@ pub sides-read : (number : ℕ) (h : History) (asof : Option ℕ) (tables : Comp
     → columns_refusal left.0 right.0 tables.on ≡ None → sides_told number h asof tables ≡ Ok (left, right)
 sides-read number h asof tables left right one other allowed = rw (one, other, allowed) refl
 
+-- both as they are shown
+pub compared-read : (number : ℕ) (h : History) (asof : Option ℕ) (tables : Compared) (left right : Bor (List Column) × List Row)
+    → IsShown number h asof tables.left (Ok left) → IsShown number h asof tables.right (Ok right)
+    → columns_refusal left.0.now right.0.now tables.on ≡ None
+    → sides_told number h asof tables ≡ Ok ((left.0.now, left.1), (right.0.now, right.1))
+compared-read number h asof tables left right one other allowed =
+    sides-read number h asof tables (left.0.now, left.1) (right.0.now, right.1)
+    (shown-read number h asof tables.left left one) (shown-read number h asof tables.right right other) allowed
+
 -- one, whose rows come to what is asked
 pub aggregated-read : (number : ℕ) (h : History) (asof : Option ℕ) (asked : Aggregate) (table : TableRows)
     → table_told number h asof asked.table ≡ Ok table → agg_refusal table.0 (agg_func asked.func) asked.by ≡ None

@@ -3,9 +3,8 @@ use Rattle.std.proofs.lemmas.Result.{err_from_is_err_and}
 use Rattle.command_core.specs.PairsIn.{compared_in, name_pairs_in}
 use Rattle.answer_core.specs.declared.answer.Answer.TheVariants as answer
 use Rattle.store_core.specs.Snapshots.{history}
-use Rattle.script_core.specs.Effects.{TableRows}
 use Rattle.script_core.specs.Ledgers.{commit_shown}
-use Rattle.script_core.proofs.Comparing.{shown-read, sides-read}
+use Rattle.script_core.proofs.Comparing.{compared-read}
 use Rattle.script_core.proofs.queries.anti_tables.Goals as goal
 
 pub returns-in_err-left_columns : goal.returns-in_err-left_columns
@@ -16,18 +15,13 @@ returns-in_err-left_columns g c =
 
 pub returns-in-Ok : goal.returns-in-Ok
 returns-in-Ok g c =
-    let number = c.args.number in
-    let h = history c.args.snapshot.now in
-    let asof = commit_shown c.args.snapshot.now in
-    let tables = compared_in c.args.tables in
-    let both = c.in_ok-left_columns in
-    let left : TableRows = (both.field-0.left_columns.now, both.field-0.left) in
-    let right : TableRows = (both.field-0.right_columns.now, both.field-0.right) in
-    let one = shown-read number h asof tables.left (both.field-0.left_columns, both.field-0.left) both.ensures.left in
-    let other = shown-read number h asof tables.right (both.field-0.right_columns, both.field-0.right) both.ensures.right in
+    let both = c.in_ok-left_columns.field-0 in
+    let read = c.in_ok-left_columns.ensures in
     let named : c.deref.result.now ≡ name_pairs_in c.args.tables.on = c.deref.ensures.value ∙ c.in_ok-on.ensures in
     let answered = rw named at c.in-Ok.ensures in (
-      (left, right),
-      sides-read number h asof tables left right one other answered.0,
+      ((both.left_columns.now, both.left), (both.right_columns.now, both.right)),
+      compared-read c.args.number (history c.args.snapshot.now) (commit_shown c.args.snapshot.now)
+          (compared_in c.args.tables) (both.left_columns, both.left) (both.right_columns, both.right) read.left
+          read.right answered.0,
       record { rows = c.in-Ok.rows; unmatched = answered.1; is = ap answer.Anti c.new.ensures },
     )
