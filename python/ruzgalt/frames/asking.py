@@ -8,7 +8,7 @@ import pandas as pd
 from ruzgalt.frames import divisions, questions
 from ruzgalt.frames.division import Division
 from ruzgalt.frames.divisions import Verdict
-from ruzgalt.frames.options import FLOAT, SUFFIXES, AsOf, Commit, Functions, Names, PairOfSuffixes, options_of
+from ruzgalt.frames.options import FLOAT, INNER, SUFFIXES, AsOf, Commit, Functions, Names, PairOfSuffixes, options_of
 from ruzgalt.frames.questions import Asked
 
 if TYPE_CHECKING:
@@ -166,7 +166,7 @@ class Asking:
         return questions.versions(self.asked(points_as=points_as), "fromto", name, first, behind)
 
     def join(self, left: str, right: str, on: Names = None, *, left_on: Names = None, right_on: Names = None,
-             suffixes: PairOfSuffixes = SUFFIXES, points_as: Optional[str] = None,
+             how: str = INNER, suffixes: PairOfSuffixes = SUFFIXES, points_as: Optional[str] = None,
              as_of: AsOf = None) -> pd.DataFrame:
         """The pairs of rows of two tables that are equal in the columns `on`, each for as long as both hold.
 
@@ -178,6 +178,9 @@ class Asking:
             Columns of both tables that are to be equal. Without any each row may meet each.
         left_on, right_on : name or list of names, optional
             The compared columns in place of `on`, where the two tables have different names for them.
+        how : str, default "inner"
+            inner has the pairs; left has the left rows too, each for as long as no right row meets it, with missing
+            cells in the right columns; right has the right rows so, and outer both.
         suffixes : pair of str or None, default ("_left", "_right")
             What is put behind names that are taken, of the left table and of the right one; None for nothing.
         points_as : str, optional
@@ -190,7 +193,8 @@ class Asking:
         -------
         DataFrame
             The period, left_id and right_id in int64, the left table's columns, then the right one's, the compared ones
-            once. Rows are by start, end and ids.
+            once. Rows are by start, end and ids. Of an unmatched row the other table's cells are missing, which dtypes
+            allow as of pandas.merge, and its id is NA, in Int64.
 
         Raises
         ------
@@ -212,8 +216,14 @@ class Asking:
         >>> store.join("pay", "lab", on="person")
                 from         to  left_id  right_id person  cents
         0 2024-03-01 2024-06-01        2         1  Grace   4800
+        >>> store.join("lab", "pay", on="person", how="left")
+                from         to  left_id  right_id person   cents
+        0 2024-02-01 2024-03-01        1      <NA>  Grace     NaN
+        1 2024-03-01 2024-06-01        1         2  Grace  4800.0
         """
-        asked = self.asked(as_of, left_on=left_on, right_on=right_on, suffixes=suffixes, points_as=points_as)
+        asked = self.asked(
+            as_of, left_on=left_on, right_on=right_on, how=how, suffixes=suffixes, points_as=points_as,
+        )
         return questions.join(asked, left, right, on)
 
     def anti(self, left: str, right: str, on: Names = None, *, left_on: Names = None, right_on: Names = None,

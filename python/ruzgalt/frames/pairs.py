@@ -19,7 +19,7 @@ from ruzgalt.frames.kinds import refuse_two_zones
 from ruzgalt.frames.named import column_of, names_of, place_of, refuse_twice, same, with_levels
 from ruzgalt.frames.options import Names, Options, compared
 from ruzgalt.frames.points import Form
-from ruzgalt.frames.sides import Side
+from ruzgalt.frames.sides import Period, Side
 from ruzgalt.frames.values import Values
 
 LABELS = ("left_label", "right_label")
@@ -64,10 +64,16 @@ def framed(frames: Sequence[Any], found: Found, both: Sequence[Side], on: Names,
         own += [(name, one.labels()) for name, one in zip(LABELS, taken)]
     kept = [one.period(period) for one, period in zip(taken, options.periods) if options.keep_periods]
     shared = list(dict.fromkeys(map(same, compared(on, options)[1] if on is not None else [])))
-    others = [one.others([*period, *shared]) for one, period in zip(taken, options.periods)]
-    others[0] += [shared_column(taken, name) for name in shared]
-    others[0].sort(key=lambda column: place_of(frames[0], column[0]))
+    others = columns_beside(taken, shared, options.periods)
     return answer.beside(own, [*kept, *others], [*(options.suffixes if kept else ()), *options.suffixes])
+
+
+def columns_beside(taken: Sequence[Taken], shared: Sequence[Any], left_out: Sequence[Period] = ((), ())) -> Any:
+    """The columns of both sides but for some, as their periods; the shared ones once, where the left frame has them."""
+    others = [one.others([*away, *shared]) for one, away in zip(taken, left_out)]
+    others[0] += [shared_column(taken, name) for name in shared]
+    others[0].sort(key=lambda column: place_of(taken[0].frame, column[0]))
+    return others
 
 
 def shared_column(taken: Sequence[Taken], name: Any) -> Column:

@@ -7,14 +7,16 @@ from typing import Any, Iterator, List, Sequence, Tuple
 import numpy as np
 import pandas as pd
 
-from ruzgalt.frames import answer, checks, diaries, doubts, groups, instants, measures, pairs, script, unmeant
+from ruzgalt.frames import (
+    answer, checks, diaries, doubts, groups, instants, measures, pairs, script, unmatched, unmeant,
+)
 from ruzgalt.frames.answer import Columns
 from ruzgalt.frames.arrays import Cells
 from ruzgalt.frames.book import Book
 from ruzgalt.frames.errors import Refused
 from ruzgalt.frames.kinds import Kind
 from ruzgalt.frames.measures import Measures
-from ruzgalt.frames.options import AsOf, Options, compared
+from ruzgalt.frames.options import INNER, AsOf, Options, compared
 from ruzgalt.frames.sides import Side
 from ruzgalt.frames.tables import Table, coded
 from ruzgalt.frames.values import Values
@@ -97,16 +99,21 @@ def versions(asked: Asked, word: str, name: str, first: Any, last: Any) -> Any:
 
 
 def join(asked: Asked, left: str, right: str, on: Any) -> Any:
-    one, other = asked.book.known(left), asked.book.known(right)
-    words = ["join", left, right, *on_of([one, other], on, asked.options)]
-    cells = asked.block(words, "ppii" + one.readers + other.readers)
-    own = one.period_cells(cells, asked.options.kind_of(one.period, one.kind, other.kind))
-    own += [("left_id", next(cells)), ("right_id", next(cells))]
-    sides = [one.cells(cells), other.cells(cells)]
-    shared = compared(on, asked.options)[1] if on is not None else []
-    sides[1] = [column for column in sides[1] if column[0] not in shared]
-    warn_of_pairs(asked, [one, other], on)
-    return answer.beside(own, sides, asked.options.suffixes)
+    one, other = tables = asked.book.known(left), asked.book.known(right)
+    words = ["join", left, right, *on_of(tables, on, asked.options)]
+    if asked.options.how == INNER:
+        cells = asked.block(words, "ppii" + one.readers + other.readers)
+        kind = asked.options.kind_of(one.period, one.kind, other.kind)
+        own = one.period_cells(cells, kind, other.form.is_open)
+        own += [(name, next(cells)) for name in unmatched.IDS]
+        sides = [one.cells(cells), other.cells(cells)]
+        shared = compared(on, asked.options)[1] if on is not None else []
+        sides[1] = [column for column in sides[1] if column[0] not in shared]
+        made = answer.beside(own, sides, asked.options.suffixes)
+    else:
+        made = unmatched.join(asked, tables, on)
+    warn_of_pairs(asked, tables, on)
+    return made
 
 
 def on_of(tables: Sequence[Table], on: Any, options: Options) -> List[str]:

@@ -160,10 +160,15 @@ class Table:
         """Cells of an answer as the column's frames have them."""
         return stand_ins.restored(column, cells, self.stand_in(column.name))
 
-    def period_cells(self, cells: Iterator[Cells], kind: Kind) -> List[Tuple[Any, Any]]:
-        """The next two columns of an answer as the period, of points of that kind."""
+    def period_cells(self, cells: Iterator[Cells], kind: Kind, is_open: bool = False) -> List[Tuple[Any, Any]]:
+        """The next two columns of an answer as the period, of points of that kind.
+
+        is_open: an end may be missing though this table has none that is, as beside another one.
+        """
         start, end = next(cells), next(cells)
-        return intervals.columns_of(self.period, points.series_of(start, kind), self.form.restored_ends(end, kind))
+        # An interval has no missing end.
+        form = self.form if intervals.are_in(self.period) else replace(self.form, is_open=self.form.is_open or is_open)
+        return intervals.columns_of(self.period, points.series_of(start, kind), form.restored_ends(end, kind))
 
 
 def side_of(frame: Any, names: Sequence[Any], options: Options) -> Side:

@@ -18,6 +18,7 @@ FIRSTS = [datetime.datetime(2024, 1, 1), datetime.datetime(2262, 4, 1)]
 FIRST = FIRSTS[0]
 OPEN, MOST = 40, 10
 KINDS = ("ns", "D", "S", "date")
+HOWS = ["inner", "inner", "left", "right", "outer"]
 SUFFIXES = [("_left", "_right"), ("", "_2"), (None, "_r"), ("_l", None), (None, None)]
 A_FRAME = pd.DataFrame({"from": [pd.Timestamp("2024-01-01")], "to": [pd.Timestamp("2024-01-02")], "a": [1]})
 NO_FRAMES = [None, [1], {"a": [1]}, A_FRAME["a"], "pay.csv", b"x", 5, A_FRAME.to_numpy()]

@@ -117,15 +117,20 @@ def versions(table, first, last):
     return apart(["row_id", *table.period, "sys_from", "sys_to", *table.names]), cells
 
 
-def join(sides, pairs, shared, suffixes):
+def join(sides, pairs, shared, suffixes, how="inner"):
     (left, lefts), (right, rights) = sides
     found = []
     for one in lefts:
         for other in rights:
             if meet(one, other) and all(one["values"][a] == other["values"][b] for a, b in pairs):
                 start, end = max(one["start"], other["start"]), min(one["end"], other["end"])
-                found.append((start, end, one["id"], other["id"], one, other))
-    found.sort(key=lambda pair: pair[:4])
+                found.append((start, end, one, other))
+    if how in ("left", "outer"):
+        found += [(*part, one, None) for one in lefts for part in free_parts(one, rights, pairs)]
+    if how in ("right", "outer"):
+        turned = [(b, a) for a, b in pairs]
+        found += [(*part, None, other) for other in rights for part in free_parts(other, lefts, turned)]
+    found.sort(key=lambda pair: (*pair[:2], *(10**9 if row is None else row["id"] for row in pair[2:])))
     rest = [name for name in right.names if name not in shared]
     given = [*((name, None) for name in (*left.period, "left_id", "right_id")),
              *((name, suffixes[0]) for name in left.names), *((name, suffixes[1]) for name in rest)]
@@ -133,18 +138,30 @@ def join(sides, pairs, shared, suffixes):
     names = [f"{name}{suffix}" if suffix and told.count(name) > 1 else name for name, suffix in given]
     if len(set(names)) < len(names):
         return REFUSED
-    return names, [[*pair[:4], *left.cells(pair[4]), *(pair[5]["values"][name] for name in rest)] for pair in found]
+    return names, [[*pair[:2], *(row and row["id"] for row in pair[2:]), *cells_beside(left, rest, shared, *pair[2:])]
+                   for pair in found]
+
+
+def cells_beside(left, rest, shared, one, other):
+    """The left row's cells, of which the shared ones are the other's where there is none, and the other row's."""
+    mine = [one["values"][name] if one else other["values"][name] if name in shared else None for name in left.names]
+    return [*mine, *(other and other["values"][name] for name in rest)]
+
+
+def free_parts(one, others, pairs):
+    """The times of a row in which none of the others holds that is equal in the pairs of columns."""
+    free = [(one["start"], one["end"])]
+    for other in others:
+        if all(one["values"][a] == other["values"][b] for a, b in pairs):
+            free = [part for own in free for part in without(own, (other["start"], other["end"]))]
+    return sorted(free)
 
 
 def anti(sides, pairs):
     (left, lefts), (_, rights) = sides
     found = []
     for one in lefts:
-        free = [(one["start"], one["end"])]
-        for other in rights:
-            if all(one["values"][a] == other["values"][b] for a, b in pairs):
-                free = [part for own in free for part in without(own, (other["start"], other["end"]))]
-        found += [[one["id"], start, end, *left.cells(one)] for start, end in sorted(free)]
+        found += [[one["id"], *part, *left.cells(one)] for part in free_parts(one, rights, pairs)]
     return apart(["row_id", *left.period, *left.names]), found
 
 

@@ -148,7 +148,8 @@ class Stores(stateful.RuleBasedStateMachine):
 
     @staticmethod
     def cell(cell):
-        return None if cell is pd.NA else cell
+        """A missing one is None; a whole number beside such is a float, which is equal to it."""
+        return None if cell is pd.NA or cell != cell else cell
 
     @precondition(lambda self: self.forms)
     @rule(data=DATA, has_day=st.booleans())
@@ -174,8 +175,8 @@ class Stores(stateful.RuleBasedStateMachine):
                    plain_store.versions(table, first, first + more - 1) if more else REFUSED)
 
     @precondition(lambda self: self.forms)
-    @rule(data=DATA, suffixes=st.sampled_from(hostile.SUFFIXES))
-    def joins(self, data, suffixes):
+    @rule(data=DATA, suffixes=st.sampled_from(hostile.SUFFIXES), how=st.sampled_from(hostile.HOWS))
+    def joins(self, data, suffixes, how):
         (left, one), (right, other) = self.some_table(data), self.some_table(data)
         as_of = self.as_of(data)
         alike = [(a, b) for a in one.names for b in other.names if one.kinds[a] == other.kinds[b]]
@@ -184,8 +185,9 @@ class Stores(stateful.RuleBasedStateMachine):
         words = {"on": [a for a, _ in pairs]} if is_on else {"left_on": [a for a, _ in pairs],
                                                              "right_on": [b for _, b in pairs]}
         sides = [(form.plain, self.shown(name, as_of)) for name, form in ((left, one), (right, other))]
-        wanted = plain_store.join(sides, pairs, [b for _, b in pairs] if is_on else [], suffixes)
-        self.is_as(one, lambda: self.store.join(left, right, suffixes=suffixes, as_of=as_of, **words), wanted, 0)
+        wanted = plain_store.join(sides, pairs, [b for _, b in pairs] if is_on else [], suffixes, how)
+        self.is_as(one, lambda: self.store.join(left, right, suffixes=suffixes, as_of=as_of, how=how, **words), wanted,
+                   0)
         self.is_as(one, lambda: self.store.anti(left, right, as_of=as_of, **words), plain_store.anti(sides, pairs))
 
     @precondition(lambda self: self.forms)
@@ -229,6 +231,7 @@ class Stores(stateful.RuleBasedStateMachine):
             "as_of": hostile.NO_COMMITS, "points_as": hostile.NO_KINDS, "on": hostile.NO_NAMES, "by": hostile.NO_NAMES,
             "suffixes": hostile.NO_SUFFIXES, "point": hostile.NO_POINTS, "first": hostile.NO_COMMITS[:4],
             "left": ["T", "no_such", 5, None, ["t"]], "function": ["summ", None, 5, ["sum"]],
+            "how": ["Left", "cross", None, 1, ["left"]],
         }
         option = data.draw(st.sampled_from(sorted(given)))
         told = data.draw(st.sampled_from(given[option]))
@@ -237,7 +240,7 @@ class Stores(stateful.RuleBasedStateMachine):
             "on": lambda: store.join(name, name, on=told), "by": lambda: store.agg(name, "count", by=told),
             "suffixes": lambda: store.join(name, name, suffixes=told), "point": lambda: store.at(name, told),
             "first": lambda: store.between(name, told, 9), "left": lambda: store.anti(told, name),
-            "function": lambda: store.agg(name, told, form.names[0]),
+            "function": lambda: store.agg(name, told, form.names[0]), "how": lambda: store.join(name, name, how=told),
         }
         self.refuses(ask[option])
 
