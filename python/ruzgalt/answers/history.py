@@ -32,9 +32,11 @@ def of_table(
     lines = {one.commits: one.place for one in found if not one.refusal and one.command.word in CHANGES}
     entered = [] if days is None else [Column("entered", Kind.POINT)]
     columns = unique([*ints("commit"), Column("place", Kind.TEXT), *entered, *CHANGE, *schema.columns])
+    found = list(changes_of(schema, replay.versions[name], wanted))
+    day_of_commit = entered_on(days or [], (commit for commit, _ in found))
     records: List[List[Optional[str]]] = []
-    for commit, change in changes_of(schema, replay.versions[name], wanted):
-        day = [] if days is None else [day_of(days, commit)]
+    for commit, change in found:
+        day = [] if days is None else [day_of_commit[commit]]
         records.append([str(commit), lines[commit], *day, *change])
     return Table(columns, records)
 
@@ -106,6 +108,17 @@ def open_rows(replay: Replay, name: str) -> Iterator[List[str]]:
 def day_of(days: Sequence[Tuple[str, int]], commit: int) -> Optional[str]:
     """The first day on which the commit was there."""
     return next((day for day, newest in days if commit <= newest), None)
+
+
+def entered_on(days: Days, commits: Iterable[int]) -> Dict[int, Optional[str]]:
+    """Of commits in their order the first day on which each was there."""
+    found: Dict[int, Optional[str]] = {}
+    place = 0
+    for commit in commits:
+        while place < len(days) and days[place][1] < commit:
+            place += 1
+        found[commit] = days[place][0] if place < len(days) else None
+    return found
 
 
 def retroactive(table: Table) -> Table:

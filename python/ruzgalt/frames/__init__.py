@@ -43,7 +43,7 @@ A module stands on those above it:
     diaries                 labels and days of commits
     keys, changes, unmeant  why a key refuses; what a change is; what may not be meant by it
     book                    what a store holds at one moment
-    unmatched               a join of it with rows that meet none
+    unmatched, past         a join of it with rows that meet none; what its commits changed
     questions, divisions    what is asked of it
     asking                  the questions of a store
     opening, batches        a script as a store; changes that are tried together

@@ -1,7 +1,7 @@
 """The questions of a store. A column whose name the answer has for itself has `_` behind it."""
 from __future__ import annotations
 
-from typing import TYPE_CHECKING, Any, Optional, Union
+from typing import TYPE_CHECKING, Any, Mapping, Optional, Union
 
 import pandas as pd
 
@@ -460,3 +460,89 @@ class Asking:
         [['Grace', 'Ada'], ['Ada'], ['Ada']]
         """
         return self.asked().diary(after)
+
+    def history(self, name: str, where: Optional[Mapping[str, Any]] = None, *, first: AsOf = None, last: AsOf = None,
+                retroactive: bool = False, points_as: Optional[str] = None) -> pd.DataFrame:
+        """What each commit changed of a table, or of some facts: the time for which values hold since, or no more.
+
+        Parameters
+        ----------
+        name : str
+            The table.
+        where : dict, optional
+            Columns with the values that rows are to have.
+        first, last : int, str, date, datetime, Timestamp or Period, optional
+            The commits that are wanted, where not all: from the one to the other, as as_of= takes them.
+        retroactive : bool, default False
+            Only what a commit changed of the time before its day.
+        points_as : str, optional
+            ns, us, ms, s, D, S, date or datetime: the answer's points, where not of the table's kind.
+
+        Returns
+        -------
+        DataFrame
+            commit in int64; where commits have days, entered, the first day on which the commit was there; change, "-"
+            for what holds no more and "+" for what holds since; the period; the table's columns. Rows are by commit,
+            values and start, as of `tools/answers history`.
+
+        Raises
+        ------
+        Refused
+            Where the table, a column or a commit isn't there, or an option is none that can be taken.
+        Stopped
+            Where the program ended without all answers.
+
+        Warns
+        -----
+        Doubt
+            Where no row ever had the values of `where`, or retroactive leaves out commits without a day.
+
+        Examples
+        --------
+        >>> store.history("pay", where={"person": "Ada"})
+           commit change       from         to person  cents
+        0       2      + 2024-01-01 2025-01-01    Ada   5000
+        1       3      - 2024-07-01 2025-01-01    Ada   5000
+        2       3      + 2024-07-01 2025-01-01    Ada   5400
+        """
+        return self.asked(points_as=points_as).history(name, where, (first, last), retroactive)
+
+    def changed(self, name: str, before: Commit, after: AsOf = None, *,
+                points_as: Optional[str] = None) -> pd.DataFrame:
+        """What is really different between a table's rows of two commits: the time for which values hold in one alone.
+
+        Parameters
+        ----------
+        name : str
+            The table.
+        before, after : int, str, date, datetime, Timestamp or Period
+            The commits, as as_of= takes them; `after` may be left out for the newest.
+        points_as : str, optional
+            ns, us, ms, s, D, S, date or datetime: the answer's points, where not of the table's kind.
+
+        Returns
+        -------
+        DataFrame
+            change, "-" for what holds before alone and "+" for what holds after alone; the period; the table's columns.
+            Rows that were only cut are no change. Rows are by values and start, as of `tools/answers changed`.
+
+        Raises
+        ------
+        Refused
+            Where the table or a commit isn't there, or an option is none that can be taken.
+        Stopped
+            Where the program ended without all answers.
+
+        Warns
+        -----
+        Doubt
+            Where the first commit is the later one.
+
+        Examples
+        --------
+        >>> store.changed("pay", 2)
+          change       from         to person  cents
+        0      - 2024-07-01 2025-01-01    Ada   5000
+        1      + 2024-07-01 2025-01-01    Ada   5400
+        """
+        return self.asked(points_as=points_as).changed(name, before, after)

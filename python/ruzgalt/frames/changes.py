@@ -9,7 +9,7 @@ import numpy as np
 from ruzgalt.frames import checks, doubts, points, script, values
 from ruzgalt.frames.arrays import NO_INTS, Ints
 from ruzgalt.frames.ask import REMEDIES
-from ruzgalt.frames.diaries import NO_NOTE, Note
+from ruzgalt.frames.diaries import COLUMNS, NO_NOTE, Note
 from ruzgalt.frames.errors import Refused
 from ruzgalt.frames.named import names_of, same
 from ruzgalt.frames.options import Names, Options
@@ -136,7 +136,9 @@ def updating(table: Table, frame: Any, where: Names) -> Change:
 
 
 def warn_of_ends(table: Table, side: Side) -> None:
-    """Warns of ends that look like last days, or the other way round."""
+    """Warns of ends that look like last days, or the other way round; those of diary() are none, if of each day."""
+    if tuple(table.columns) == COLUMNS:
+        return
     key = [one for one in side.columns if same(one.name) in table.key]
     doubts.of_ends(side, key, table.period[-1], table.form.has_last_days)
 

@@ -163,6 +163,10 @@ class Diary:
         more = f" and {len(self.labels) - LISTED} more" if len(self.labels) > LISTED else ""
         return f"there are {', '.join(map(checks.shown, newest))}{more}; diary() lists them"
 
+    def days(self) -> history.Days:
+        """The days, each with the newest commit from then on, as the tools have them of a table."""
+        return list(zip(points.texts_of(np.array(self.seconds, np.int64)), self.commits))
+
     def frame(self, after: int) -> pd.DataFrame:
         """The rows of commits behind this one, as Store.diary has them."""
         rows = [row for row in self.rows() if row.commit > after]

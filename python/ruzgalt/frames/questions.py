@@ -8,7 +8,7 @@ import numpy as np
 import pandas as pd
 
 from ruzgalt.frames import (
-    answer, checks, diaries, doubts, groups, instants, measures, pairs, script, unmatched, unmeant,
+    answer, checks, diaries, doubts, groups, instants, measures, pairs, past, script, unmatched, unmeant,
 )
 from ruzgalt.frames.answer import Columns
 from ruzgalt.frames.arrays import Cells
@@ -38,9 +38,26 @@ class Asked:
     def suffix(self) -> List[str]:
         return [] if self.as_of is None else ["asof", commit("as_of", self.as_of, self.book)]
 
+    def history(self, name: str, where: Any, bounds: Tuple[AsOf, AsOf], is_retroactive: Any) -> Any:
+        """What the commits changed that stand from one to another, where not all. Raises Refused."""
+        first, last = (self.commit(*one) for one in zip(("first", "last"), bounds, (0, len(self.book.commands))))
+        if first > last:
+            raise Refused("BadPeriod", f"{first} to {last}: the first commit comes before the last")
+        flag = checks.flag("retroactive", is_retroactive)
+        return past.history_of(self, name, where, range(first, last + 1), flag)
+
+    def changed(self, name: str, before: AsOf, after: AsOf) -> Any:
+        """What is different between two commits, of which the second may be the newest. Raises Refused."""
+        newest = len(self.book.commands)
+        numbers = commit("before", before, self.book), str(self.commit("after", after, newest))
+        return past.changed(self, name, numbers)
+
+    def commit(self, option: str, given: AsOf, otherwise: int) -> int:
+        return otherwise if given is None else int(commit(option, given, self.book))
+
     def diary(self, after: AsOf) -> Any:
         """The rows of the diary of commits behind one, where not of all."""
-        return self.book.diary.frame(0 if after is None else int(commit("after", after, self.book)))
+        return self.book.diary.frame(self.commit("after", after, 0))
 
     def block(self, words: Sequence[str], kinds: str) -> Iterator[Cells]:
         return iter(self.book.answer(script.command(*words, *self.suffix)).block(kinds))

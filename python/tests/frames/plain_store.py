@@ -3,6 +3,7 @@
 Nothing here is of the package. What a call answers is a list of names and a list of rows; REFUSED is what must be so.
 """
 import copy
+from collections import Counter
 
 REFUSED = "refused"
 
@@ -115,6 +116,16 @@ def versions(table, first, last):
     seen = [row for row in table.rows if row["made"] <= last and (row["closed"] is None or row["closed"] > first)]
     cells = [[row["id"], row["start"], row["end"], row["made"], row["closed"], *table.cells(row)] for row in seen]
     return apart(["row_id", *table.period, "sys_from", "sys_to", *table.names]), cells
+
+
+def changed(table, before, after):
+    """How often a row of these values holds on a day more ("+") or less ("-") than before."""
+    more = Counter()
+    for sign, commit in ((-1, before), (1, after)):
+        for row in table.shown(commit):
+            for day in range(row["start"], row["end"]):
+                more[day, *table.cells(row)] += sign
+    return Counter({("+" if count > 0 else "-", *key): abs(count) for key, count in more.items() if count})
 
 
 def join(sides, pairs, shared, suffixes, how="inner"):

@@ -7,6 +7,7 @@ import copy
 import importlib.util
 import os
 import unittest
+from collections import Counter
 
 import pandas as pd
 
@@ -173,6 +174,29 @@ class Stores(stateful.RuleBasedStateMachine):
                    plain_store.versions(table, first, first + more))
         self.is_as(form, lambda: self.store.fromto(name, first, first + more) if more else self.store.rows(name, -1),
                    plain_store.versions(table, first, first + more - 1) if more else REFUSED)
+
+    def days_of(self, form, got, names):
+        """How often each day of a change stands in a frame of changes, which has these names."""
+        assert list(map(repr, got)) == list(map(repr, plain_store.apart(names))), list(got)
+        place, found = names.index("change"), Counter()
+        for row in got.itertuples(index=False, name=None):
+            for day in range(hostile.day(row[place + 1]), form.end(row[place + 2])):
+                found[row[place], day, *row[place + 3:]] += 1
+        return found
+
+    @precondition(lambda self: self.forms)
+    @rule(data=DATA)
+    def lists_changes(self, data):
+        name, form = self.some_table(data)
+        before, after = (data.draw(st.integers(0, self.plain.newest)) for _ in "ab")
+        names, table = ["change", *form.plain.period, *form.names], self.plain.tables[name]
+        got = self.store.changed(name, before, after)
+        assert self.days_of(form, got, names) == plain_store.changed(table, before, after), got
+        got = self.store.history(name)
+        for commit in range(1, self.plain.newest + 1):
+            mine = self.days_of(form, got[got.iloc[:, 0] == commit], ["commit", *names])
+            assert mine == plain_store.changed(table, commit - 1, commit), (commit, got)
+        assert got.iloc[:, 0].is_monotonic_increasing
 
     @precondition(lambda self: self.forms)
     @rule(data=DATA, suffixes=st.sampled_from(hostile.SUFFIXES), how=st.sampled_from(hostile.HOWS))

@@ -1,0 +1,112 @@
+"""What commits changed of a table, and what is different between two of them: by the code of tools/answers."""
+from __future__ import annotations
+
+from typing import TYPE_CHECKING, Any, Iterable, Iterator, Optional, Sequence, Tuple
+
+import numpy as np
+
+from ruzgalt.answers import changes, history
+from ruzgalt.checking.replay import Row, Version
+from ruzgalt.frames import points, script
+from ruzgalt.frames.answer import Column, Columns
+from ruzgalt.frames.arrays import Cells, Ints, of_objects
+from ruzgalt.frames.changes import condition
+from ruzgalt.frames.errors import Refused, doubt
+from ruzgalt.frames.kinds import Kind
+from ruzgalt.frames.tables import Table
+from ruzgalt.script import forms, schemas
+
+if TYPE_CHECKING:
+    from ruzgalt.frames.questions import Asked
+
+# The columns of a history before those of a change.
+OWN = [
+    *schemas.ints("commit"), schemas.Column("place", schemas.Kind.TEXT),
+    schemas.Column("entered", schemas.Kind.POINT),
+]
+Record = Sequence[Optional[str]]
+
+
+def history_of(asked: Asked, name: str, where: Any, commits: range, is_retroactive: bool) -> Any:
+    """What each of these commits changed of the rows that have some values. Raises Refused."""
+    table, days = asked.book.known(name), asked.book.diary.days()
+    wanted = condition(table, where)[1:]
+    if is_retroactive and not days:
+        raise Refused("NoDay", "retroactive=True: no commit has a day; day= of a change gives one")
+    places = [(table.place(word), value) for word, value in zip(wanted[::2], wanted[1::2])]
+    found = list(history.changes_of(schema_of(table), list(versions_of(asked, table)), places))
+    entered = history.entered_on(days, (commit for commit, _ in found))
+    whole = schemas.Table([*OWN, *history.CHANGE], [[str(one), "", entered[one], *change] for one, change in found])
+    if wanted and not found:
+        doubt(f"history of {name}: no row ever had what where= has")
+    if is_retroactive:
+        for reason in history.doubts_of(whole, days, len(asked.book.commands)):
+            doubt(f"history of {name}: {reason.replace('--retroactive', 'retroactive=True')}")
+        whole = history.retroactive(whole)
+    kept = history.of_commits(whole, commits).records
+    own = [("commit", np.array([one[0] for one in kept], np.int64))]
+    if days:
+        kind = asked.options.kind_of(table.period, table.kind)
+        own.append(("entered", days_of([one[history.ENTERED] for one in kept], kind)))
+    return frame_of(asked, table, own, [one[len(OWN):] for one in kept])
+
+
+def versions_of(asked: Asked, table: Table) -> Iterator[Version]:
+    """All versions of the table's rows, as the tools know them when they have done all changes again."""
+    question = script.command("between", table.name, "0", str(len(asked.book.commands)))
+    ids, start, end, made, closed, *cells = asked.book.answer(question).block("ippcc" + table.readers)
+    rows = rows_of(start, end, cells)
+    for row_id, row, first, last in zip(ids.tolist(), rows, made.tolist(), closed.tolist()):
+        version = Version(row_id, Row(*row, 0), first)
+        version.closed = None if last < 0 else last
+        yield version
+
+
+def rows_of(start: Ints, end: Ints, cells: Sequence[Cells]) -> Iterator[changes.Held]:
+    """Rows of an answer in texts, as they stand in it."""
+    texts: Iterable[Tuple[str, ...]] = [()] * len(start)
+    if cells:
+        texts = zip(*(map(str, one.tolist()) for one in cells))
+    return zip(points.texts_of(start), points.texts_of(end), texts)
+
+
+def changed(asked: Asked, name: str, commits: Tuple[str, str]) -> Any:
+    """What is different between a table's rows of two commits."""
+    table, (before, after) = asked.book.known(name), commits
+    if int(before) > int(after):
+        doubt(f"changed of {name}: commit {before} is later than {after}: `-` is what the later one has alone")
+    output, _ = asked.book.run(*(script.command("rows", name, "asof", commit) for commit in commits))
+    blocks = [output.block("-pp" + table.readers) for _ in commits]
+    held = [list(rows_of(start, end, cells)) for start, end, *cells in blocks]
+    found = sorted(changes.changes(*held), key=changes.order(list(schema_of(table).columns), False))
+    return frame_of(asked, table, [], found)
+
+
+def schema_of(table: Table) -> schemas.Schema:
+    columns = (schemas.Column(table.words[name], schemas.Kind(one.kind)) for name, one in table.columns.items())
+    return schemas.Schema(table.name, tuple(columns))
+
+
+def frame_of(asked: Asked, table: Table, own: Iterable[Column], found: Sequence[Record]) -> Any:
+    """The frame of changes, behind columns of their own."""
+    signs, start, end, *values = list(zip(*found)) or [()] * (len(history.CHANGE) + len(table.columns))
+    columns = Columns(own)
+    columns.add([("change", of_objects(signs))])
+    times = iter((seconds_of(start), seconds_of(end)))
+    columns.add(table.period_cells(times, asked.options.kind_of(table.period, table.kind)))
+    kinds = [one.kind for one in table.columns.values()]
+    cells = (np.array(one, np.int64) if kind == "int" else of_objects(one) for one, kind in zip(values, kinds))
+    columns.add(table.cells(cells))
+    return columns.of_table()
+
+
+def days_of(days: Sequence[Optional[str]], kind: Kind) -> Any:
+    """The days of commits, of which some have none, as points of this kind, or of period[S] where it hasn't all."""
+    known = seconds_of([day for day in days if day is not None])
+    seconds = np.full(len(days), points.NO_END)
+    seconds[[day is not None for day in days]] = known
+    return points.series_of(seconds, kind if points.has_all(kind, known) else Kind("S"), is_open=True)
+
+
+def seconds_of(texts: Sequence[Any]) -> Ints:
+    return points.FIRST + np.fromiter(map(forms.seconds, texts), np.int64, len(texts))
