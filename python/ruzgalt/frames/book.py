@@ -47,8 +47,8 @@ class Book:
 
     def known(self, name: Any) -> Table:
         if not isinstance(name, str) or name not in self.tables:
-            told = ", ".join(self.tables) or "there is none"
-            raise Refused("NoTable", f"{checks.shown(name)} is no table that is there: {told}")
+            there = ", ".join(self.tables) or "there is none"
+            raise Refused("NoTable", f"{checks.shown(name)} is no table that is there: {there}")
         return self.tables[name]
 
     def behind(self, change: Change, closed: int = 1) -> Book:
@@ -79,9 +79,9 @@ class Book:
     def answer(self, question: Command) -> Output:
         """The answer to a question. Raises as run does, and Refused where it is refused itself."""
         output, _ = self.run(question)
-        place, told = output.place, output.record()
-        if told[0] == "error":
-            raise ask.refusal(question, told)
+        place, record = output.place, output.record()
+        if record[0] == "error":
+            raise ask.refusal(question, record)
         output.place = place
         return output
 
@@ -100,22 +100,23 @@ class Book:
         is_of_table = np.fromiter((one.fields[1] == name for one in self.commands), bool, len(self.commands))
         return int(self.counts[is_of_table, 0].sum()) + added <= MOST
 
-    def refusal(self, place: int, told: Sequence[str]) -> Exception:
+    def refusal(self, place: int, record: Sequence[str]) -> Exception:
         """Of the change at this place."""
         command = self.commands[place]
         if place < len(self.counts):
-            return self.other_than_answered(place, told[-1])
-        if "KeyOverlap" not in told:
-            return ask.refusal(command, told)
+            return self.other_than_answered(place, record[-1])
+        if "KeyOverlap" not in record:
+            return ask.refusal(command, record)
         table = self.known(command.fields[1])
         before = replace(self, commands=self.commands[:place])
         there = before.answer(script.command("rows", table.name)).block("ipp" + table.readers)
-        return keys.overlap(table, command, there) or ask.refusal(command, told)
+        return keys.overlap(table, command, there) or ask.refusal(command, record)
 
-    def other_than_answered(self, place: int, told: str) -> Stopped:
+    def other_than_answered(self, place: int, answered: str) -> Stopped:
         """Of a commit that was accepted, and of which the program says something else."""
         wanted = "{} added, {} closed".format(*self.counts[place])
-        return Stopped(f"commit {place + 1}, {self.commands[place].word}: {wanted}, and now the program says: {told}")
+        command = f"commit {place + 1}, {self.commands[place].word}"
+        return Stopped(f"{command}: {wanted}, and now the program says: {answered}")
 
 
 def counts_of(output: Output) -> Ints:
@@ -133,15 +134,15 @@ def accepted(book: Book, asked: Sequence[Change]) -> Tuple[Book, List[Changed], 
         return book, [], []
     counts, rows = done_here(book, asked) or done_by_run(book, asked)
     changed: List[Changed] = []
-    told: List[str] = []
+    doubts: List[str] = []
     for change in asked:
         first, last = len(book.commands), len(book.commands) + len(change.commands)
         did = Changed(last, *map(int, counts[first:last].sum(axis=0)))
         behind = book.behind(change, did.closed)
-        told += unmeant.doubts_of(change, behind.tables[change.name], book.commands, counts[:last])
+        doubts += unmeant.doubts_of(change, behind.tables[change.name], book.commands, counts[:last])
         changed.append(did)
         book = behind
-    return replace(book, counts=counts, rows=rows), changed, told
+    return replace(book, counts=counts, rows=rows), changed, doubts
 
 
 def done_by_run(book: Book, asked: Sequence[Change]) -> Tuple[Ints, Mapping[str, Standing]]:

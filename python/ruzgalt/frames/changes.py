@@ -89,8 +89,8 @@ class Change:
 def making(name: Any, frame: Any, key: Names, options: Options) -> Change:
     """A table of a frame's columns, and its rows."""
     if not isinstance(name, str) or not forms.is_name(name):
-        told = "it is a word of the language" if name in forms.RESERVED else REMEDIES["BadName"]
-        raise Refused("BadName", f"{checks.shown(name)} is no name of a table: {told}")
+        reason = "it is a word of the language" if name in forms.RESERVED else REMEDIES["BadName"]
+        raise Refused("BadName", f"{checks.shown(name)} is no name of a table: {reason}")
     names = [column for column in names_of(frame) if column not in options.period]
     side = side_of(frame, names, options)
     doubts.of_decimals(options.decimals, frame)
@@ -109,15 +109,15 @@ def loading(table: Table, frame: Any) -> Change:
 
 def changing(word: str, table: Table, portion: Ints, fields: Sequence[str]) -> Change:
     """An update, or a delete."""
-    told = script.command(word, table.name, *map(points.text_of, portion), *fields)
-    return Change(table.name, [told], portion=portion)
+    made = script.command(word, table.name, *map(points.text_of, portion), *fields)
+    return Change(table.name, [made], portion=portion)
 
 
 def updating(table: Table, frame: Any, where: Names) -> Change:
     """An update for each row of a frame, of the rows that are equal in the columns `where`."""
     equal = checks.names("where", where) or table.key
     if not equal:
-        raise Refused("BadCommand", f"{table.name} has no key: where= names the columns that tell which rows are meant")
+        raise Refused("BadCommand", f"{table.name} has no key: where= names the columns by which rows are found")
     for name in equal:
         table.column(name)
     own = [*table.period, *equal]

@@ -67,11 +67,11 @@ class Verdict:
 def dip(asked: Asked, name: str) -> Division[Any]:
     table = asked.book.known(name)
     output = asked.book.answer(script.command("dip", name, *asked.suffix))
-    told = output.record()
-    lists = [division.ids_of(output) for _ in range(int(told[2]))]
+    record = output.record()
+    lists = [division.ids_of(output) for _ in range(int(record[2]))]
     parts = np.repeat(np.arange(len(lists)), [len(one) for one in lists])
     made = pd.DataFrame(dict(zip(COLUMNS, (parts, np.concatenate([NO_INTS, *lists])))))
-    return division.division_of(made, told, table.kind)
+    return division.division_of(made, record, table.kind)
 
 
 def check(asked: Asked, name: str, parts: Any, count: Any, instant: Any) -> Verdict:
@@ -82,7 +82,8 @@ def check(asked: Asked, name: str, parts: Any, count: Any, instant: Any) -> Verd
         parts = parts.parts
     lists = lists_of(parts)
     if count is None:
-        raise Refused("BadCommand", "count= and instant= tell how many parts there are, when as many rows hold")
+        wanted = "how many parts there are, and when as many rows hold"
+        raise Refused("BadCommand", f"count= and instant= are wanted: {wanted}")
     point = "-" if instant is None else instants.text_of(instant)
     claimed = checks.whole("count", count, 0)
     fields = ["check", name, str(claimed), point]
@@ -94,8 +95,8 @@ def check(asked: Asked, name: str, parts: Any, count: Any, instant: Any) -> Verd
 def lists_of(parts: Any) -> List[Ints]:
     """The ids of each part, by parts. Raises Refused where it is no frame of parts and ids."""
     if not isinstance(parts, pd.DataFrame):
-        told = "what Store.dip gives, or a frame of part and row_id, is wanted; ruzgalt.dip tells labels, and no ids"
-        raise checks.wrong("parts", parts, told)
+        wanted = "what Store.dip gives, or a frame of part and row_id, is wanted; ruzgalt.dip has labels, and no ids"
+        raise checks.wrong("parts", parts, wanted)
     part, row_id = (column_of(parts, name) for name in COLUMNS)
     if not len(parts):
         return []

@@ -79,9 +79,9 @@ def hits(table: Table, command: Command, there: Sequence[Cells], portion: Ints) 
 
 def pairs(table: Table, command: Command, places: range) -> Dict[int, Any]:
     """Which columns stand at these places of a change, by their own places, and the values behind them."""
-    told = {table.place(command.fields[place]): command.fields[place + 1] for place in places}
+    texts = {table.place(command.fields[place]): command.fields[place + 1] for place in places}
     kinds = [one.kind for one in table.columns.values()]
-    return {place: int(text) if kinds[place] == "int" else text for place, text in told.items()}
+    return {place: int(text) if kinds[place] == "int" else text for place, text in texts.items()}
 
 
 def updated(table: Table, command: Command, portion: Ints, hit: Sequence[Cells]) -> Iterator[Row]:
@@ -107,15 +107,15 @@ def refusal(table: Table, command: Command, one: Row, other: Row) -> Refused:
     label = at_fault[3].label if isinstance(at_fault[3], Loaded) else command.label
     names = [name for name in table.columns if name in table.key]
     key = ", ".join(f"{name} {shown(table.columns[name], value)}" for name, value in zip(names, one[0]))
-    told = f"{key}: {named(table, at_fault)} and {named(table, beside)} both hold at {points.text_of(other[1])}"
-    return Refused("KeyOverlap", f"{told}: end one before the other starts, or update() it", label=label)
+    reason = f"{key}: {named(table, at_fault)} and {named(table, beside)} both hold at {points.text_of(other[1])}"
+    return Refused("KeyOverlap", f"{reason}: end one before the other starts, or update() it", label=label)
 
 
 def shown(column: Values, value: Any) -> str:
     """A value of the key as its frame has it, a long one in part."""
     cells = np.array([value], np.int64) if column.kind == "int" else of_objects([value])
-    told = column.restored(cells)[0]
-    text = repr(told) if isinstance(told, str) else str(told)
+    cell = column.restored(cells)[0]
+    text = repr(cell) if isinstance(cell, str) else str(cell)
     return text if len(text) < 100 else text[:98] + ".."
 
 

@@ -21,7 +21,7 @@ from ruzgalt.frames.named import same
 from ruzgalt.frames.options import OF_TABLE, options_of
 from ruzgalt.frames.script import Command, Script
 from ruzgalt.frames.sides import Side
-from ruzgalt.frames.tables import Table, coded, refuse_stand_ins, told_of
+from ruzgalt.frames.tables import Table, coded, listed, refuse_stand_ins
 from ruzgalt.frames.values import Texts, Values
 from ruzgalt.script import commands, naming
 from ruzgalt.script.language import CHANGES
@@ -58,9 +58,9 @@ def answers_of(data: bytes, workers: int) -> List[Answer]:
             found = answers.of_commands(commands.commands(Source(data)), output, is_own=True)
         except Misfit as misfit:
             raise Stopped(f"the program's answers aren't those of the script: {misfit}") from None
-        told = told_of_refused([one for one in found if one.refusal and not one.command.form.is_query])
-    if told:
-        doubt(told)
+        reason = reason_of([one for one in found if one.refusal and not one.command.form.is_query])
+    if reason:
+        doubt(reason)
     return found
 
 
@@ -76,7 +76,8 @@ def bytes_of(given: Given) -> bytes:
         raise checks.wrong("script", given, f"{getattr(error, 'strerror', None) or error}; {wanted}") from None
 
 
-def told_of_refused(refused: Sequence[Answer]) -> str:
+def reason_of(refused: Sequence[Answer]) -> str:
+    """What is said of refused changes; nothing where there is none."""
     more = f"; and {len(refused) - NAMED} more" if len(refused) > NAMED else ""
     return f"refused changes are left out: {'; '.join(map(refusals.told, refused[:NAMED]))}{more}" if refused else ""
 
@@ -122,8 +123,8 @@ def names_of(schema: Schema, given: Any) -> List[Any]:
         raise checks.wrong("names", given, "a dict of the script's columns with their names in frames is wanted")
     for word in given:
         if word not in schema.names:
-            told = f"names= is of columns of the script, and {schema.name} has {told_of(schema.names)}"
-            raise Refused("NoColumn", told, word)
+            reason = f"names= is of columns of the script, and {schema.name} has {listed(schema.names)}"
+            raise Refused("NoColumn", reason, word)
     names = [same(given.get(word, word)) for word in schema.names]
     for name in naming.twice(names):
         raise Refused("TwiceNamed", f"names= of {schema.name}: two columns would have this name", name)
@@ -164,8 +165,8 @@ def with_points(table: Table, cells: Sequence[Cells]) -> Table:
 def loads_of(table: Table, cells: Sequence[Cells], commands_of: Mapping[int, Command]) -> Dict[int, Command]:
     """The loads of the table by their commits, with the rows that they made, which have following ids."""
     _, start, end, commits, _, *columns = cells
-    told = [coded(column, own) for column, own in zip(table.columns.values(), columns)]
-    whole = Side(start, end, told, table.kind, places=np.arange(len(start)))
+    loaded = [coded(column, own) for column, own in zip(table.columns.values(), columns)]
+    whole = Side(start, end, loaded, table.kind, places=np.arange(len(start)))
     found = {}
     for commit, command in commands_of.items():
         if command.fields[:2] == ["load", table.name]:

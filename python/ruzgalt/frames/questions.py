@@ -142,10 +142,10 @@ def on_of(tables: Sequence[Table], on: Any, options: Options) -> List[str]:
             raise checks.wrong("on", on, wanted)
     for pair in zip(*([table.column(name) for name in own] for table, own in zip(tables, names))):
         pairs.refuse_two_kinds(*pair)
-    told = [(table, name) for pair in zip(*names) for table, name in zip(tables, pair)]
-    for table, name in told:
+    columns = [(table, name) for pair in zip(*names) for table, name in zip(tables, pair)]
+    for table, name in columns:
         table.refuse_missing(name, "would meet that of another row")
-    return ["on", *(table.word(name) for table, name in told)] if told else []
+    return ["on", *(table.word(name) for table, name in columns)] if columns else []
 
 
 def warn_of_pairs(asked: Asked, tables: Sequence[Table], on: Any) -> None:
@@ -156,11 +156,12 @@ def warn_of_pairs(asked: Asked, tables: Sequence[Table], on: Any) -> None:
     if on is None and asked.options.left_on is None:
         doubts.of_no_columns(*(table.columns for table in tables))
     pairs_of = list(zip(*compared(on, asked.options)))
-    told = [[unmeant.texts_of(asked.book.commands, table, name) for table, name in zip(tables, pair)]
-            for pair in pairs_of]
-    for pair, texts in zip(pairs_of, told):
+    texts_of_pairs = [
+        [unmeant.texts_of(asked.book.commands, table, name) for table, name in zip(tables, pair)] for pair in pairs_of
+    ]
+    for pair, texts in zip(pairs_of, texts_of_pairs):
         doubts.of_no_value(pair[0], *texts)
-    doubtful = [pair for pair, texts in zip(pairs_of, told) if doubts.strangers(*texts)]
+    doubtful = [pair for pair, texts in zip(pairs_of, texts_of_pairs) if doubts.strangers(*texts)]
     if doubtful:
         doubts.of_keys(*(filled(asked, table, names) for table, names in zip(tables, zip(*doubtful))))
 
@@ -172,22 +173,22 @@ def filled(asked: Asked, table: Table, names: Sequence[str]) -> List[Values]:
 
 
 def agg(asked: Asked, name: str, function: Any, column: Any) -> Any:
-    told = measures.of_call(function, column)
+    measured = measures.of_call(function, column)
     table = asked.book.known(name)
     by = [table.column(one) for one in asked.options.by or ()]
-    for one in told:
+    for one in measured:
         if one.is_of_column:
             table.refuse_missing(one.column, "would be counted as a value")
-    amounts = {one: table.column(one) for one in measures.amounts_of(told)}
-    measures.refuse_texts(told, amounts)
-    is_alone = len(by) < 2 and len(told) == 1 and told[0].function != "mean"
-    groups_of, (start, end, *values) = (by_one if is_alone else by_several)(asked, table, told, by)
+    amounts = {one: table.column(one) for one in measures.amounts_of(measured)}
+    measures.refuse_texts(measured, amounts)
+    is_alone = len(by) < 2 and len(measured) == 1 and measured[0].function != "mean"
+    groups_of, (start, end, *values) = (by_one if is_alone else by_several)(asked, table, measured, by)
     doubts.of_groups(
         coded(one, pd.unique(cells)) for one, cells in zip(by, groups_of) if table.stand_in(one.name) is None
     )
     columns = Columns([(one.name, table.restored(one, cells)) for one, cells in zip(by, groups_of)])
     columns.add(table.period_cells(iter((start, end)), asked.options.kind_of(table.period, table.kind)))
-    columns.add(measures.columns_of(values, told, amounts, asked.options.mean_as))
+    columns.add(measures.columns_of(values, measured, amounts, asked.options.mean_as))
     return columns.frame()
 
 
@@ -195,22 +196,23 @@ def agg(asked: Asked, name: str, function: Any, column: Any) -> Any:
 Counted = Tuple[Sequence[Cells], Sequence[Cells]]
 
 
-def by_one(asked: Asked, table: Table, told: Measures, by: Sequence[Values]) -> Counted:
+def by_one(asked: Asked, table: Table, measured: Measures, by: Sequence[Values]) -> Counted:
     """Of one measure, by at most one column: as the language has it."""
-    names = [*map(table.word, told[0].amount), *(text for one in by for text in ("by", table.word(one.name)))]
+    names = [*map(table.word, measured[0].amount), *(text for one in by for text in ("by", table.word(one.name)))]
     kinds = "".join("i" if one.kind == "int" else "t" for one in by) + "ppi"
-    cells = list(asked.block(["agg", table.name, told[0].function, *names], kinds))
+    cells = list(asked.block(["agg", table.name, measured[0].function, *names], kinds))
     return cells[:len(by)], cells[len(by):]
 
 
-def by_several(asked: Asked, table: Table, told: Measures, by: Sequence[Values]) -> Counted:
+def by_several(asked: Asked, table: Table, measured: Measures, by: Sequence[Values]) -> Counted:
     """Of the table's rows, as frames have them."""
     start, end, *cells = asked.block(["rows", table.name], "-pp" + table.readers)
     found = {name: coded(one, own) for (name, one), own in zip(table.columns.items(), cells)}
     side = Side(start, end, [found[one.name] for one in by], places=np.arange(len(start)))
     codes, firsts = groups.group_codes(side, len(by))
-    amounts = {name: found[name] for name in measures.amounts_of(told)}
-    start, end, group, *values = measures.measured(replace(side, columns=[codes]), amounts, told, asked.book.workers)
+    amounts = {name: found[name] for name in measures.amounts_of(measured)}
+    side = replace(side, columns=[codes])
+    start, end, group, *values = measures.measured(side, amounts, measured, asked.book.workers)
     whole = dict(zip(table.columns, cells))
     return [whole[one.name][firsts[group]] for one in by], [start, end, *values]
 

@@ -106,9 +106,9 @@ class Raising:
             return self.change(Change(name, commands, portion=self.known(name).portion(start, end)), note)
 
 
-def raise_of(book: Book, table: Table, column: Any, told: Any, which: Any) -> raises.Raise:
-    """told: by how much, from when on and up to when; which: of which rows, and how it is rounded. Raises Refused."""
-    percent, start, end = told
+def raise_of(book: Book, table: Table, column: Any, how: Any, which: Any) -> raises.Raise:
+    """how: by how much, from when on and up to when; which: of which rows, and how it is rounded. Raises Refused."""
+    percent, start, end = how
     first, behind = map(points.text_of, table.portion(start, end))
     where, rounding = which
     fields = condition(table, where)[1:]

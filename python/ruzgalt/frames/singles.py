@@ -22,13 +22,13 @@ def cell_of(column: Values, value: Any) -> Cell:
     if is_plain(column, value):
         return int(value) if column.kind == "int" else str.__str__(value)
     try:
-        told = values.values_of(series_of(column, value), column.digits)
+        found = values.values_of(series_of(column, value), column.digits)
     except Refused as error:
         raise Refused(error.name, error.reason, column.name) from None
     except OverflowError:
         bounds = f"numbers are of 64 bits, from {values.LEAST} to {values.GREATEST}"
         raise Refused("BadNumber", f"{checks.shown(value)}: {bounds}", column.name) from None
-    return int(told.codes[0]) if told.kind == "int" else told.texts.cells[0]
+    return int(found.codes[0]) if found.kind == "int" else found.texts.cells[0]
 
 
 def refuse_value(column: Values, value: Any) -> None:

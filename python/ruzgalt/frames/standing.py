@@ -79,8 +79,8 @@ class Standing:
         values, others = (keys.of_key(table, one.cells)[0].tolist() for one in (made, self))
         is_near = np.fromiter(map(set(values).__contains__, others), bool, len(others))
         among = together([self.take(is_near), made])
-        told = zip(*(cells.tolist() for cells in keys.of_key(table, among.cells)))
-        rows = sorted(zip(told, among.start.tolist(), among.end.tolist()))
+        keys_of_rows = zip(*(cells.tolist() for cells in keys.of_key(table, among.cells)))
+        rows = sorted(zip(keys_of_rows, among.start.tolist(), among.end.tolist()))
         return any(one[0] == other[0] and one[2] > other[1] for one, other in zip(rows, rows[1:]))
 
 

@@ -43,7 +43,7 @@ class Table:
         words = {same(name): word for name, word in state["words"].items()}
         given = state["options"]
         decimals, missing = (
-            {same(name): told for name, told in one.items()} for one in (given.decimals, given.missing)
+            {same(name): value for name, value in one.items()} for one in (given.decimals, given.missing)
         )
         period = tuple(map(same, given.period))
         options = replace(given, period=period, decimals=decimals, missing=missing)
@@ -66,7 +66,7 @@ class Table:
     def column(self, name: Any) -> Values:
         found = self.columns.get(same(name))
         if found is None:
-            raise Refused("NoColumn", f"{self.name} has no such column; it has {told_of(self.columns)}", name)
+            raise Refused("NoColumn", f"{self.name} has no such column; it has {listed(self.columns)}", name)
         return found
 
     def word(self, name: Any) -> str:
@@ -90,30 +90,30 @@ class Table:
             self.refuse_kind(one)
         return side
 
-    def refuse_kind(self, told: Values) -> None:
-        wanted = self.column(told.name).kind
-        if told.kind != wanted:
+    def refuse_kind(self, given: Values) -> None:
+        wanted = self.column(given.name).kind
+        if given.kind != wanted:
             remedy = ".astype('int64') makes numbers" if wanted == "int" else ".astype(str) makes texts"
-            raise Refused("WrongKind", f"{told.kind}, and the column of {self.name} is {wanted}; {remedy}", told.name)
+            raise Refused("WrongKind", f"{given.kind}, and the column of {self.name} is {wanted}; {remedy}", given.name)
 
     def portion(self, start: Any, end: Any) -> Ints:
         """The seconds of a change's start and of the first point behind it. Raises Refused (BadPoint, BadPeriod)."""
         portion = instants.portion(start, end, self.form)
         if portion[0] >= portion[1]:
             last = "the last day" if self.form.has_last_days else "the first point behind it"
-            told = f"it starts at {start} and ends at {end}: a portion starts before its end, which is {last}"
-            raise Refused("BadPeriod", told)
+            reason = f"it starts at {start} and ends at {end}: a portion starts before its end, which is {last}"
+            raise Refused("BadPeriod", reason)
         return portion
 
-    def pairs(self, word: str, told: Any) -> List[str]:
+    def pairs(self, word: str, cells: Any) -> List[str]:
         """The columns with values of set= or where=, as the fields of a change."""
-        if not isinstance(told, Mapping):
-            given = f"{word}={checks.shown(told)}"
+        if not isinstance(cells, Mapping):
+            given = f"{word}={checks.shown(cells)}"
             raise Refused("BadCommand", f"{given} is no dict of columns with values, as {{'person': 'Ada'}}")
-        if not told:
+        if not cells:
             remedy = "leave it out for all rows" if word == "where" else "it names what is to be changed"
             raise Refused("BadCommand", f"{word}={{}} has no column: {remedy}")
-        return [text for name, value in told.items() for text in (self.word(name), self.field_of(name, value))]
+        return [text for name, value in cells.items() for text in (self.word(name), self.field_of(name, value))]
 
     def field_of(self, name: Any, value: Any) -> str:
         """A value of an update or a condition, looked at as one of a frame. Raises Refused."""
@@ -176,7 +176,7 @@ def side_of(frame: Any, names: Sequence[Any], options: Options) -> Side:
     found = [column_of(frame, name) for name in names]
     side = sides.side_of(frame, [], options.period, options.form, {})
     given = [(options.decimals.get(name), options.missing.get(name)) for name in map(same, names)]
-    return replace(side, columns=[stand_ins.values_of(one, *told) for one, told in zip(found, given)])
+    return replace(side, columns=[stand_ins.values_of(one, *words) for one, words in zip(found, given)])
 
 
 def coded(column: Values, cells: Cells) -> Values:
@@ -190,19 +190,19 @@ def coded(column: Values, cells: Cells) -> Values:
 def refuse_points(side: Side, period: Period) -> None:
     """Raises Refused, since a store's script, its questions and its days have no zone, and are no months."""
     if side.kind.is_long:
-        told = f"a store's points are days or times, and these are period[{side.kind.name}]"
+        reason = f"a store's points are days or times, and these are period[{side.kind.name}]"
         remedy = ".dt.asfreq('D', 'start') of starts, .dt.asfreq('D', 'end') of ends with last_day=True"
-        raise Refused("WrongKind", f"{told}; {remedy}", period[0])
+        raise Refused("WrongKind", f"{reason}; {remedy}", period[0])
     if side.kind.zone is not None:
-        told = f"a store's points have no time zone, and these have {side.kind.zone}"
+        reason = f"a store's points have no time zone, and these have {side.kind.zone}"
         remedy = f".dt.tz_convert(ZONE){WITHOUT_ZONE} takes the days and times of a zone"
-        raise Refused("WrongKind", f"{told}; {remedy}", period[0])
+        raise Refused("WrongKind", f"{reason}; {remedy}", period[0])
 
 
-def told_of(names: Iterable[Any]) -> str:
+def listed(names: Iterable[Any]) -> str:
     """Names of columns, for a person."""
-    told = (name if isinstance(name, str) and forms.is_name(name) else checks.shown(name) for name in names)
-    return ", ".join(told) or "none"
+    names_of_columns = (name if isinstance(name, str) and forms.is_name(name) else checks.shown(name) for name in names)
+    return ", ".join(names_of_columns) or "none"
 
 
 def table_of(name: str, side: Side, key: Sequence[Any], options: Options) -> Table:
@@ -212,7 +212,7 @@ def table_of(name: str, side: Side, key: Sequence[Any], options: Options) -> Tab
     names = [one.name for one in columns]
     for column in key:
         if column not in names:
-            raise Refused("NoColumn", f"key= is of columns of the table: {told_of(names)}", column)
+            raise Refused("NoColumn", f"key= is of columns of the table: {listed(names)}", column)
     made = Table(name, dict(zip(names, columns)), list(key), options, dict(zip(names, naming.of_store(names))))
     refuse_stand_ins(made)
     return made

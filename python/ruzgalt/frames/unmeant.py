@@ -60,32 +60,32 @@ def of_load(change: Change, side: Side, before: Sequence[Command]) -> Iterator[s
         yield f"load of {change.name}: {doubts.of_twins(one, other, int(is_twin.sum()))}"
     loaded = [one.side.hashes for one in before if one.side is not None and len(one.side)]
     there = np.concatenate(loaded) if loaded else rows[:0]
-    # Of most loads the first row tells it, and nothing is sorted.
+    # Of most loads the first row shows it, and nothing is sorted.
     if (there == rows[0]).any() and np.isin(rows, there).all():
         yield f"load of {change.name}: all its rows were loaded before, so each is there twice unless changed since"
 
 
 def two_rows(labels: Sequence[Any], *places: int) -> List[str]:
     """Two rows by their labels, or where these are the same by their places."""
-    told = [f"row {labels[place]!r}" for place in places]
-    return told if told[0] != told[1] else [f"row {place} by place" for place in places]
+    names = [f"row {labels[place]!r}" for place in places]
+    return names if names[0] != names[1] else [f"row {place} by place" for place in places]
 
 
 def of_portion(change: Change, count: int, there: int) -> Iterator[str]:
     command = change.commands[-1]
-    told = marks.of_touched(command.fields, count)
-    if told is None and count == there > 1 and fields.where_places(command.fields):
-        told = f"its `where` leaves no row out: all {count} of the table were changed"
-    if told:
-        yield f"{command.word} of {change.name}: {told}"
+    reason = marks.of_touched(command.fields, count)
+    if reason is None and count == there > 1 and fields.where_places(command.fields):
+        reason = f"its `where` leaves no row out: all {count} of the table were changed"
+    if reason:
+        yield f"{command.word} of {change.name}: {reason}"
 
 
 def of_end(change: Change, table: Table, count: int) -> Iterator[str]:
     """Of a portion whose end may cut a row, and looks like a last day."""
     command, end = change.commands[-1], int(change.portion[-1])
-    told = None if table.form.has_last_days else marks.of_end(command.fields[3])
-    if told and count and end < table.last:
-        yield f"{command.word} of {change.name}: {told}"
+    reason = None if table.form.has_last_days else marks.of_end(command.fields[3])
+    if reason and count and end < table.last:
+        yield f"{command.word} of {change.name}: {reason}"
 
 
 def of_rows(change: Change, touched: List[int]) -> Iterator[str]:
@@ -106,5 +106,5 @@ def of_updated_twice(change: Change) -> Iterator[str]:
         labels = [one.label for one in change.commands]
         one, other = two_rows(labels, place, updated.index(updated[place]))
         more = f"; {int(is_later.sum()) - 1} more rows do so" if is_later.sum() > 1 else ""
-        told = f"{one} updates the same rows from the same point on as {other}, and the later one stands"
-        yield f"update of {change.name}: {told}{more}"
+        reason = f"{one} updates the same rows from the same point on as {other}, and the later one stands"
+        yield f"update of {change.name}: {reason}{more}"

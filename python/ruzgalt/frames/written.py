@@ -193,9 +193,9 @@ class Written:
         if width is not None:
             width = checks.whole("width", width, 40, 100_000)
         limits = [None if point is None else instants.text_of(point) for point in (start, end)]
-        told = [(name, str(value)) for name, value in ({} if where is None else where).items()]
+        wanted = [(name, str(value)) for name, value in ({} if where is None else where).items()]
         with refusing():
-            wish = figures.Wish(by, label, told, limits[0], limits[1])
+            wish = figures.Wish(by, label, wanted, limits[0], limits[1])
             return Picture(svg.draw(figures.of(found, found[-1], wish), width, None))
 
 
@@ -204,9 +204,9 @@ def answered(book: Book, question: Any) -> Sequence[Answer]:
     if not isinstance(question, str):
         raise checks.wrong("question", question, "a question of the language is wanted, as 'rows,pay'")
     with refusing():
-        told = questions.named(question)[1]
-        text, own_lines = questions.put_behind(book.script, [told])
-        begun = questions.commands_of(text, [told], own_lines)
+        command = questions.named(question)[1]
+        text, own_lines = questions.put_behind(book.script, [command])
+        begun = questions.commands_of(text, [command], own_lines)
     if len(begun) != len(book.commands) + 1 or begun[-1].word in CHANGES:
         raise checks.wrong("question", question, "one question is wanted, and no change")
     output = running.answer([text], book.workers).tobytes()

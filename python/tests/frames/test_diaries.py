@@ -164,8 +164,8 @@ class Days(Case):
             made.load("t", frame("e"), day="2024-02-12")
             self.refuses(lambda: made.load("t", frame("f")), "BadPoint", "don't go back")
             self.refuses(lambda: made.load("t", frame("f"), label="c"), "TwiceNamed")
-        told = made.diary()[["from", "commit", "label"]].astype(str).values.tolist()
-        self.assertEqual(told, [["2024-01-10", "2", "first"], ["2024-02-10", "3", "c"], ["2024-02-12", "4", "d"],
+        rows = made.diary()[["from", "commit", "label"]].astype(str).values.tolist()
+        self.assertEqual(rows, [["2024-01-10", "2", "first"], ["2024-02-10", "3", "c"], ["2024-02-12", "4", "d"],
                                 ["2024-02-12", "5", "batch"]])
         before = made.script()
         for words in ({"label": "d"}, {"day": "2024-02-11"}):

@@ -374,7 +374,7 @@ class Changes(Case):
     def test_a_word_of_the_language_is_no_name_of_a_table(self):
         self.refuses(lambda: store(frame(), name="on"), "BadName", "'on'", "a word of the language")
 
-    def test_what_is_no_name_is_told_by_its_type(self):
+    def test_what_is_no_name_is_named_by_its_type(self):
         made = store(frame())
         self.refuses(lambda: made.load(frame(), "t"), "NoTable", "<DataFrame>")
         told = self.refuses(lambda: made.delete("t", "2024-01-10", None, frame()["k"] == "a"), "BadCommand", "<Series>")
@@ -693,7 +693,7 @@ class Stores(Case):
         self.assertEqual(rows["grade"].tolist(), [1, 7, 8, 8, 1, 2])
         self.assertEqual(self.store.log()["kind"].tolist(), ["table", "load", "update", "update"])
 
-    def test_update_rows_are_all_done_or_none_and_the_row_at_fault_is_told(self):
+    def test_update_rows_are_all_done_or_none_and_the_row_at_fault_is_named(self):
         before = self.store.script()
         pairs = pd.DataFrame({
             "from": pd.to_datetime(["2024-02-01", "2024-03-01"]), "to": pd.to_datetime(["2024-04-01", "2024-12-01"]),
