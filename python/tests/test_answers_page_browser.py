@@ -329,6 +329,20 @@ class Times(BrowserCase):
         self.value("document.querySelector('#pairs input[type=checkbox]').click()")
         self.assertEqual([[row[0] for row in self.cells("#pairs", place)].count("") for place in (0, 1)], [9, 9])
 
+    def test_then_and_now_are_headed_by_a_name(self) -> None:
+        script = f"table,t\nload,t\nrow,{TIME}\nend\nrows,t,asof,1\nrows,t\n"
+        told = f"ok,1\nok,2\nend,0\nrow,1,{TIME}\nend,1\n"
+        parts = "[...document.querySelectorAll('#pairs h3, #pairs h4, #pairs article > p')]"
+        then, now = "Then: commit 1 ({}line 5)", "Now: commit 2 ({}line 6)"
+        for words, wanted in [
+            ([], ["rows,t", then.format(""), now.format("")]),
+            (["4=what it is"], ["what it is", "rows,t", then.format(""), now.format("what it is, ")]),
+            (["3=as it was"], ["as it was", "rows,t", then.format("as it was, "), now.format("")]),
+        ]:
+            self.open(page_of(script, told, *words))
+            found = self.value(f"{parts}.map((one) => one.textContent)")
+            self.assertEqual([one for one in found if "said both" not in one], wanted)
+
     def test_rows_that_are_cut_alone_are_no_differences(self) -> None:
         rows = "table,t,n,int\nload,t\nrow,2024-01-01,2024-05-01,1\nend\nupdate,t,2024-02-01,2024-03-01,set,n,2\n"
         then = "row,1,2024-01-01,2024-05-01,1\nend,1\n"

@@ -3,6 +3,7 @@ import tempfile
 import unittest
 from pathlib import Path
 
+from ruzgalt.script.records import to_text
 from tests.support import EXAMPLE, TOP, ToolCase, kept, run
 
 
@@ -80,13 +81,9 @@ class Questions(ToolCase):
     def test_a_question_is_a_command_of_its_own(self) -> None:
         reads = ["tools/answers", "csv", "--program", "/bin/false"]
         self.check([*reads, EXAMPLE, "--ask", ""], "", 1, "answers: --ask: the question is empty")
-        for cut, why in [
-            ('table,t,a,text\nload,t\nrow,2024-01-01,2024-01-02,"x', "line 3 has a quote that isn't closed\n"),
-            ("table,t\nload,t", "it is a record of the block at line 2, load,t, which has no end before it\n"),
-            ("together\nload,t\nend", "it is a record of the block at line 1, together, which has no end before it\n"),
-        ]:
-            taken = f"answers: --ask at,t,2024-01-01: the question isn't a command: {why}"
-            self.check([*reads, "-", "--ask", "at,t,2024-01-01"], cut, 1, taken)
+        for cut in ('table,t,a,text\nload,t\nrow,2024-01-01,2024-01-02,"x', "table,t\nload,t", "together\nload,t\nend"):
+            taken = "--ask at,t,2024-01-01: the question was taken into line "
+            self.check([*reads, "-", "--ask", "at,t,2024-01-01"], cut, 1, f"answers: {taken}")
 
 
 class Forms(ToolCase):
@@ -324,7 +321,21 @@ class Asked(ToolCase):
             self.check(plain, "", 0, "table,rows\nrows_t_2,0\nlog_3,1\nb,0\n")
             named = [*words, "--ask", "a=rows,t\nlog", "--ask", "b=dip,t"]
             self.check(named, "", 1, "answers: --ask a=..: a name is of one question, and log stands behind it")
-            self.check([*words, "--ask", "my-t=rows,t"], "", 1, "the name before = may have letters, digits and _ only")
+
+    def test_a_name_may_have_what_can_be_seen(self) -> None:
+        with kept("table,t\n") as name, kept("ok,1\nend,0\n") as answers:
+            words = [name, "--answers", answers, "--ask"]
+            for odd in ("my-t", "Was gilt \u00fcber", "2024", '"x"', "a.b (c)", "rows"):
+                both = to_text([["table", "rows"], [odd, "0"]])
+                self.check(["tools/answers", "sqlite", name, ":memory:", *words[1:], f"{odd}=rows,t"], "", 0, both)
+                with tempfile.TemporaryDirectory() as folder:
+                    self.check(["tools/answers", "csv", *words, f"{odd}=rows,t", "--folder", folder], "", 0, "")
+                    self.assertEqual([file.name for file in Path(folder).iterdir()], [f"{odd}.csv"])
+            query = ["--query", 'select count(*) as n from "what is due"']
+            due = ["tools/answers", "sqlite", name, ":memory:", *words[1:], "what is due=rows,t"]
+            self.check([*due, *query], "", 0, "n\n0\n")
+            for odd in ("", " a", "a ", "a\tb", "a\nb", "\u200b"):
+                self.check(["tools/answers", "csv", *words, f"{odd}=rows,t"], "", 1, "no name before the =, which has")
 
     def test_two_commits_in_the_wrong_order_are_told(self) -> None:
         told = "ok,1\nok,2\nend,0\nend,0\n"

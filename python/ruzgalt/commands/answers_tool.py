@@ -398,7 +398,7 @@ def parser_of(name: str, tool: Tool) -> ArgumentParser:
         parser.add_argument(
             "--ask", action="append", default=[], metavar="[NAME=]COMMAND",
             help="puts a command behind the script; its answer is taken beside those that are picked; as NAME=COMMAND "
-            "it gets that name",
+            "it gets that name, which may have blanks, but no comma",
         )
         parser.add_argument("--go-on", action="store_true", help="goes on where commands were refused")
     return parser

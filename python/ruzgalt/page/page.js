@@ -111,12 +111,20 @@ function sideOf(when, question, records) {
   const file = `${when.toLowerCase()}-${question.number}.csv`;
   const look = ([mark]) => mark.slice(5);
   const grid = new Grid({ label: `${label}, ${question.command}`, columns, records, look, file });
-  const title = make("h4", {}, label, make("span", { class: "soft" }, ` (${question.place})`));
+  const which = question.name ? `${question.name}, ${question.place}` : question.place;
+  const title = make("h4", {}, label, make("span", { class: "soft" }, ` (${which})`));
   return { element: make("div", {}, title, grid.element), only: (is) => grid.show(records.filter(([mark]) => mark || !is)) };
 }
 
+// A question's name, or where it has none its command.
+function headOf(name, command) {
+  return name || make("code", {}, command);
+}
+
 function pairOf(then, now) {
-  const article = make("article", {}, make("h3", {}, make("code", {}, now.command)));
+  const name = now.name || then.name;
+  const command = name ? [make("p", { class: "soft" }, make("code", {}, now.command))] : [];
+  const article = make("article", {}, make("h3", {}, headOf(name, now.command)), ...command);
   if (!then.hasAll || !now.hasAll) {
     const command = make("code", {}, `${data.tool} changed ${data.scriptWord} ${then.number} ${now.number}`);
     article.append(make("p", {}, "Not all records are in this page. What changed is told by ", command, "."));
@@ -187,7 +195,7 @@ function partsOf({ number, command, parts }) {
 
 function listOf(questions) {
   const links = questions.map(({ number, name, place, command, count }) => {
-    const link = make("a", { href: `#question-${number}` }, make("code", {}, name || command));
+    const link = make("a", { href: `#question-${number}` }, headOf(name, command));
     return make("li", {}, link, make("span", { class: "soft" }, ` ${place}, ${counted(count, "record")}`));
   });
   return make("ul", { class: "list" }, ...links);

@@ -1,5 +1,4 @@
 """Questions that are put behind a script, each of which is to be a command of its own."""
-import re
 from itertools import accumulate
 from typing import List, Optional, Sequence, Tuple
 
@@ -10,15 +9,18 @@ from ruzgalt.script.reader import Reader, Source
 from ruzgalt.script.records import Record, short
 
 
-NAMED = re.compile(r"(?P<name>[A-Za-z_][A-Za-z0-9_]*)=(?P<question>.*)", re.DOTALL)
-
-
 def named(word: str) -> Tuple[str, str]:
-    """The name of a question, or nothing, and the question: no word of a command has such a sign."""
-    found = NAMED.fullmatch(word)
-    if found is None and "=" in word.partition(",")[0]:
-        raise Misfit(f"--ask {short(word)}: the name before = may have letters, digits and _ only, no digit first")
-    return (found["name"], found["question"]) if found else ("", word)
+    """The name of a question, or nothing, and the question.
+
+    A name stands before a `=` that stands before the first comma, since no first word of a command has such a sign. It
+    has what can be seen, and blanks between.
+    """
+    name, mark, question = word.partition("=")
+    if not mark or "," in name:
+        return "", word
+    if not name.isprintable() or name != name.strip() or not name:
+        raise Misfit(f"--ask {short(word)}: no name before the =, which has letters, signs and blanks between them")
+    return name, question
 
 
 def put_behind(script: bytes, questions: Sequence[str]) -> Tuple[bytes, Optional[int]]:
@@ -44,12 +46,12 @@ def commands_of(text: bytes, questions: Sequence[str], own_lines: Optional[int])
 
 
 def refuse_taken(source: Source, begun: List[Command], questions: Sequence[str], own_lines: int) -> None:
-    """Raises Misfit for a question behind an open quote or in a block: another answer than its own would be shown."""
+    """An open quote or a block without its end takes what stands behind it, and another answer would be shown."""
     own = {command.line for command in begun}
     for question, line in zip(questions, lines_of(questions, own_lines)):
         if line not in own:
-            why = why_taken(list(Reader(source)), begun, line)
-            raise Misfit(f"--ask {short(question)}: the question isn't a command: {why}")
+            taker = taker_of(list(Reader(source)), begun, line)
+            raise Misfit(f"--ask {short(question)}: the question was taken into {taker}")
 
 
 def lines_of(questions: Sequence[str], own_lines: int) -> List[int]:
@@ -58,13 +60,13 @@ def lines_of(questions: Sequence[str], own_lines: int) -> List[int]:
     return list(accumulate(counts, initial=own_lines + 1))[:-1]
 
 
-def why_taken(found: List[Record], begun: List[Command], line: int) -> str:
-    """Which block has this line as a record, or else which record has an open quote."""
+def taker_of(found: List[Record], begun: List[Command], line: int) -> str:
+    """Where the block stands that this line is a record of, or else the record whose quote is open."""
     own = next((record.number for record in found if record.line == line), None)
     if own is None:
-        return f"{[record for record in found if record.line < line][-1].place} has a quote that isn't closed"
+        return f"{[record for record in found if record.line < line][-1].place}, where a quote is open"
     blocks = [one for one in begun if one.record.number < own <= one.record.number + len(one.block)]
-    return f"it is a record of the block at {blocks[-1].place}, {short(blocks[-1].text)}, which has no end before it"
+    return f"{blocks[-1].place}, {short(blocks[-1].text)}, as a record of its block"
 
 
 def count_lines(text: bytes) -> int:
