@@ -57,6 +57,21 @@ class Lists(unittest.TestCase):
         script = PAY + "update,pay,2024-01-01,2024-12-01,set,euros,7\n"
         self.marks("without a `where` it acts on all rows of that time: 2 were changed", script, "ok,1\nok,2\nok,3\n")
 
+    def test_marks_of_one_kind_are_one_line(self) -> None:
+        nothing = "update,pay,2024-01-01,2024-02-01,set,euros,{},where,person,B\n"
+        script = PAY + "".join(map(nothing.format, range(6))) + "update,pay,2024-01-01,2024-06-01,set,euros,7\n"
+        told = "".join(f"ok,{number}\n" for number in range(1, 10))
+        _, _, said = answers("list $S --answers $A", script, told)
+        one, other = said.splitlines()
+        self.assertIn("answers: line 6: update,pay,", one)
+        places = "(likewise line 7, line 8, line 9 and 2 more, which `tools/answers refusals` lists)"
+        self.assertTrue(one.endswith(f"so nothing was changed {places}"), one)
+        self.assertIn("answers: line 12: ", other)
+        _, _, said = answers("refusals $S --answers $A", script, told)
+        self.assertEqual([line.split(": ")[1] for line in said.splitlines()], [f"line {6 + more}" for more in range(7)])
+        _, _, said = answers("list $S --answers $A", PAY + nothing * 3, told[:25])
+        self.assertTrue(said.endswith("so nothing was changed (likewise line 7, line 8)\n"), said)
+
     def test_a_portion_to_a_last_day_is_marked(self) -> None:
         script = PAY + "delete,pay,2024-01-01,2024-04-30,where,person,A\n"
         self.marks("2024-04-30 isn't in it: a portion ends before its TO", script, "ok,1\nok,2\nok,3\n")

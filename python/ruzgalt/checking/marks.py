@@ -23,8 +23,19 @@ Values = Set[Tuple[str, ...]]
 
 
 class Mark(NamedTuple):
+    """What may not be meant in the command of an answer. Marks of one kind say the same of several commands."""
+
     answer: Answer
     told: str
+    kind: str
+
+
+def by_kind(found: Sequence[Mark]) -> List[List[Mark]]:
+    """The marks of each kind, in the order of the first."""
+    kinds: Dict[str, List[Mark]] = {}
+    for mark in found:
+        kinds.setdefault(mark.kind, []).append(mark)
+    return list(kinds.values())
 
 
 def needs_replay(found: Sequence[Answer]) -> bool:
@@ -74,8 +85,8 @@ class Marks:
             self.add(answer, "these are answers, and no script: what they answer is to be given")
         # Why a block has no end its refusal tells.
         if answer.command.is_ended:
-            for told in quoting.doubts_of(answer.command, bool(answer.refusal)):
-                self.add(answer, told)
+            for told, kind in quoting.doubts_of(answer.command, bool(answer.refusal)):
+                self.add(answer, told, kind)
         if answer.refusal:
             self.add(answer, self.left_out(answer) if word == "load" else None)
             return
@@ -88,11 +99,12 @@ class Marks:
         elif word == "at":
             self.add(answer, self.of_point(answer))
         elif word in PORTIONS:
-            self.add(answer, of_portion(answer, replay))
+            self.add(answer, of_portion(answer, replay), "portion")
 
-    def add(self, answer: Answer, told: Optional[str]) -> None:
+    def add(self, answer: Answer, told: Optional[str], kind: str = "") -> None:
+        """Adds a mark, where there is something to say. Without a kind, those of the same words are of one."""
         if told:
-            self.marks.append(Mark(answer, told))
+            self.marks.append(Mark(answer, told, kind or told))
 
     def look_at_load(self, answer: Answer) -> None:
         table, block = answer.command.record.fields[1], answer.command.block
@@ -134,8 +146,9 @@ class Marks:
         ends = replay.last_ends()
         for answer in self.found:
             if not answer.refusal and answer.command.word in PORTIONS:
-                self.add(answer, of_count(answer, replay.closed.get(answer.commits, 0)))
-                self.add(answer, of_reach(answer, ends.get(answer.commits)))
+                count = replay.closed.get(answer.commits, 0)
+                self.add(answer, of_count(answer, count), "count" if count else "nothing")
+                self.add(answer, of_reach(answer, ends.get(answer.commits)), "reach")
         for loads in self.by_table.values():
             for told in loads.told():
                 self.add(loads.answers[-1], told)

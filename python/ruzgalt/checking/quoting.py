@@ -1,6 +1,6 @@
 """Quotes and blanks of a script that may not be meant: a quote that takes the records behind it, or behind a blank."""
 import re
-from typing import Callable, Iterator, List, NamedTuple, Optional, Sequence
+from typing import Callable, Iterator, List, NamedTuple, Optional, Sequence, Tuple
 
 from ruzgalt.script.commands import Command
 from ruzgalt.script.language import COMMANDS, Fields, words_of
@@ -38,8 +38,9 @@ KINDS = [
 ]
 
 
-def doubts_of(command: Command, is_refused: bool) -> Iterator[str]:
-    """What may not be meant in the fields of a command and of a load's rows, each kind once with a count."""
+def doubts_of(command: Command, is_refused: bool) -> Iterator[Tuple[str, str]]:
+    """What may not be meant in the fields of a command and of a load's rows, each kind once with a count; and the kind.
+    """
     kinds = [kind for kind in KINDS if kind.is_of_refused or not is_refused]
     found: List[List[str]] = [[] for _ in kinds]
     for record in looked_at(command):
@@ -48,7 +49,7 @@ def doubts_of(command: Command, is_refused: bool) -> Iterator[str]:
     for texts, kind in zip(found, kinds):
         if texts:
             more = f" ({len(texts) - 1} more such fields)" if len(texts) > 1 else ""
-            yield f"{texts[0]} {kind.about}{more}"
+            yield f"{texts[0]} {kind.about}{more}", kind.about
 
 
 def looked_at(command: Command) -> Sequence[Record]:

@@ -23,8 +23,8 @@ from ruzgalt.script.reader import Source
 from ruzgalt.script.schemas import Table
 
 NAME = called.ANSWERS
-# So many doubts are told of a script.
-MARKED = 20
+# So many places of marks of one kind are named.
+PLACES = 3
 ABOUT = f"""Reads a script of dipq beside its answers, so that it knows of each answer its command and its columns.
 
 usage: {NAME} COMMAND SCRIPT ..
@@ -52,15 +52,20 @@ def do_list(options: Namespace) -> int:
     found_marks, replay = marks.Marks(found), Replay()
     for answer, replay in marks.walk(found):
         found_marks.look(answer, replay)
-    warn_of_marks(found_marks.end(replay))
+    for same in marks.by_kind(found_marks.end(replay)):
+        warn_of_mark(same[0], others(same[1:]))
     return 1 if any(answer.refusal for answer in found) and not options.go_on else 0
 
 
-def warn_of_marks(found: Sequence[marks.Mark]) -> None:
-    for answer, told in found[:MARKED]:
-        warn(f"{answer.place}: {records.short(answer.command.text)}: {told}")
-    if len(found) > MARKED:
-        warn(f"and {len(found) - MARKED} more of such kinds")
+def warn_of_mark(mark: marks.Mark, more: str = "") -> None:
+    warn(f"{mark.answer.place}: {records.short(mark.answer.command.text)}: {mark.told}{more}")
+
+
+def others(same: Sequence[marks.Mark]) -> str:
+    """Where other marks of one kind are: a file of updates may have one for each row."""
+    places = ", ".join(dict.fromkeys(mark.answer.place for mark in same[:PLACES]))
+    more = f" and {len(same) - PLACES:,} more, which `{NAME} refusals` lists" if len(same) > PLACES else ""
+    return f" (likewise {places}{more})" if same else ""
 
 
 def do_csv(options: Namespace) -> None:
@@ -218,7 +223,8 @@ def do_refusals(options: Namespace) -> int:
             streams.show_lines([refusals.told(answer)])
             if answer.refusal.name == "KeyOverlap":
                 streams.show_lines(f"  {line}" for line in overlaps.explained(replay, answer))
-    warn_of_marks(found_marks.end(replay))
+    for mark in found_marks.end(replay):
+        warn_of_mark(mark)
     return 1 if any(answer.refusal for answer in found) else 0
 
 
