@@ -241,7 +241,7 @@ class Tables(unittest.TestCase):
 
     def test_history_of_what_isn_t_there_is_told(self) -> None:
         _, _, said = answers("history $S pay --answers $A --where person=a", PAY, "ok,1\nok,2\n")
-        self.assertIn("no row of pay ever had what --where tells", said)
+        self.assertIn("no row of pay ever had the values of --where", said)
         status, _, said = answers("history $S pay --answers $A --commit 3", PAY, "ok,1\nok,2\n")
         self.assertEqual((status, "no commit that is there: the newest is 2" in said), (1, True))
         for word, wanted in {"2-3": "2-3: no commits that are", "2-1": "2-1: no commits", "3-": "3-2: no"}.items():
@@ -398,8 +398,8 @@ class Terminals(unittest.TestCase):
     def test_a_line_tells_how_far_a_tool_is(self) -> None:
         with self.terminal() as said, Progress("answers list"):
             self.wait_for(said, "\ranswers list: 0 s\033[K")
-            with Progress("answers") as tell:
-                tell(2000)
+            with Progress("answers") as advance:
+                advance(2000)
                 self.wait_for(said, "\ranswers: 2,000 records\033[K")
             streams.report("something")
             self.assertIn("\r\033[Ksomething\n", said.getvalue())
@@ -419,8 +419,8 @@ class Terminals(unittest.TestCase):
         self.assertEqual(said.getvalue(), "")
         said = io.StringIO()
         with contextlib.redirect_stderr(said), mock.patch.object(said, "isatty", return_value=True, create=True):
-            with Progress("answers") as tell:
-                tell(1000)
+            with Progress("answers") as advance:
+                advance(1000)
         self.assertEqual(said.getvalue(), "")
 
 

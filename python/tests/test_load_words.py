@@ -35,7 +35,7 @@ class Loads(ToolCase):
             )
         english = [*LOADS, "--decimals", "Pay=2"]
         self.check(english, CSV.format("0,500", "2024-12-01", "2025-01-01"), 1, "1,234.50; with --german it is one")
-        self.check([*english, "--decimals", "Pay=0"], "", 1, "csv-to-load: --decimals Pay: told twice")
+        self.check([*english, "--decimals", "Pay=0"], "", 1, "csv-to-load: --decimals Pay: given twice")
 
     def test_what_is_taken_as_it_is_is_noted(self) -> None:
         self.check(

@@ -119,7 +119,7 @@ def refuse_present(found: Sequence[Pick], database: sqlite3.Connection, has_view
             raise Misfit(f"{name} is in the database, so no table was made: --replace replaces it")
 
 
-def tables_told(found: Sequence[Pick]) -> str:
+def listing(found: Sequence[Pick]) -> str:
     """The tables that were made, and how many rows each has."""
     return to_text([["table", "rows"], *([pick.name, str(len(pick.answer.table.records))] for pick in found)])
 

@@ -43,7 +43,7 @@ def show(text: str) -> None:
 
 
 def do_list(options: Namespace) -> int:
-    """Tells all answers, refusals too. The status is 1 where there is one, as that of dipq is."""
+    """Lists all answers, refusals too. The status is 1 where there is one, as that of dipq is."""
     own = read(options, shows_refusals=True)
     found = own.answers
     if not own.is_own:
@@ -114,10 +114,10 @@ def do_sqlite(options: Namespace) -> None:
         for column in databases.make_tables(found, database, wishes):
             warn(f"{column} has sums past SQLite's integers, so it is a text there, and isn't in the order of numbers")
         made = databases.made_of(found, database)
-        told = [asked(database, query, made, found) for query in options.query]
-        shown = databases.shown(told, look)
+        replies = [asked(database, query, made, found) for query in options.query]
+        shown = databases.shown(replies, look)
     # What is printed may be read by a program that ends early, and by then all is kept.
-    show("".join(shown) if options.query else databases.tables_told(found))
+    show("".join(shown) if options.query else databases.listing(found))
     for pick in found:
         if options.day is not None and not databases.has_period(pick):
             warn(f"--day: {pick.name} has no period, so there is no view of it")
@@ -126,8 +126,8 @@ def do_sqlite(options: Namespace) -> None:
 def asked(
     database: sqlite3.Connection, query: str, made: queries.Made, found: Sequence[picks.Pick],
 ) -> databases.Asked:
-    for told in queries.doubts_of(query, made):
-        warn(f"--query: {told}")
+    for doubt in queries.doubts_of(query, made):
+        warn(f"--query: {doubt}")
     answer = databases.ask(database, query, found)
     for name in answer.twins():
         warn(f"--query: several columns are called {records.visible(name)}: `as` gives each its own name")
@@ -154,7 +154,7 @@ def do_gaps(options: Namespace) -> None:
 
 def do_history(options: Namespace) -> None:
     if options.retroactive and not options.diary:
-        raise Misfit("--retroactive: --diary tells the days of commits, and none is given")
+        raise Misfit("--retroactive: the days of commits are those of a --diary, and none is given")
     found = read(options)
     if not found.is_own:
         fitting.refuse_unfit(found.answers, found.answers)
@@ -165,7 +165,7 @@ def do_history(options: Namespace) -> None:
     for doubt in history.doubts_of(table, days, newest):
         warn(f"--diary {options.diary}: {doubt}")
     if options.where and not table.records:
-        warn(f"no row of {options.table} ever had what --where tells")
+        warn(f"no row of {options.table} ever had the values of --where")
     table = history.retroactive(table) if options.retroactive else table
     printed.show(options, table if wanted is None else history.of_commits(table, wanted))
 
@@ -177,21 +177,21 @@ def commits_of(options: Namespace, newest: int) -> Optional[range]:
     first, last = options.commit
     last = newest if last is None else last
     if not 1 <= first <= last <= newest:
-        told = f"{first}: no commit that is" if first == last else f"{first}-{last}: no commits that are"
-        raise Misfit(f"--commit {told} there: the newest is {newest}")
+        none = f"{first}: no commit that is" if first == last else f"{first}-{last}: no commits that are"
+        raise Misfit(f"--commit {none} there: the newest is {newest}")
     return range(first, last + 1)
 
 
 def do_front(options: Namespace) -> int:
-    """Tells what differs. The status is 1 where something does."""
+    """Reports what differs. The status is 1 where something does."""
     script, kept = bytes_of(options.script), bytes_of(options.kept)
     if script and not kept:
         warn(f"{options.kept} is empty, and so the front of any answers")
     lines = list(front.edits(bytes_of(options.before), script)) if options.before else []
     output = asking.output(options.program, script)
     found, places = [], []
-    with Progress(called.ANSWERS_SAY) as tell:
-        reading = answers.Reading(Source(output), True, tell)
+    with Progress(called.ANSWERS_SAY) as advance:
+        reading = answers.Reading(Source(output), True, advance)
         for answer in reading.answers(commands.commands(Source(script))):
             found.append(answer)
             places.append(reading.place.number)
@@ -208,13 +208,13 @@ def do_picture(options: Namespace) -> None:
 
 def do_page(options: Namespace) -> int:
     """Prints the page. The status is that of a list."""
-    told = sources.ask(options)
-    streams.write(document.pieces(contents.of(told, options.diary)))
-    return 1 if any(answer.refusal for answer in told.answers) and not options.go_on else 0
+    found = sources.ask(options)
+    streams.write(document.pieces(contents.of(found, options.diary)))
+    return 1 if any(answer.refusal for answer in found.answers) and not options.go_on else 0
 
 
 def do_refusals(options: Namespace) -> int:
-    """Tells each refusal, and of one for a key the rows. The status is 1 where there is one."""
+    """Explains each refusal, and of one for a key the rows. The status is 1 where there is one."""
     found = read(options, shows_refusals=True).answers
     found_marks, replay = marks.Marks(found), Replay()
     for answer, replay in marks.walk(found):
@@ -234,7 +234,7 @@ def do_only(options: Namespace) -> None:
 
 
 def do_faulty(options: Namespace) -> int:
-    """Tells the faulty rows, and that something else was refused. The status is 1 where there is either."""
+    """Lists the faulty rows, and reports that something else was refused. The status is 1 where there is either."""
     script = bytes_of(options.script)
     lines = asking.faulty(options.program, script)
     streams.show_lines(lines)
@@ -270,7 +270,7 @@ def words_of_sqlite(parser: ArgumentParser) -> None:
     with_picks(parser)
     parser.add_argument(
         "--query", action="append", default=[], metavar="SQL",
-        help="prints what the database answers, as CSV; without one the tables are told",
+        help="prints what the database answers, as CSV; without one the tables are listed",
     )
     parser.add_argument("--replace", action="store_true", help="replaces tables of these names in the database")
     parser.add_argument("--open-null", action="store_true", help="an end in the year 9999 is NULL in the tables")
@@ -291,7 +291,7 @@ def words_of_page(parser: ArgumentParser) -> None:
     parser.add_argument("--note", default="", metavar="TEXT", help="what is to be read first")
     parser.add_argument("--diary", metavar="TABLE", help="a table whose first column is the newest commit of a time")
     parser.add_argument(
-        "--once", action="store_true", help="doesn't do the program's answers again, which the page then tells",
+        "--once", action="store_true", help="doesn't do the program's answers again, and the page says so",
     )
     words_of_looks(parser, "amounts are as 1.234,50")
 
@@ -315,13 +315,13 @@ def words_of_history(parser: ArgumentParser) -> None:
         "--commit", type=some_commits, metavar="N",
         help="only what this commit changed; as N-M those from N to M, as N- all from N on",
     )
-    parser.add_argument("--retroactive", action="store_true", help="only the time before the day that the diary tells")
+    parser.add_argument("--retroactive", action="store_true", help="only the time before the day that the diary has")
     printed.words_of_tables(parser)
 
 
 def words_of_front(parser: ArgumentParser) -> None:
     parser.add_argument("kept", metavar="KEPT", help="answers of an earlier time")
-    parser.add_argument("--before", metavar="SCRIPT", help="the script of that time: what was edited in it is told")
+    parser.add_argument("--before", metavar="SCRIPT", help="the script of that time: what was edited in it is named")
 
 
 def words_of_only(parser: ArgumentParser) -> None:
@@ -333,9 +333,9 @@ def words_of_only(parser: ArgumentParser) -> None:
 
 
 class Tool(NamedTuple):
-    """A subcommand: what it does, what it is told beside the script, and whether it takes answers that are there.
+    """A subcommand: what it does, which words it has beside the script, and whether it takes answers that are there.
 
-    More is told by its own help alone.
+    More is said by its own help alone.
     """
 
     do: Callable[[Namespace], Optional[int]]
@@ -353,13 +353,13 @@ OF_PAGE = f"""It is one file that asks no network: `{called.ANSWERS} page SCRIPT
 and what touched nothing, commits, questions with tables and pictures, what was said then beside what is said now, and
 what each table held. Each answer is done again, and where one differs no page is made. The status is that of `list`."""
 TOOLS: Dict[str, Tool] = {
-    "list": Tool(do_list, "tells of each answer its number, its line and its command", more=OF_LIST),
+    "list": Tool(do_list, "lists each answer with its number, its line and its command", more=OF_LIST),
     "csv": Tool(do_csv, "prints an answer (the last) as CSV with a header, or writes files", words_of_csv),
     "sqlite": Tool(do_sqlite, "makes a table of each answer in an SQLite database", words_of_sqlite),
     "json": Tool(do_json, "prints answers as JSON", with_picks),
     "picture": Tool(do_picture, "draws a division, rows, an aggregate or versions, as text or SVG", words_of_picture),
     "changed": Tool(
-        do_changed, "tells what really changed between two answers (the last two)", words_of_changed, more=OF_CHANGED,
+        do_changed, "lists what really changed between two answers (the last two)", words_of_changed, more=OF_CHANGED,
     ),
     "overlaps": Tool(do_overlaps, "finds the rows that a key of the columns would forbid", words_of_overlaps),
     "gaps": Tool(do_gaps, "finds the times between rows of one value without any", words_of_overlaps),
@@ -371,12 +371,12 @@ TOOLS: Dict[str, Tool] = {
         over_time.do_months, "sums amounts by month, quarter, year or week", over_time.words_of_months,
         more=over_time.OF_MONTHS,
     ),
-    "history": Tool(do_history, "tells what each commit changed of a table, or of one fact", words_of_history),
+    "history": Tool(do_history, "lists what each commit changed of a table, or of one fact", words_of_history),
     "front": Tool(
-        do_front, "tells whether answers that were kept are still the front of the script's", words_of_front, False,
+        do_front, "says whether answers that were kept are still the front of the script's", words_of_front, False,
     ),
     "page": Tool(do_page, "prints one page of HTML with all answers, for a browser", words_of_page, more=OF_PAGE),
-    "refusals": Tool(do_refusals, "tells each refusal, its field and its reason; of keys, the rows"),
+    "refusals": Tool(do_refusals, "explains each refusal by its field and its reason; of keys, by the rows"),
     "only": Tool(do_only, "prints the command that deletes or updates the row of an id, and no other", words_of_only),
     "raise": Tool(
         going_on.do_raise, "prints the updates that raise amounts by a part of themselves", going_on.words_of_raise,
@@ -386,7 +386,7 @@ TOOLS: Dict[str, Tool] = {
         going_on.do_next, "prints an answer as a table and a load of the next script", going_on.words_of_next,
         more=going_on.OF_NEXT,
     ),
-    "faulty": Tool(do_faulty, "tells all faulty rows of all loads, where dipq tells the first", has_answers=False),
+    "faulty": Tool(do_faulty, "lists all faulty rows of all loads, where dipq names the first", has_answers=False),
 }
 
 
@@ -412,9 +412,9 @@ def parser_of(name: str, tool: Tool) -> ArgumentParser:
 
 def usage() -> str:
     return ABOUT + "".join(f"  {name:10}{tool.about}\n" for name, tool in TOOLS.items()) + (
-        f"\n{NAME} COMMAND --help tells the words of each. The status is 2 where the words are wrong, and 1 where"
+        f"\n{NAME} COMMAND --help lists the words of each. The status is 2 where the words are wrong, and 1 where"
         "\nsomething isn't understood, or a command was refused; with --go-on that is 1 only of `refusals`, or where"
-        "\nan --ask was refused, which `list` tells in its place.\n"
+        "\nan --ask was refused, which `list` shows in its place.\n"
     )
 
 
@@ -434,8 +434,8 @@ def main(words: Sequence[str]) -> int:
             printed.refuse_words(options)
             return tool.do(options) or 0
     except OSError as error:
-        told = error.strerror or str(error)
-        return fail(f"{error.filename}: {told}" if error.filename else told)
+        why = error.strerror or str(error)
+        return fail(f"{error.filename}: {why}" if error.filename else why)
     except (Misfit, sqlite3.Error, sqlite3.Warning) as error:
         return fail(str(error))
     except MemoryError:
@@ -444,7 +444,7 @@ def main(words: Sequence[str]) -> int:
         return fail(f"SQLite has UTF-8 alone, and none is {records.visible(error.object)}")
 
 
-def fail(told: str) -> int:
-    warn(told)
+def fail(why: str) -> int:
+    warn(why)
     streams.drop_unwritable()
     return 1

@@ -27,8 +27,8 @@ class Found(NamedTuple):
 
 
 def read(options: Namespace, shows_refusals: bool = False, script: Optional[bytes] = None) -> Found:
-    """The answers to the script, which is read where it isn't told. Ends where a command was refused, unless it is told
-    to go on.
+    """The answers to the script, which is read where it isn't given. Ends where a command was refused and isn't to be
+    passed over.
 
     A question that is asked just now isn't passed over, since another one's answer would stand in its place.
     """
@@ -49,8 +49,8 @@ def read(options: Namespace, shows_refusals: bool = False, script: Optional[byte
     if all(command.record.is_asked for command in begun):
         warn(EMPTY)
     output = running.output() if running else bytes_of(options.answers)
-    with Progress(called.ANSWERS_SAY) as tell:
-        found = answers.of_commands(begun, output, running is not None, tell)
+    with Progress(called.ANSWERS_SAY) as advance:
+        found = answers.of_commands(begun, output, running is not None, advance)
     refused = [answer for answer in found if answer.refusal and not shows_refusals]
     if refused and not options.go_on:
         more = f"{len(refused)} refused; `{called.ANSWERS} refusals` explains, --go-on goes on"
@@ -82,40 +82,40 @@ def bytes_of(name: str) -> bytes:
 
 def chosen(found: Found, words: Sequence[str]) -> List[picks.Pick]:
     """The answers that were picked and all that were asked, or where there is neither, all of the script."""
-    told = picked(found, words)
-    look_at(found, [pick.answer for pick in told])
-    if not told:
+    some = picked(found, words)
+    look_at(found, [pick.answer for pick in some])
+    if not some:
         warn("none of the answers is more than an `ok`, so there is no table: ask by --ask, as --ask rows,T")
-    return told
+    return some
 
 
 def picked(found: Found, words: Sequence[str]) -> List[picks.Pick]:
     return picks.pick(found.answers, words, found.asked, found.names)
 
 
-def look_at(found: Found, told: Sequence[Answer]) -> None:
-    """Refuses answers that aren't to this script, unless the program has just been asked, and tells empty pasts."""
+def look_at(found: Found, taken: Sequence[Answer]) -> None:
+    """Refuses answers that aren't to this script, unless the program has just been asked, and reports empty pasts."""
     if not found.is_own:
-        fitting.refuse_unfit(found.answers, told)
+        fitting.refuse_unfit(found.answers, taken)
     beginnings = replay.Beginnings(found.answers)
-    for answer in told:
+    for answer in taken:
         for past in beginnings.told(answer):
             warn(f"{answer.place}: {records.short(answer.command.text)}: {past}")
 
 
 def last(found: Found, words: Sequence[str], count: int) -> List[Answer]:
     """So many answers: those that were picked or asked, or else the last that are more than an `ok`."""
-    told = picked(found, words)
-    if len(told) < count and not words:
-        raise Misfit(f"{count} wanted, and {len(told)} of the answers more than an `ok`: ask by --ask, as --ask rows,T")
-    if len(told) != count and (words or found.asked):
+    some = picked(found, words)
+    if len(some) < count and not words:
+        raise Misfit(f"{count} wanted, and {len(some)} of the answers more than an `ok`: ask by --ask, as --ask rows,T")
+    if len(some) != count and (words or found.asked):
         several = ": `csv --folder`, `sqlite` and `json` take several" if count == 1 else ""
-        remedy = ": one more PICK or --ask is wanted" if len(told) < count else several
-        raise Misfit(f"{len(told)} answer{'s' * (len(told) != 1)}, and not {count}{remedy}")
-    taken = [pick.answer for pick in told[-count:]]
+        remedy = ": one more PICK or --ask is wanted" if len(some) < count else several
+        raise Misfit(f"{len(some)} answer{'s' * (len(some) != 1)}, and not {count}{remedy}")
+    taken = [pick.answer for pick in some[-count:]]
     look_at(found, taken)
     return taken
 
 
-def warn(told: str) -> None:
-    streams.report(f"{called.ANSWERS_SAY}: {told}")
+def warn(note: str) -> None:
+    streams.report(f"{called.ANSWERS_SAY}: {note}")

@@ -77,7 +77,7 @@ def words_of_table(parser: ArgumentParser) -> None:
     parser.add_argument(
         "--table", dest="record", metavar="RECORD",
         help="the table's record, as table,pay,person,text, or a script that has it: what doesn't fit it is refused, "
-        "and its names are the COLUMNs where none is told",
+        "and its names are the COLUMNs where none is given",
     )
     parser.add_argument("--print-table", action="store_true", help="prints that record before the load")
     parser.add_argument(
@@ -102,7 +102,7 @@ def words_of_values(parser: ArgumentParser) -> None:
         "--decimals", type=digits_of, action="append", default=[], metavar="COLUMN=DIGITS",
         help="numbers with so many decimals at most, which become whole: with euros=2, 4800.5 is 480050 cents",
     )
-    parser.add_argument("--decimal-mark", choices=(".", ","), help="tells how 7,500 is read, which could be both")
+    parser.add_argument("--decimal-mark", choices=(".", ","), help="how 7,500 is read, which could be both")
     parser.add_argument(
         "--unit", type=unit, action="append", default=[], metavar="UNIT",
         help="numbers with decimals may have this before or behind them, as EUR or a sign of a currency",
@@ -118,17 +118,17 @@ def words_of_values(parser: ArgumentParser) -> None:
 
 
 def refuse_words(options: Namespace) -> None:
-    """Refuses names that are no COLUMNs, or that are told twice."""
+    """Refuses names that are no COLUMNs, or that are given twice."""
     columns: List[str] = options.column
     for word, names in (("decimals", [name for name, _ in options.decimals]), ("update", options.update)):
         for name in names:
             if name not in columns:
                 raise Misfit(f"--{word} {name}: none of the columns {', '.join(columns)}")
             if names.count(name) > 1:
-                raise Misfit(f"--{word} {name}: told twice")
+                raise Misfit(f"--{word} {name}: given twice")
     twice = [name for name in columns if columns.count(name) > 1]
     if twice:
-        raise Misfit(f"{twice[0]} is told twice, and a column of the file fills one of the table's")
+        raise Misfit(f"{twice[0]} is given twice, and a column of the file fills one of the table's")
     if options.delete and options.update:
         raise Misfit("--delete makes deletes of the file's rows, and --update makes updates: one of them")
     if options.delete and not columns and not options.record:
@@ -138,7 +138,7 @@ def refuse_words(options: Namespace) -> None:
     if options.unit and not options.decimals:
         raise Misfit("--unit: no column is given by --decimals, and others are taken as they are")
     if options.print_table and not options.record:
-        raise Misfit("--print-table: --table tells no table")
+        raise Misfit("--print-table: no table is given by --table")
 
 
 def given(options: Namespace) -> bytes:
@@ -177,7 +177,7 @@ def load_of(options: Namespace) -> Tuple[Load, Optional[Schema], List[str]]:
 
 
 def claimed(options: Namespace) -> Tuple[bytes, List[str]]:
-    """The check of a division that the file tells, and what is noted of it."""
+    """The check of a division that the file has, and what is noted of it."""
     if options.column:
         raise Misfit(f"--check: a division has a part and an id alone, and not {options.column[0]}")
     if options.check != "-" and read_point(options.check) is None:
@@ -223,15 +223,15 @@ def made(options: Namespace) -> Tuple[List[bytes], List[str], List[str], int]:
 
 def made_of(load: Load) -> Iterator[bytes]:
     """The load by pieces, while a terminal is shown how far it is."""
-    with Progress(called.LOAD_SAYS) as tell_rows:
+    with Progress(called.LOAD_SAYS) as advance:
         for piece in load.made():
             yield piece
-            tell_rows(load.rows)
+            advance(load.rows)
 
 
-def tell(told: List[str], count: int) -> None:
-    more = [f"and {count - len(told)} more"] if count > len(told) else []
-    for one in [*told, *more]:
+def report(notes: List[str], count: int) -> None:
+    more = [f"and {count - len(notes)} more"] if count > len(notes) else []
+    for one in [*notes, *more]:
         streams.report(f"{called.LOAD_SAYS}: {one}")
 
 
@@ -262,6 +262,6 @@ def main(arguments: Sequence[str]) -> int:
         faults, notes, count = [f"{error.filename}: {error.strerror}"], [], 1
     except MemoryError:
         faults, notes, count = ["out of memory: --part 1/2 and --part 2/2 make two scripts of the file"], [], 1
-    tell(faults or notes, count)
+    report(faults or notes, count)
     show([FAILED] if count else pieces)
     return 1 if count else 0

@@ -1,4 +1,4 @@
-"""A line on a terminal that tells what a tool is at, where it takes more than two seconds; in a pipe there is none."""
+"""A line on a terminal that shows what a tool is at, where it takes more than two seconds; in a pipe there is none."""
 import sys
 from threading import Event, RLock, Thread
 from time import monotonic
@@ -6,10 +6,10 @@ from typing import Callable, ClassVar, List, Optional
 
 
 class Progress:
-    """For a `with`, which takes the line away. It tells the seconds since, or how many records there were.
+    """For a `with`, which takes the line away. It shows the seconds since, or how many records there were.
 
     A thread writes it, so the line moves too where the tool waits for the program. Of several within one another the
-    innermost is told. Standard error is asked for where one begins, so that tests may put another in its place.
+    innermost is shown. Standard error is asked for where one begins, so that tests may put another in its place.
     """
 
     PATIENCE, PAUSE = 2.0, 0.5
@@ -25,7 +25,7 @@ class Progress:
         self.is_watched, self.is_done = sys.stderr.isatty(), Event()
         self.thread = Thread(target=self.watch, daemon=True)
 
-    def tell(self, count: int) -> None:
+    def advance(self, count: int) -> None:
         self.count = count
 
     def watch(self) -> None:
@@ -48,7 +48,7 @@ class Progress:
                 Progress.is_over = Progress.is_over and bool(self.begun)
                 self.begun.append(self)
             self.thread.start()
-        return self.tell
+        return self.advance
 
     def __exit__(self, *_: object) -> None:
         if self.is_watched:

@@ -14,7 +14,7 @@ from ruzgalt.script.reader import LONGEST_FIELD
 def prepare(name: str) -> None:
     """Makes the process a tool's: it ends as other programs do, where its output isn't read to its end, or by Ctrl-C.
 
-    Ends where there is no place for what would be printed. What would be told goes nowhere, if it has no place.
+    Ends where there is no place for what would be printed. What would be reported goes nowhere, if it has no place.
     """
     csv.field_size_limit(LONGEST_FIELD)
     signal.signal(signal.SIGPIPE, signal.SIG_DFL)

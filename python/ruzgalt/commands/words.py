@@ -1,4 +1,4 @@
-"""Words of command lines that several tools take, as what they tell."""
+"""Words of command lines that several tools take, as what they say."""
 import sys
 from argparse import ArgumentParser, ArgumentTypeError, Namespace
 from typing import NoReturn, Optional, Tuple
@@ -9,7 +9,7 @@ from ruzgalt.commands import screen
 
 
 class Words(ArgumentParser):
-    """The words of a tool. What is wrong with them is told without what would act on a terminal."""
+    """The words of a tool. What is wrong with them is said without what would act on a terminal."""
 
     def error(self, message: str) -> NoReturn:
         super().error(screen.visible(message) if sys.stderr.isatty() else message)
