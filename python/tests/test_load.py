@@ -263,14 +263,14 @@ class Tables(Case):
     def test_columns_in_another_order_are_refused(self) -> None:
         text = "Person,Euros,Start,End\nA,1,2024-01-01,2024-03-05\n"
         words = ["pay", "Start", "End", "Euros", "Person", "--table", self.RECORD]
-        self.refused("Euros is told as column 1, which is person in the table", text, *words)
+        self.refused("Euros is given as column 1, which is person in the table", text, *words)
 
     def test_a_column_told_twice_is_refused(self) -> None:
-        self.refused("Name is told twice", rows("A,1,2024-01-01,2024-03-05"), "pay", "Start", "End", "Name", "Name")
+        self.refused("Name is given twice", rows("A,1,2024-01-01,2024-03-05"), "pay", "Start", "End", "Name", "Name")
 
     def test_too_few_columns_are_refused(self) -> None:
         words = ["pay", "Start", "End", "Name", "--table", self.RECORD]
-        self.refused("1 columns are told, and pay has 2: person, euros", rows("A,1,2024-01-01,2024-03-05"), *words)
+        self.refused("1 columns are given, and pay has 2: person, euros", rows("A,1,2024-01-01,2024-03-05"), *words)
 
     def test_a_value_of_another_kind_is_refused_with_its_line(self) -> None:
         text = rows("A,4.5,2024-01-01,2024-03-05")
@@ -557,7 +557,7 @@ class Files(Case):
 
     def test_a_name_that_two_columns_have_but_for_capitals_is_refused(self) -> None:
         text = "Name,NAME,Start,End\nA,B,2024-01-01,2024-03-05\n"
-        told = "name is in the header as 'Name' and 'NAME': the COLUMNs tell which is meant"
+        told = "name is in the header as 'Name' and 'NAME': the COLUMNs are to say which is meant"
         self.refused(told, text, "pay", "Start", "End", "--table", "table,pay,name,text")
 
     def test_nine_tenths_of_a_limit_are_told(self) -> None:

@@ -125,11 +125,11 @@ class Words(ToolCase):
         table = ["--table", "table,pay,name,text,grade,text"]
         for words, told in [
             (["Grade=Neu"], "Grade=Neu: Grade is no name of a table's column"),
-            (["grade=Neu", "grade=Alt"], "grade=Alt: the table's grade is told twice"),
-            (["grade=Neu", "note=Neu"], "Neu is told twice"),
+            (["grade=Neu", "grade=Alt"], "grade=Alt: the table's grade is given twice"),
+            (["grade=Neu", "note=Neu"], "Neu is given twice"),
             (["grade=New"], "not in the header: New"),
             (["note=Neu", *table], "Neu: pay has no column note, but name, grade"),
-            (["Name", "Neu", "--update", "Name"], "NAME=Name or --table tells the table's"),
+            (["Name", "Neu", "--update", "Name"], "NAME=Name or --table gives the table's"),
         ]:
             self.check([*self.LOADS, *words], self.FILE, 1, told)
 

@@ -132,7 +132,7 @@ class Workbooks(ToolCase):
     def test_of_several_sheets_one_is_named(self) -> None:
         row = [date(2024, 1, 1), date(2024, 2, 1), "x"]
         data = workbook({"A": [["None"]], "Löhne": [["From", "To", "Name"], row]})
-        self.assertIn("the workbook has the sheets A, Löhne: --sheet tells which", loaded(data, ["Name"])[2])
+        self.assertIn("the workbook has the sheets A, Löhne: --sheet says which", loaded(data, ["Name"])[2])
         self.assertIn("--sheet B: no sheet of the workbook, which has A, L", loaded(data, ["Name", "--sheet", "B"])[2])
         found = loaded(data, ["Name", "--sheet", "Löhne"])
         self.assertEqual(found, (0, "load,t\nrow,2024-01-01,2024-02-01,x\nend\n", ""))

@@ -1,4 +1,4 @@
-"""Somebody's division, told as CSV with a header, as a `check` of the script."""
+"""Somebody's division, given as CSV with a header, as a `check` of the script."""
 from typing import Dict, Iterable, Iterator, List, Tuple
 
 from ruzgalt.checking.looks import LookAlikes
@@ -32,5 +32,5 @@ def alike(column: str, parts: Iterable[str]) -> Iterator[str]:
     for name in parts:
         other = looks.other(name)
         if other is not None:
-            told = f"is another part than '{visible(other)}', though they look alike"
-            yield f"{visible(column)} is '{visible(name)}', and {told}"
+            which = f"is another part than '{visible(other)}', though they look alike"
+            yield f"{visible(column)} is '{visible(name)}', and {which}"

@@ -95,11 +95,11 @@ class End(Column):
             raise Misfit(self.remedy(text))
         made = dates.point(text, self.form)
         if dates.is_far_off(made):
-            told = f"a row ends there; where no end is known, --no-end '{text}' makes it {NO_END}"
-            self.doubts[value] = Doubt("far off", told)
+            why = f"a row ends there; where no end is known, --no-end '{text}' makes it {NO_END}"
+            self.doubts[value] = Doubt("far off", why)
         if "T23:59" in made and not self.is_last_day:
-            told = "the row doesn't hold at its end: a day ends at the next one's midnight"
-            self.doubts[value] = Doubt("23:59", told)
+            why = "the row doesn't hold at its end: a day ends at the next one's midnight"
+            self.doubts[value] = Doubt("23:59", why)
         return self.the_next_day(made) if self.is_last_day else made
 
     def remedy(self, text: str) -> str:
@@ -148,10 +148,10 @@ class Text(Column):
         # No character has more than four bytes.
         if len(made) > TEXT_LIMIT // 4 and not is_short(made):
             raise Misfit("a text has 4,096 bytes at most")
-        told = doubt_of(made, self.mark)
+        why = doubt_of(made, self.mark)
         other = self.look_alikes.other(made)
-        if told:
-            self.doubts[text] = Doubt(told, told)
+        if why:
+            self.doubts[text] = Doubt(why, why)
         elif other is not None:
             self.doubts[text] = Doubt("alike", f"it is another text than '{visible(other)}', though they look alike")
         elif self.is_key and not made:

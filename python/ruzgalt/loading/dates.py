@@ -1,4 +1,4 @@
-"""Points in the forms of other programs. A form is told by the last day of 2024 as it is written there."""
+"""Points in the forms of other programs. A form is named by the last day of 2024 as it is written there."""
 import re
 from datetime import date, datetime, timedelta
 from typing import Dict, List, NamedTuple, Optional, Pattern, Sequence
@@ -36,7 +36,7 @@ SWAPPED = {
 }
 HALF = re.compile(r"[AaPp]\.?[Mm]\.?$")
 FRACTION = re.compile(r"(\d:\d\d:\d\d)[.,]\d+", re.ASCII)
-# A row that starts in so many years or later is told of.
+# A row that starts in so many years or later is reported.
 YEARS_AHEAD = 10
 # Excel counts days from here on, for all days since March 1900.
 EXCEL_BEGINNING, EXCEL_FIRST = datetime(1899, 12, 30), 61
@@ -45,10 +45,10 @@ MISSING = ("", "-", "none", "null", "nan", "nat", "n/a", "unbefristet", "offen",
 
 
 def read_as(form: str, text: str) -> Optional[datetime]:
-    told = FORMS[form].fullmatch(text)
-    if told is None:
+    found = FORMS[form].fullmatch(text)
+    if found is None:
         return None
-    parts = told.groupdict()
+    parts = found.groupdict()
     try:
         if form == EXCEL:
             if int(parts["days"]) < EXCEL_FIRST:
@@ -97,8 +97,8 @@ def remedy_for(text: str, form: Optional[str]) -> str:
     others = [] if is_own else [GERMAN] if GERMAN in others else others
     words = " or ".join("--german" if other == GERMAN else word_for(other) for other in others)
     if whole != text and (is_own or others):
-        told = f"{words} and " if words else ""
-        return f"; with {told}--whole-seconds, which leaves out parts of a second, it is one"
+        others = f"{words} and " if words else ""
+        return f"; with {others}--whole-seconds, which leaves out parts of a second, it is one"
     if words:
         return f"; with {words} it is one"
     if re.fullmatch(r".*\d(?:Z|[+-]\d\d:?\d\d)", text) and text.count(":"):

@@ -66,7 +66,7 @@ def without(unit: str, text: str) -> str:
 
 
 class Marks:
-    """Which mark parts decimals in a file: whether a word says so, or its numbers tell that by themselves.
+    """Which mark parts decimals in a file: whether a word says so, or its numbers show it by themselves.
 
     `either` is the first number, with its column, that could be read both ways.
     """
@@ -178,8 +178,8 @@ class Scale:
         if unit and unit.casefold().strip(".") in NO_UNITS:
             return f"; is {unit} a multiple, or a sign? the number is to be written without it"
         if unit and any(number_in(without(unit, bare), mark) for mark in ".,"):
-            told = f"; with --unit {shlex.quote(unit)} it is one"
-            return f"{told}, of the same unit as those of {', '.join(self.units)}" if self.units else told
+            remedy = f"; with --unit {shlex.quote(unit)} it is one"
+            return f"{remedy}, of the same unit as those of {', '.join(self.units)}" if self.units else remedy
         return ""
 
 

@@ -38,7 +38,7 @@ def rename(options: Namespace, header: Sequence[str]) -> None:
             if not is_name(name):
                 raise Misfit(f"{visible(word)}: {visible(name)} is no name of a table's column")
             if name in options.renamed.values():
-                raise Misfit(f"{visible(word)}: the table's {name} is told twice")
+                raise Misfit(f"{visible(word)}: the table's {name} is given twice")
             options.column[place] = column
             options.renamed[column] = name
 
@@ -56,10 +56,10 @@ def fit(options: Namespace, schema: Schema, header: Sequence[str]) -> Tuple[Sche
         pairs = [(name, name_in(header, name)) for name in (key_of(schema) if options.delete else schema.names)]
         left_out = [name for name, found in pairs if options.update and found not in header]
         options.column = [found for name, found in pairs if name not in left_out]
-    told = [name_for(options, name) for name in options.column]
-    fitted = some_of(schema, told) if options.update or options.delete else schema
+    names = [name_for(options, name) for name in options.column]
+    fitted = some_of(schema, names) if options.update or options.delete else schema
     if fitted is schema:
-        refuse_others(told, schema)
+        refuse_others(names, schema)
     of_file = dict(zip(fitted.names, options.column))
     options.update = [name_of(name, of_file) for name in options.update]
     options.decimals = [(name_of(name, of_file), digits) for name, digits in options.decimals]
@@ -97,8 +97,8 @@ def name_in(header: Sequence[str], name: str) -> str:
     """The name in the header that is one of the table's, but for capitals and spaces round it."""
     alike = [one for one in header if plain(one) == name]
     if len(alike) > 1 and name not in header:
-        told = " and ".join(f"'{visible(one)}'" for one in alike)
-        raise Misfit(f"{name} is in the header as {told}: the COLUMNs tell which is meant")
+        both = " and ".join(f"'{visible(one)}'" for one in alike)
+        raise Misfit(f"{name} is in the header as {both}: the COLUMNs are to say which is meant")
     return name if name in header or not alike else alike[0]
 
 
@@ -124,7 +124,7 @@ def some_of(schema: Schema, columns: Sequence[str]) -> Schema:
 def refuse_others(columns: Sequence[str], schema: Schema) -> None:
     if len(columns) != len(schema.names):
         wanted = f"{schema.name} has {len(schema.names)}: {', '.join(schema.names)}"
-        raise Misfit(f"{len(columns)} columns are told, and {wanted}")
+        raise Misfit(f"{len(columns)} columns are given, and {wanted}")
     for place, name in enumerate(columns):
         if plain(name) in schema.names and schema.names[place] != plain(name):
-            raise Misfit(f"{visible(name)} is told as column {place + 1}, which is {schema.names[place]} in the table")
+            raise Misfit(f"{visible(name)} is given as column {place + 1}, which is {schema.names[place]} in the table")

@@ -18,9 +18,9 @@ from ruzgalt.script.forms import is_name, read_point
 from ruzgalt.script.records import visible
 from ruzgalt.script.schemas import Schema
 
-# What a script and a table can have; from nine tenths on it is told.
+# What a script and a table can have; from nine tenths on that is reported.
 MOST_BYTES, MOST_ROWS = 67_108_864, 1_000_000
-TOLD = 20
+FAULTS = 20
 
 
 class Equals:
@@ -52,8 +52,8 @@ class Equals:
         if self.count:
             which = "rows were" if self.count > 1 else "row was"
             where = f"the first at line {self.first}" if self.count > 1 else f"line {self.first}"
-            told = f"{self.count:,} {which} left out, equal to an earlier one in all of the file's fields"
-            yield f"--drop-equal: {told} ({where})"
+            what = f"{self.count:,} {which} left out, equal to an earlier one in all of the file's fields"
+            yield f"--drop-equal: {what} ({where})"
         elif self.is_dropping:
             yield "--drop-equal: no row is equal to an earlier one in all of the file's fields"
 
@@ -174,7 +174,7 @@ class Load:
         found = [self.stored.index(name) for name in given if name in self.stored]
         if len(found) < len(given) or not set(found) <= set(self.keys):
             wanted = f"{', '.join(given)}, as a load's are, so that is to be an --update column too"
-            raise Misfit(f"--part: rows are parted by {wanted}{'' if schema else '; --table tells the key'}")
+            raise Misfit(f"--part: rows are parted by {wanted}{'' if schema else '; --table has the key'}")
         self.parted_by = found
 
     def look_at(
@@ -186,8 +186,8 @@ class Load:
         for row in sorted(faulty):
             for column, texts, made in zip(self.columns, values, found):
                 if made[row] is None:
-                    told = f"{column.name} is '{visible(texts[row])}': {column.faults[texts[row]]}"
-                    self.add_fault(f"line {lines[row]}: {told}")
+                    what = f"{column.name} is '{visible(texts[row])}': {column.faults[texts[row]]}"
+                    self.add_fault(f"line {lines[row]}: {what}")
         for column, texts in zip(self.columns, values):
             self.notes.count(column.name, column.doubts, lines, texts)
         if self.marks.either and self.either_line is None:
@@ -209,8 +209,8 @@ class Load:
         for line, start, end in zip(lines, starts, ends):
             if start >= end:
                 more = "; where that is the last day, --last-day takes it so" if start == end and len(end) == 10 else ""
-                told = f"{self.options.start} is {start}, and isn't before {self.options.end}, {end}{more}"
-                self.add_fault(f"line {line}: {told}")
+                what = f"{self.options.start} is {start}, and isn't before {self.options.end}, {end}{more}"
+                self.add_fault(f"line {line}: {what}")
 
     def keys_of(self, values: Sequence[Sequence[str]]) -> Sequence[object]:
         if len(self.keys) == 1:
@@ -220,13 +220,13 @@ class Load:
     def refuse_either(self) -> None:
         if self.marks.either and not self.marks.is_settled:
             name, text, bare = self.marks.either
-            why = "its mark may part thousands or decimals, and no other number of the file tells"
+            why = "its mark may part thousands or decimals, and no other number of the file shows which"
             self.add_fault(f"line {self.either_line}: {name} is '{visible(text)}': {why}: {readings(bare, '.,')}")
 
-    def add_fault(self, told: str) -> None:
+    def add_fault(self, what: str) -> None:
         self.count_of_faults += 1
-        if len(self.faults) < TOLD:
-            self.faults.append(told)
+        if len(self.faults) < FAULTS:
+            self.faults.append(what)
 
     def names_in_store(self) -> List[str]:
         """The names of the table's columns: those of the file, where no table is given and changes name them."""
@@ -235,8 +235,8 @@ class Load:
         names = [name_for(self.options, column) for column in self.options.column]
         wrong = [name for name in names if not is_name(name)]
         if wrong and not self.is_load:
-            told = f"NAME={visible(wrong[0])} or --table tells the table's"
-            raise Misfit(f"{visible(wrong[0])} is no name of a table's column: {told}")
+            remedy = f"NAME={visible(wrong[0])} or --table gives the table's"
+            raise Misfit(f"{visible(wrong[0])} is no name of a table's column: {remedy}")
         return names
 
     def records_of(self, columns: List[Sequence[str]]) -> List[str]:
@@ -257,21 +257,21 @@ class Load:
         """What may not be meant."""
         if not self.rows:
             yield f"no row stands behind the header, so {'the load has none' if self.is_load else 'nothing is changed'}"
-        yield from [*self.notes.told(), *self.ends.told(), *self.twins.told(), *self.told_of_scales()]
+        yield from [*self.notes.told(), *self.ends.told(), *self.twins.told(), *self.notes_of_scales()]
         if self.left_out:
             yield self.left_out
         if self.is_load and self.options.column and not (self.schema and self.schema.key):
             yield from self.repeats.told()
-        yield from [*self.told_of_points(), *self.told_of_words(), *self.equals.told()]
-        yield from self.sheet.told(self.places[:2], self.places[2:])
+        yield from [*self.notes_of_points(), *self.notes_of_words(), *self.equals.told()]
+        yield from self.sheet.notes(self.places[:2], self.places[2:])
         if not self.is_load:
             yield from [*self.ends.told_of_starts(self.options.delete), *self.overwrites.told()]
         if self.rows > MOST_ROWS * 9 // 10 or self.bytes > MOST_BYTES * 9 // 10:
             limits = f"a script has {MOST_BYTES:,} bytes at most, a table {MOST_ROWS:,} versions of rows"
-            told = f"{self.rows:,} rows in {self.bytes:,} bytes leave little room for corrections"
-            yield f"{told}: {limits}; --part 1/2 and --part 2/2 make two scripts of the file"
+            room = f"{self.rows:,} rows in {self.bytes:,} bytes leave little room for corrections"
+            yield f"{room}: {limits}; --part 1/2 and --part 2/2 make two scripts of the file"
 
-    def told_of_words(self) -> Iterator[str]:
+    def notes_of_words(self) -> Iterator[str]:
         """What comes of words that may not be what was meant: an end that no row has, and a part alone."""
         end = cast(End, self.columns[1])
         for text in sorted(end.no_ends - end.met) if self.rows else []:
@@ -279,10 +279,10 @@ class Load:
             yield f"{word}: no row's {self.options.end} is {what}"
         if self.options.part:
             part, parts = self.options.part
-            told = f"part {part} of {parts} has {self.printed:,} of the file's {self.rows:,} rows"
-            yield f"{told}; only all {parts} parts together have each"
+            count = f"part {part} of {parts} has {self.printed:,} of the file's {self.rows:,} rows"
+            yield f"{count}; only all {parts} parts together have each"
 
-    def told_of_points(self) -> Iterator[str]:
+    def notes_of_points(self) -> Iterator[str]:
         """Dates that are as good the other way round, and times of which some have AM or PM."""
         texts = [point_text(text, False) for column in self.columns[:2] for text in column]
         found = as_good_swapped(texts, form_of(self.options) or "")
@@ -290,19 +290,19 @@ class Load:
             months = f"of {found.wanted} months, and not of {found.found}"
             both = f"of {found.found} months either way" if found.wanted == found.found else months
             example = f"'{found.text}', of {found.dates}, is {found.read}, and would be {found.otherwise}"
-            told = f"--dates {found.other} reads all dates too, which are then {both}: which is meant? ({example})"
-            yield f"{self.options.start} and {self.options.end}: {told}"
+            question = f"--dates {found.other} reads all dates too, which are then {both}: which is meant? ({example})"
+            yield f"{self.options.start} and {self.options.end}: {question}"
         plain = without_half(texts)
         if plain:
-            told = f"'{visible(plain)}' has neither AM nor PM, which others have, and is taken by 24 hours"
-            yield f"{self.options.start} and {self.options.end}: {told}"
+            halves = f"'{visible(plain)}' has neither AM nor PM, which others have, and is taken by 24 hours"
+            yield f"{self.options.start} and {self.options.end}: {halves}"
 
-    def told_of_scales(self) -> Iterator[str]:
+    def notes_of_scales(self) -> Iterator[str]:
         for column in self.columns:
             scale = column.convert
             if isinstance(scale, Scale) and scale.digits > 2 and 0 < scale.longest < scale.digits:
-                told = f"its numbers have {scale.longest} decimals at most, and are told to have {scale.digits}"
-                yield f"{column.name}: {told}; --decimals {column.name}={scale.longest} takes them as they are"
+                count = f"its numbers have {scale.longest} decimals at most, and by --decimals {scale.digits}"
+                yield f"{column.name}: {count}; --decimals {column.name}={scale.longest} takes them as they are"
 
 
 def refuse_header(header: List[str], names: List[str]) -> None:

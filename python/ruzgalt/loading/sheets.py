@@ -31,7 +31,7 @@ class Records(Protocol):
     def pieces(self) -> Iterator[Piece]:
         """Those behind the header, without empty ones."""
 
-    def told(self, points: Sequence[int], values: Sequence[int]) -> Iterable[str]:
+    def notes(self, points: Sequence[int], values: Sequence[int]) -> Iterable[str]:
         """What is to be known of the columns at these places, when all is read."""
 
 
@@ -68,18 +68,18 @@ class Sheet:
     """The file's header, and its other records by pieces.
 
     A reader that takes any quotes takes several rows for one, and they are lost: so it does for two stray quotes, each
-    at the edge of a field, and a field has line breaks only where that is told.
+    at the edge of a field, and a field has line breaks only where that is wanted.
     """
 
     def __init__(self, data: bytes, has_breaks: bool) -> None:
         first = re.search(r"[^\r\n]*\S[^\r\n]*|$", decoded(data))
         text = first[0] if first else ""
-        told = SEPARATOR.fullmatch(text)
-        mark = told[1] if told else max(",;\t", key=re.sub(r'"[^"]*"?', "", text).count)
+        said = SEPARATOR.fullmatch(text)
+        mark = said[1] if said else max(",;\t", key=re.sub(r'"[^"]*"?', "", text).count)
         lines = io.TextIOWrapper(io.BytesIO(data), "utf-8-sig", newline="")
         self.reader = csv.reader(lines, delimiter=mark, strict=True)
         self.has_breaks, self.line = has_breaks, 1
-        if told:
+        if said:
             self.next_record()
         self.header = list(map(composed, self.next_record()))
 
@@ -96,7 +96,7 @@ class Sheet:
             yield piece
             piece = self.take(PIECE)
 
-    def told(self, points: Sequence[int], values: Sequence[int]) -> Iterable[str]:
+    def notes(self, points: Sequence[int], values: Sequence[int]) -> Iterable[str]:
         """Nothing: texts are what they are."""
         return ()
 
@@ -129,8 +129,8 @@ class Sheet:
         for record in records:
             more = sum(field.count("\n") + field.count("\r") - field.count("\r\n") for field in record)
             if more and not self.has_breaks:
-                told = f"a field in quotes goes on to line {self.line + more}"
-                raise Misfit(f"line {self.line}: {told}; where that is meant, --line-breaks takes it")
+                what = f"a field in quotes goes on to line {self.line + more}"
+                raise Misfit(f"line {self.line}: {what}; where that is meant, --line-breaks takes it")
             lines.append(self.line)
             self.line += 1 + more
         return lines

@@ -67,21 +67,21 @@ class Workbook:
         if formula.data_type == "f":
             self.computed[place] += 1
             if cell.value is None:
-                told = "a formula whose value wasn't kept: a spreadsheet that opens and saves the file computes it"
-                raise Misfit(f"cell {formula.coordinate} has {told}")
+                what = "a formula whose value wasn't kept: a spreadsheet that opens and saves the file computes it"
+                raise Misfit(f"cell {formula.coordinate} has {what}")
         self.dates[place] += isinstance(cell.value, date)
         return text_of(cell.value, self.mark)
 
-    def told(self, points: Sequence[int], values: Sequence[int]) -> Iterator[str]:
+    def notes(self, points: Sequence[int], values: Sequence[int]) -> Iterator[str]:
         """What is to be known of the columns at these places: of the period, and of values."""
         for place in [*points, *values]:
             if self.computed[place]:
-                told = "loaded with the value that was last computed"
-                yield f"{visible(self.header[place])} has formulas in {self.computed[place]:,} cells, {told}"
+                how = "loaded with the value that was last computed"
+                yield f"{visible(self.header[place])} has formulas in {self.computed[place]:,} cells, {how}"
         for place in values:
             if self.dates[place]:
-                told = "a spreadsheet makes one of 1-2, and what was typed is lost"
-                yield f"{visible(self.header[place])} has dates in {self.dates[place]:,} cells: {told}"
+                why = "a spreadsheet makes one of 1-2, and what was typed is lost"
+                yield f"{visible(self.header[place])} has dates in {self.dates[place]:,} cells: {why}"
 
 
 def trimmed(record: List[str]) -> List[str]:
@@ -114,8 +114,8 @@ def sheet_of(data: bytes, name: Optional[str], has_values: bool) -> Any:
     try:
         openpyxl = import_module("openpyxl")
     except ModuleNotFoundError:
-        told = "this is a workbook of a spreadsheet, and openpyxl, which reads it, isn't installed"
-        raise Misfit(f"{told}: {NEEDED}") from None
+        what = "this is a workbook of a spreadsheet, and openpyxl, which reads it, isn't installed"
+        raise Misfit(f"{what}: {NEEDED}") from None
     try:
         # It warns of what it leaves out: styles, and rules for what may be typed.
         with warnings.catch_warnings():
@@ -139,7 +139,7 @@ def unreadable(error: Exception) -> Misfit:
 def chosen(book: Any, name: Optional[str]) -> Any:
     names = [sheet.title for sheet in book.worksheets]
     if name is None and len(names) != 1:
-        raise Misfit(f"the workbook has the sheets {', '.join(map(visible, names))}: --sheet tells which")
+        raise Misfit(f"the workbook has the sheets {', '.join(map(visible, names))}: --sheet says which")
     if name is not None and name not in names:
         raise Misfit(f"--sheet {visible(name)}: no sheet of the workbook, which has {', '.join(map(visible, names))}")
     return book[names[0] if name is None else name]
