@@ -128,7 +128,7 @@ impl Load {
     }
 }
 
-/// Does a load, whose opening record says what comes in front. If there are several faults, the first is reported.
+/// Does a load, whose opening record says what comes in front. Of several faults the first is reported.
 pub fn load(
     number: u64,
     opened: Result<Load, Refusal>,

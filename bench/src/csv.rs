@@ -96,7 +96,7 @@ impl Reader {
         }
     }
 
-    /// Reads a field, and returns whether another one follows.
+    /// Reads a field, and says whether another one follows.
     fn read_field(&mut self) -> bool {
         if self.text.get(self.at) == Some(&QUOTE) {
             return self.read_quoted();
@@ -132,7 +132,7 @@ impl Reader {
         self.end_field(start..end + len, at + len)
     }
 
-    /// Ends a field before the byte at a place, and returns whether another field follows.
+    /// Ends a field before the byte at a place, and says whether another field follows.
     fn end_field(&mut self, field: Range<usize>, place: usize) -> bool {
         self.fields.push(field);
         self.at = (place + 1).min(self.text.len());

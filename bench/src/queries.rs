@@ -226,7 +226,7 @@ fn add_part(claim: &mut Claim, record: Record<'_>) -> Result<(), Refusal> {
     Ok(())
 }
 
-/// The parts up to the end of the block that a check opens. If there are several faults, the first is reported.
+/// The parts up to the end of the block that a check opens. Of several faults the first is reported.
 pub fn read_claim(
     number: u64,
     opened: Result<Check, Refusal>,

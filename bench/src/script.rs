@@ -19,7 +19,7 @@ struct Session<W: Write> {
     errors: u64,
 }
 
-/// Answers the commands of a script in order, and returns how many were refused.
+/// Answers the commands of a script in order, and says how many were refused.
 pub fn run(script: Vec<u8>, out: impl Write) -> io::Result<u64> {
     let mut session = Session {
         reader: Reader::new(script),
@@ -69,7 +69,7 @@ impl<W: Write> Session<W> {
         self.refuse(Fault { number, refusal })
     }
 
-    /// Answers the commands of a block, or skips them, and returns whether it has its end.
+    /// Answers the commands of a block, or skips them, and says whether it has its end.
     fn answer_commands(&mut self, is_done: bool) -> io::Result<bool> {
         let mut has_load = false;
         while let Some(record) = self.reader.read() {

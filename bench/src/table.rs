@@ -194,7 +194,7 @@ impl Table {
         });
     }
 
-    /// Keeps what was added since the mark, and returns how many versions that is.
+    /// Keeps what was added since the mark, and says how many versions that is.
     pub fn keep(&mut self, mark: &Mark) -> Result<usize, Refusal> {
         self.exchange_keys(&[], mark.versions)?;
         Ok(self.keep_from(mark.versions))

@@ -29,7 +29,7 @@
 //!
 //! A script of `large-bare`, `large-few`, `large-many`, `large-half`, `large-each`, `large-at-once` or `large-apart` has two
 //! tables of so many rows each, a join of them, an anti-join of either, and all aggregates; one of `large-groups` has one
-//! table, and its aggregates. How their rows lie among values and in time is said where they are made.
+//! table, and its aggregates. How their rows lie among values and in time stands where they are made.
 
 use bench::large::{self, Shape};
 use bench::numbers::Numbers;
