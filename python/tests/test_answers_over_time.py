@@ -172,9 +172,9 @@ class OverTime(unittest.TestCase):
         header, *records = read(text)
         self.assertEqual(header, ["valid_from", "valid_to", *names])
         # What a spreadsheet would run is reported, and nothing else.
-        count = sum(map(is_run, (field for _, _, *group in records for field in group)))
-        self.assertEqual(said.count("\n"), min(count, 1))
-        self.assertEqual(f"would run {count} fields" in said or "would run a field" in said, count > 0)
+        runnable = sum(map(is_run, (field for _, _, *group in records for field in group)))
+        self.assertEqual(said.count("\n"), min(runnable, 1))
+        self.assertEqual(f"would run {runnable} fields" in said or "would run a field" in said, runnable > 0)
         wanted: DefaultDict[Tuple[str, ...], Set[date]] = defaultdict(set)
         for row in case.rows:
             wanted[row.group[:count]].update(row.days)

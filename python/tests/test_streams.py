@@ -162,7 +162,7 @@ class CtrlC(unittest.TestCase):
 
     def test_growth_is_broken_off(self) -> None:
         """Neither a file nor a program is left, whichever signal comes."""
-        for number, said in ((signal.SIGINT, "broken off"), (signal.SIGTERM, "ended")):
+        for number, said in ((signal.SIGINT, "interrupted"), (signal.SIGTERM, "stopped")):
             with self.subTest(said), tempfile.TemporaryDirectory() as name:
                 folder = Path(name)
                 (folder / "files").mkdir()
@@ -196,7 +196,7 @@ class WrongWords(unittest.TestCase):
                 self.assertEqual((status, said.split(":")[0]), (2, "usage"))
 
     def test_a_measure_without_a_program_is_none(self) -> None:
-        status, _, said = run(f"{sys.executable} bench/time-tools 10 /none", "")
+        status, _, said = run(f"DIPQ=/none {sys.executable} bench/time-tools 10", "")
         self.assertEqual((status, "/none: no such program" in said), (1, True))
 
 

@@ -97,8 +97,8 @@ def remedy_for(text: str, form: Optional[str]) -> str:
     others = [] if is_own else [GERMAN] if GERMAN in others else others
     words = " or ".join("--german" if other == GERMAN else word_for(other) for other in others)
     if whole != text and (is_own or others):
-        others = f"{words} and " if words else ""
-        return f"; with {others}--whole-seconds, which leaves out parts of a second, it is one"
+        more = f"{words} and " if words else ""
+        return f"; with {more}--whole-seconds, which leaves out parts of a second, it is one"
     if words:
         return f"; with {words} it is one"
     if re.fullmatch(r".*\d(?:Z|[+-]\d\d:?\d\d)", text) and text.count(":"):
