@@ -24,6 +24,8 @@ OWN = [
     *schemas.ints("commit"), schemas.Column("place", schemas.Kind.TEXT),
     schemas.Column("entered", schemas.Kind.POINT),
 ]
+# What an answer about versions has before the table's columns.
+VERSION = ("row_id", "valid_from", "valid_to", "sys_from", "sys_to")
 Record = Sequence[Optional[str]]
 
 
@@ -34,7 +36,7 @@ def history_of(asked: Asked, name: str, where: Any, commits: range, is_retroacti
     if is_retroactive and not days:
         raise Refused("NoDay", "retroactive=True: no commit has a day; day= of a change gives one")
     places = [(table.place(word), value) for word, value in zip(wanted[::2], wanted[1::2])]
-    found = list(history.changes_of(schema_of(table), list(versions_of(asked, table)), places))
+    found = list(history.changes_of(schema_of(table), list(versions_of(asked, table, places)), []))
     entered = history.entered_on(days, (commit for commit, _ in found))
     whole = schemas.Table([*OWN, *history.CHANGE], [[str(one), "", entered[one], *change] for one, change in found])
     if wanted and not found:
@@ -51,10 +53,18 @@ def history_of(asked: Asked, name: str, where: Any, commits: range, is_retroacti
     return frame_of(asked, table, own, [one[len(OWN):] for one in kept])
 
 
-def versions_of(asked: Asked, table: Table) -> Iterator[Version]:
-    """All versions of the table's rows, as the tools know them when they have done all changes again."""
+def versions_of(asked: Asked, table: Table, wanted: Sequence[Tuple[int, str]]) -> Iterator[Version]:
+    """All versions of the table's rows that have some values, each by its column's place.
+
+    They are as the tools know them when they have done all changes again.
+    """
     question = script.command("between", table.name, "0", str(len(asked.book.commands)))
-    ids, start, end, made, closed, *cells = asked.book.answer(question).block("ippcc" + table.readers)
+    columns = asked.book.answer(question).block("ippcc" + table.readers)
+    for place, value in wanted:
+        own = columns[len(VERSION) + place]
+        is_wanted = own == (int(value) if own.dtype.kind == "i" else value)
+        columns = [one[is_wanted] for one in columns]
+    ids, start, end, made, closed, *cells = columns
     rows = rows_of(start, end, cells)
     for row_id, row, first, last in zip(ids.tolist(), rows, made.tolist(), closed.tolist()):
         version = Version(row_id, Row(*row, 0), first)
