@@ -458,8 +458,13 @@ class Asking:
         1  2024-08-12  9999-12-31       5       5  Grace leaves
         >>> [store.at("pay", "2024-09-01", as_of=commit)["person"].tolist() for commit in ("July", "2024-08-12", 5)]
         [['Grace', 'Ada'], ['Ada'], ['Ada']]
+        >>> store.table("diary", store.diary())
+        commit 7: 2 added, 0 closed
+        >>> again = ruzgalt.Store.from_script(store.script(), diary="diary")
+        >>> again.at("pay", "2024-09-01", as_of="July")["person"].tolist()
+        ['Grace', 'Ada']
         """
-        return self.asked().diary(after)
+        return questions.diary(self.asked(), after)
 
     def history(self, name: str, where: Optional[Mapping[str, Any]] = None, *, first: AsOf = None, last: AsOf = None,
                 retroactive: bool = False, points_as: Optional[str] = None) -> pd.DataFrame:
@@ -505,7 +510,7 @@ class Asking:
         1       3      - 2024-07-01 2025-01-01    Ada   5000
         2       3      + 2024-07-01 2025-01-01    Ada   5400
         """
-        return self.asked(points_as=points_as).history(name, where, (first, last), retroactive)
+        return questions.history(self.asked(points_as=points_as), name, where, (first, last), retroactive)
 
     def changed(self, name: str, before: Commit, after: AsOf = None, *,
                 points_as: Optional[str] = None) -> pd.DataFrame:
@@ -545,4 +550,4 @@ class Asking:
         0      - 2024-07-01 2025-01-01    Ada   5000
         1      + 2024-07-01 2025-01-01    Ada   5400
         """
-        return self.asked(points_as=points_as).changed(name, before, after)
+        return questions.changed(self.asked(points_as=points_as), name, before, after)

@@ -38,27 +38,6 @@ class Asked:
     def suffix(self) -> List[str]:
         return [] if self.as_of is None else ["asof", commit("as_of", self.as_of, self.book)]
 
-    def history(self, name: str, where: Any, bounds: Tuple[AsOf, AsOf], is_retroactive: Any) -> Any:
-        """What the commits changed that stand from one to another, where not all. Raises Refused."""
-        first, last = (self.commit(*one) for one in zip(("first", "last"), bounds, (0, len(self.book.commands))))
-        if first > last:
-            raise Refused("BadPeriod", f"{first} to {last}: the first commit comes before the last")
-        flag = checks.flag("retroactive", is_retroactive)
-        return past.history_of(self, name, where, range(first, last + 1), flag)
-
-    def changed(self, name: str, before: AsOf, after: AsOf) -> Any:
-        """What is different between two commits, of which the second may be the newest. Raises Refused."""
-        newest = len(self.book.commands)
-        numbers = commit("before", before, self.book), str(self.commit("after", after, newest))
-        return past.changed(self, name, numbers)
-
-    def commit(self, option: str, given: AsOf, otherwise: int) -> int:
-        return otherwise if given is None else int(commit(option, given, self.book))
-
-    def diary(self, after: AsOf) -> Any:
-        """The rows of the diary of commits behind one, where not of all."""
-        return self.book.diary.frame(self.commit("after", after, 0))
-
     def block(self, words: Sequence[str], kinds: str) -> Iterator[Cells]:
         return iter(self.book.answer(script.command(*words, *self.suffix)).block(kinds))
 
@@ -219,3 +198,29 @@ def by_several(asked: Asked, table: Table, measured: Measures, by: Sequence[Valu
 
 def log(asked: Asked) -> Any:
     return pd.DataFrame(dict(zip(LOG, asked.block(["log"], "iittii"))))
+
+
+def history(asked: Asked, name: str, where: Any, bounds: Tuple[AsOf, AsOf], is_retroactive: Any) -> Any:
+    """What the commits changed from one to another, where not all."""
+    limits = zip(("first", "last"), bounds, (0, len(asked.book.commands)))
+    first, last = (number(asked, *one) for one in limits)
+    if first > last:
+        raise Refused("BadPeriod", f"{first} to {last}: the first commit comes before the last")
+    flag = checks.flag("retroactive", is_retroactive)
+    return past.history_of(asked, name, where, range(first, last + 1), flag)
+
+
+def changed(asked: Asked, name: str, before: AsOf, after: AsOf) -> Any:
+    """What is different between two commits, of which the second may be the newest."""
+    numbers = commit("before", before, asked.book), str(number(asked, "after", after, len(asked.book.commands)))
+    return past.changed(asked, name, numbers)
+
+
+def diary(asked: Asked, after: AsOf) -> Any:
+    """The labels and days of commits behind one, where not of all."""
+    return asked.book.diary.frame(number(asked, "after", after, 0))
+
+
+def number(asked: Asked, option: str, given: AsOf, otherwise: int) -> int:
+    """The number of a commit, or where none is given another number."""
+    return otherwise if given is None else int(commit(option, given, asked.book))
