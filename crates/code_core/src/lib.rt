@@ -4,4 +4,4 @@
 
 mod laws;
 
-pub use laws::{anti_is_that_of_codes, join_is_that_of_codes};
+pub use laws::{agg_is_that_of_ranks, anti_is_that_of_codes, join_is_that_of_codes};
