@@ -129,7 +129,7 @@ class Words(ToolCase):
     def test_a_raise_says_how_it_rounds(self) -> None:
         pay = ["tools/answers", "raise", EXAMPLE, "pay", "euros", "--answers", EXAMPLE + ".stdout"]
         more = ["--from", "2024-07-01", "--dry-run"]
-        half = "4800 comes to 4800.048, which is no whole number: --round tells how"
+        half = "4800 comes to 4800.048, which is no whole number: --round says how"
         self.check([*pay, *more, "--percent", "0.001", "--where", "euros=4800"], "", 1, half)
         table = "rows,euros,exact,raised\n1,5400,5535,5535\n1,4800,4920,4920\n"
         self.check([*pay, *more, "--percent", "2.5"], "", 0, table)

@@ -1,4 +1,4 @@
-"""What may not be meant in a file that is loaded as it is: told once a column, with a count and a line."""
+"""What may not be meant in a file that is loaded as it is: reported once a column, with a count and a line."""
 from array import array
 from collections import Counter
 from itertools import chain
@@ -10,17 +10,17 @@ from ruzgalt.script.records import visible
 
 
 class Doubt(NamedTuple):
-    """What is told of a value, and the kind of doubt of which one is told a column."""
+    """What may not be meant in a value, and the kind of doubt of which one a column is reported."""
 
     kind: str
-    told: str
+    why: str
 
 
 class Counted:
     """How many rows have a doubt of one kind, and the first of them."""
 
-    def __init__(self, line: int, value: str, told: str) -> None:
-        self.line, self.value, self.told, self.count = line, value, told, 0
+    def __init__(self, line: int, value: str, why: str) -> None:
+        self.line, self.value, self.why, self.count = line, value, why, 0
 
 
 class Notes:
@@ -36,12 +36,12 @@ class Notes:
         for line, value in zip(lines, values):
             doubt = doubts.get(value)
             if doubt:
-                self.found.setdefault((name, doubt.kind), Counted(line, value, doubt.told)).count += 1
+                self.found.setdefault((name, doubt.kind), Counted(line, value, doubt.why)).count += 1
 
     def told(self) -> Iterator[str]:
         for (name, _), one in self.found.items():
             more = f", and {one.count - 1} more rows" if one.count > 1 else ""
-            yield f"{name} is '{visible(one.value)}', and is loaded so: {one.told} (line {one.line}{more})"
+            yield f"{name} is '{visible(one.value)}', and is loaded so: {one.why} (line {one.line}{more})"
 
 
 class Days(Dict[str, str]):
@@ -76,13 +76,13 @@ class Ends:
     def add(self, lines: Sequence[int], keys: Sequence[object], starts: Sequence[str], ends: Sequence[str]) -> None:
         """Adds rows with their points as they are loaded."""
         others = list(map(self.days.__getitem__, ends))
-        told, behind = (others, ends) if self.is_last_day else (ends, others)
+        written, behind = (others, ends) if self.is_last_day else (ends, others)
         # A row of one day doesn't meet itself.
-        met = ["" if start == end else end for start, end in zip(starts, told)] if self.is_last_day else told
+        met = ["" if start == end else end for start, end in zip(starts, written)] if self.is_last_day else written
         self.lines.append(lines)
         for numbers, points in ((self.starts, starts), (self.same, met), (self.behind, behind)):
             numbers.extend(map(hash, zip(keys, points)))
-        self.counts.update(told)
+        self.counts.update(written)
 
     def told(self) -> Iterator[str]:
         starts = set(self.starts)
@@ -91,25 +91,25 @@ class Ends:
         if on_end or on_next:
             is_odd = on_end >= on_next if self.is_last_day else on_next >= on_end
             if is_odd or (on_end and on_next):
-                yield self.told_of_meetings(on_end, on_next, is_odd)
+                yield self.meetings(on_end, on_next, is_odd)
                 return
-        yield from self.told_of_months(on_next if self.is_last_day else on_end)
+        yield from self.month_ends(on_next if self.is_last_day else on_end)
 
-    def told_of_meetings(self, on_end: int, on_next: int, is_odd: bool) -> str:
-        told = " and ".join(
+    def meetings(self, on_end: int, on_next: int, is_odd: bool) -> str:
+        counts = " and ".join(
             f"{count} start on {where} ({self.example_of(ends)})"
             for count, where, ends in ((on_next, "the day behind it", self.behind), (on_end, "it", self.same)) if count
         )
         remedy = self.remedy() if is_odd else "is it the last day in some rows, and the day behind it in others?"
         other = f"one of the same {self.key}" if self.key else "another one"
-        return f"{self.name}: of rows that follow {other}, {told}: {remedy}"
+        return f"{self.name}: of rows that follow {other}, {counts}: {remedy}"
 
     def example_of(self, ends: "array[int]") -> str:
         starts = dict(zip(self.starts, chain(*self.lines)))
         line, end = next(pair for pair in zip(chain(*self.lines), ends) if pair[1] in starts)
         return f"line {starts[end]} after line {line}"
 
-    def told_of_starts(self, are_deletes: bool) -> Iterator[str]:
+    def equal_starts(self, are_deletes: bool) -> Iterator[str]:
         """Reports updates, or deletes, of one key from one point on."""
         pair = first_pair(self.starts, self.lines)
         if pair:
@@ -121,8 +121,8 @@ class Ends:
             return "--last-day takes it for the last day of a row; without it, the day before is the last"
         return "a row doesn't hold on that day any more; --last-day takes it for the last one"
 
-    def told_of_months(self, meeting: int) -> Iterator[str]:
-        """Tells where nearly all ends are days of a month that look otherwise, and few rows meet as they are told."""
+    def month_ends(self, meeting: int) -> Iterator[str]:
+        """Reports where nearly all ends are days of a month that look otherwise, and few rows meet as they are read."""
         known = [day for day in self.counts if day < "9999" and not is_far_off(day)]
         last_days, first_days = [day for day in known if is_month_end(day)], [day for day in known if day[8:] == "01"]
         ends, starts = (sum(map(self.counts.__getitem__, days)) for days in (last_days, first_days))
@@ -133,7 +133,7 @@ class Ends:
 
 
 class Overwrites:
-    """Tells an update that takes back one before it: of the same key, from an earlier point on, and past its start."""
+    """Reports an update that takes back one before it: of one key, from an earlier point on, and past its start."""
 
     def __init__(self, key: str) -> None:
         self.key = key
@@ -153,12 +153,12 @@ class Overwrites:
         if self.found:
             line, other = self.found[0]
             more = f"; {len(self.found) - 1} more do so" if len(self.found) > 1 else ""
-            told = f"line {line} updates the same {self.key} from an earlier point on than line {other}"
-            yield f"{told}, and past its start, so it takes its place: are the file's lines out of order?{more}"
+            both = f"line {line} updates the same {self.key} from an earlier point on than line {other}"
+            yield f"{both}, and past its start, so it takes its place: are the file's lines out of order?{more}"
 
 
 class Repeats:
-    """Tells rows of equal values that hold at one time, which a key would forbid.
+    """Reports rows of equal values that hold at one time, which a key would forbid.
 
     Only of rows whose values are those of another one more is looked at than a number.
     """
@@ -186,8 +186,8 @@ class Repeats:
         if pairs and 2 * len(pairs) <= len(self.values):
             line, other = pairs[0]
             more = f"; {len(pairs) - 1} more rows do so" if len(pairs) > 1 else ""
-            told = f"line {line} has the values of line {other}, and both hold at one time"
-            yield f"{told}: is one of them too many?{more}"
+            both = f"line {line} has the values of line {other}, and both hold at one time"
+            yield f"{both}: is one of them too many?{more}"
 
     def repeated(self) -> List["Repeat"]:
         """The rows whose values are those of another row, by values and start."""

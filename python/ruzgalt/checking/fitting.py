@@ -19,9 +19,9 @@ def refuse_unfit(found: Sequence[Answer], chosen: Sequence[Answer]) -> None:
         return
     replay = behind(found)
     for answer in chosen:
-        told = None if answer.refusal else fault(found, replay, answer)
-        if told:
-            raise Misfit(f"{answer.place}: {short(answer.command.text)}: {told}; {REMEDY}")
+        difference = None if answer.refusal else fault(found, replay, answer)
+        if difference:
+            raise Misfit(f"{answer.place}: {short(answer.command.text)}: {difference}; {REMEDY}")
 
 
 def fault(found: Sequence[Answer], replay: Replay, answer: Answer) -> Optional[str]:
@@ -34,9 +34,9 @@ def fault(found: Sequence[Answer], replay: Replay, answer: Answer) -> Optional[s
     return first_difference(answer.table.texts(), RECORDS[word](replay, answer)) if word in RECORDS else None
 
 
-def first_difference(told: Iterable[Texts], wanted: Iterable[Texts]) -> Optional[str]:
+def first_difference(found: Iterable[Texts], wanted: Iterable[Texts]) -> Optional[str]:
     """The first record in which they differ, as the answer has it and as the changes give it."""
-    for place, (one, other) in enumerate(zip_longest(told, wanted), 1):
+    for place, (one, other) in enumerate(zip_longest(found, wanted), 1):
         if one is None:
             return f"the answer lacks {short(to_record(other))}, which the changes before it give"
         if other is None:
@@ -57,9 +57,10 @@ def of_join(replay: Replay, answer: Answer) -> Optional[str]:
         shared = max(row.start for row in both), min(row.end for row in both)
         if not start < end or (start, end) != shared or tuple(values) != both[0].values + both[1].values:
             return f"rows {one} and {other} have other values, or share another time"
-    told = {(record[2], record[3]) for record in answer.table.texts()}
+    pairs = {(record[2], record[3]) for record in answer.table.texts()}
     wanted = sum(shared_times(left[key], right[key]) for key in left if key in right)
-    return None if len(told) == wanted else f"it has {len(told)} pairs of rows, and the changes before it give {wanted}"
+    count = len(pairs)
+    return None if count == wanted else f"it has {count} pairs of rows, and the changes before it give {wanted}"
 
 
 def keys_by_id(keyed: Keyed) -> Dict[str, Tuple[Tuple[str, ...], Row]]:

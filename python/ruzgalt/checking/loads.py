@@ -20,7 +20,7 @@ class Ends(doubts.Ends):
 
 
 class Loads:
-    """The loads of a table. Whose fact a row is, its key tells, or else its first column."""
+    """The loads of a table. Whose fact a row is, its key says, or else its first column."""
 
     def __init__(self, schema: Schema) -> None:
         self.places = list(schema.key) or list(range(len(schema.columns)))[:1]

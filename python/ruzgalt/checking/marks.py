@@ -26,7 +26,7 @@ class Mark(NamedTuple):
     """What may not be meant in the command of an answer. Marks of one kind say the same of several commands."""
 
     answer: Answer
-    told: str
+    note: str
     kind: str
 
 
@@ -83,15 +83,15 @@ class Marks:
         word = answer.command.word
         if answer.number == 1 and is_answer(answer.command.record.fields):
             self.add(answer, "these are answers, and no script: what they answer is to be given")
-        # Why a block has no end its refusal tells.
+        # Why a block has no end its refusal says.
         if answer.command.is_ended:
-            for told, kind in quoting.doubts_of(answer.command, bool(answer.refusal)):
-                self.add(answer, told, kind)
+            for note, kind in quoting.doubts_of(answer.command, bool(answer.refusal)):
+                self.add(answer, note, kind)
         if answer.refusal:
             self.add(answer, self.left_out(answer) if word == "load" else None)
             return
-        for told in self.beginnings.told(answer):
-            self.add(answer, told)
+        for note in self.beginnings.told(answer):
+            self.add(answer, note)
         if word == "load":
             self.look_at_load(answer)
         elif word in JOINS:
@@ -101,10 +101,10 @@ class Marks:
         elif word in PORTIONS:
             self.add(answer, of_portion(answer, replay), "portion")
 
-    def add(self, answer: Answer, told: Optional[str], kind: str = "") -> None:
+    def add(self, answer: Answer, note: Optional[str], kind: str = "") -> None:
         """Adds a mark, where there is something to say. Without a kind, those of the same words are of one."""
-        if told:
-            self.marks.append(Mark(answer, told, kind or told))
+        if note:
+            self.marks.append(Mark(answer, note, kind or note))
 
     def look_at_load(self, answer: Answer) -> None:
         table, block = answer.command.record.fields[1], answer.command.block
@@ -150,8 +150,8 @@ class Marks:
                 self.add(answer, of_count(answer, count), "count" if count else "nothing")
                 self.add(answer, of_reach(answer, ends.get(answer.commits)), "reach")
         for loads in self.by_table.values():
-            for told in loads.told():
-                self.add(loads.answers[-1], told)
+            for note in loads.told():
+                self.add(loads.answers[-1], note)
         for schema in without_key(self.found):
             self.add(last_change_of(self.found, schema.name), of_overlap(schema, replay))
         return sorted(self.marks, key=lambda mark: mark.answer.number)
@@ -163,14 +163,14 @@ def is_answer(fields: Sequence[str]) -> bool:
 
 
 def of_portion(answer: Answer, replay: Replay) -> Optional[str]:
-    """Tells a portion's end that looks like a last day, where it cuts a row."""
+    """Notes a portion's end that looks like a last day, where it cuts a row."""
     end = answer.command.record.fields[3]
-    told = of_end(end)
-    return told if told and any(end < version.row.end for version in replay.change(answer).closed) else None
+    note = of_end(end)
+    return note if note and any(end < version.row.end for version in replay.change(answer).closed) else None
 
 
 def of_end(end: str) -> Optional[str]:
-    """Tells a portion's end that looks like a last day, or a last second."""
+    """Notes a portion's end that looks like a last day, or a last second."""
     if "T23:59" in end and not end.startswith("9999"):
         return f"{end} isn't in it: a day ends at the next one's midnight"
     if end < NO_END and is_month_end(end):
@@ -183,11 +183,11 @@ def of_count(answer: Answer, count: int) -> Optional[str]:
 
 
 def of_reach(answer: Answer, last: Optional[str]) -> Optional[str]:
-    """Tells an update up to a day that no row reaches which it changed: it may be meant to lengthen one."""
+    """Notes an update up to a day that no row reaches which it changed: it may be meant to lengthen one."""
     fields = answer.command.record.fields
     if fields[0] == "update" and last is not None and last < printed(fields[3]) < "9999":
-        told = f"each row that it changed ends by {last}, before {fields[3]}"
-        return f"{told}: an update lengthens no row, and a load does"
+        ends = f"each row that it changed ends by {last}, before {fields[3]}"
+        return f"{ends}: an update lengthens no row, and a load does"
     return None
 
 
@@ -195,7 +195,7 @@ def of_touched(fields: Sequence[str], count: int) -> Optional[str]:
     """What an update or a delete touched, where that was nothing, or all that there was."""
     has_where = bool(where_places(fields))
     if not count:
-        has_what = "of that time has what its `where` tells" if has_where else "holds in that time"
+        has_what = "of that time has what its `where` says" if has_where else "holds in that time"
         return f"no row {has_what}, so nothing was changed"
     if not has_where and count > 1:
         return f"without a `where` it acts on all rows of that time: {count} were changed"
@@ -230,13 +230,13 @@ def of_join(answer: Answer, replay: Replay) -> Optional[str]:
         values_of(replay, answer, name, columns) for name, columns in zip(front[1:3], (front[4::2], front[5::2]))
     )
     if len(front) > 3 and left and right and not left & right:
-        told = f"{front[1]} and {front[2]} have no value of these columns in common"
-        return f"{told}, so no row matches{like(left, right)}"
+        none = f"{front[1]} and {front[2]} have no value of these columns in common"
+        return f"{none}, so no row matches{like(left, right)}"
     if front[0] == "anti" and left and not len(answer.table.records):
-        told = f"each row of {front[1]} is matched all the time"
-        return f"{told}; the rows of {front[2]} without one of {front[1]} are asked for by anti,{front[2]},{front[1]}"
-    told = like(left - right, right - left) if len(front) > 3 else ""
-    return f"some values don't match{told}" if told else None
+        other = f"the rows of {front[2]} without one of {front[1]} are asked for by anti,{front[2]},{front[1]}"
+        return f"each row of {front[1]} is matched all the time; {other}"
+    pairs = like(left - right, right - left) if len(front) > 3 else ""
+    return f"some values don't match{pairs}" if pairs else None
 
 
 def values_of(replay: Replay, answer: Answer, name: str, columns: Sequence[str]) -> Values:

@@ -14,15 +14,15 @@ from ruzgalt.script.schemas import PERIOD, Column, Table, ints, unique
 
 # A row that would come, or one that is there.
 Held = Union[StoredRow, Version]
-# So many pairs of rows are told of one refusal.
-TOLD = 20
+# So many pairs of rows are listed of one refusal.
+PAIRS = 20
 Spans = List[Tuple[str, str, str]]
 
 
 def by_key(answer: Answer, key: Sequence[str]) -> Tuple[List[Column], Dict[Tuple[str, ...], Spans]]:
     """The key's columns, and for each of its values the rows of the answer: start, end and id."""
     if answer.command.word == "at":
-        raise Misfit(f"{answer.place}: {answer.command.text}: an `at` tells of its point alone: ask by `rows`")
+        raise Misfit(f"{answer.place}: {answer.command.text}: an `at` is of its point alone: ask by `rows`")
     if answer.command.word != "rows":
         raise Misfit(f"{answer.place}: {answer.command.text}: no list of rows: ask by `rows`")
     schema = answer.tables[answer.command.front[1]]
@@ -58,11 +58,11 @@ def explained(replay: Replay, answer: Answer) -> List[str]:
     schema = answer.tables[name]
     found = collisions(replay, name, replay.change(answer), schema.key)
     lines = []
-    for pair in islice(found, TOLD):
+    for pair in islice(found, PAIRS):
         values = row_in(pair.first).values
         key = ", ".join(f"{schema.names[place]} {to_record([values[place]])}" for place in schema.key)
         lines.append(f"{key}: both hold from {pair.start} to {pair.end}")
-        lines.extend(f"  {told(one)}" for one in (pair.first, pair.second))
+        lines.extend(f"  {described(one)}" for one in (pair.first, pair.second))
     return lines + (["and more pairs of rows"] if next(found, None) else [])
 
 
@@ -85,7 +85,7 @@ def row_in(thing: Held) -> StoredRow:
     return thing.row if isinstance(thing, Version) else thing
 
 
-def told(thing: Held) -> str:
+def described(thing: Held) -> str:
     """A row that is there by its id and commit, and one that would come by its line."""
     row = row_in(thing)
     text = to_record([row.start, row.end, *row.values])

@@ -12,7 +12,7 @@ BARE_POINT = re.compile(r"\b\d{4}-\d\d-\d\d\b", re.ASCII)
 DAY = re.compile(r"'(\d{1,4}[-./]\d{1,2}[-./]\d{1,4}(?:[ T][\d:.]*)?|(?:19|20)\d\d(?:0[1-9]|1[0-2])[0-3]\d)'", re.ASCII)
 # A column by its name, with its table's and in quotes or not.
 FROM, TO = r"[\w.\"`]*\bvalid_from\b[\"`]?", r"[\w.\"`]*\bvalid_to\b[\"`]?"
-DOUBTS = [(re.compile(form, re.IGNORECASE), told) for form, told in (
+DOUBTS = [(re.compile(form, re.IGNORECASE), doubt) for form, doubt in (
     (rf"\bbetween\s+{FROM}\s+and\s+{TO}",
      "a record doesn't hold at its valid_to, which `between` includes: valid_from <= '..' and '..' < valid_to"),
     (rf"^(?!.*9999)(?=.*\bvalid_from\b).*(?:{TO}\s*>=|<=\s*{TO})",
@@ -89,7 +89,7 @@ def doubts_of(query: str, made: Made) -> Iterator[str]:
     if bare:
         raise Misfit(f"--query: {bare[0]} is a subtraction: a point stands in single quotes, as '{bare[0]}'")
     line = " ".join(query.split())
-    yield from (told for form, told in DOUBTS if form.search(line))
+    yield from (doubt for form, doubt in DOUBTS if form.search(line))
     is_beside = BESIDE_END.search(line) or LENGTH.search(line)
     if made.are_null and is_beside and not KNOWS_NULL.search(line):
         yield "an end that isn't known is NULL by --open-null: no comparison holds for it, and no length or sum has it"
@@ -115,8 +115,8 @@ def doubts_of_records(plain: str, with_periods: Sequence[str]) -> Iterator[str]:
     forms = (rf"(?<![\w.]){re.escape(name)}(?![\w.])" for name in with_periods)
     count = sum(bool(re.search(form, plain, re.IGNORECASE)) for form in forms)
     if count > 1 and JOINED.search(plain) and not BY_TIME.search(plain):
-        told = "records that are joined without their times needn't hold together"
-        yield f"{told}: a.valid_from < b.valid_to and b.valid_from < a.valid_to, or the language's join"
+        apart = "records that are joined without their times needn't hold together"
+        yield f"{apart}: a.valid_from < b.valid_to and b.valid_from < a.valid_to, or the language's join"
 
 
 def without_text(found: "re.Match[str]") -> str:

@@ -53,7 +53,7 @@ def doubts_of(command: Command, is_refused: bool) -> Iterator[Tuple[str, str]]:
 
 
 def looked_at(command: Command) -> Sequence[Record]:
-    """The command's own record, and those of its block where one may have such a quote, as its bytes tell."""
+    """The command's own record, and those of its block where one may have such a quote, as its bytes show."""
     block = command.block
     if command.word != "load" or not isinstance(block, Block):
         return [command.record]

@@ -13,7 +13,7 @@ from ruzgalt.script.records import short
 from ruzgalt.script.schemas import Column, Kind, Schema, Table, ints, unique
 
 PERCENT = re.compile(r"[+-]?\d{1,9}(?:\.(?P<decimals>\d{1,9}))?", re.ASCII)
-# Up to where a raise holds, unless it is told: no row is known to end, or else none holds behind the last point.
+# Up to where a raise holds, unless that is given: no row is known to end, or else none holds behind the last point.
 NO_END, LAST = "9999-12-31", "9999-12-31T23:59:59"
 
 
@@ -66,8 +66,8 @@ class Raise:
     def step(self, amount: int, rows: int) -> Step:
         exact = amount * self.factor[0], self.factor[1]
         if exact[0] % exact[1] and self.wish.rounding is None:
-            told = f"{amount} comes to {decimal_of(exact)}, which is no whole number"
-            raise Misfit(f"{told}: --round tells how it becomes one, as --round half-up")
+            what = f"{amount} comes to {decimal_of(exact)}, which is no whole number"
+            raise Misfit(f"{what}: --round says how it becomes one, as --round half-up")
         made = Step(amount, rows, exact, rounded(*exact, *filter(None, [self.wish.rounding])))
         if not is_integer(str(made.raised)):
             raise Misfit(f"{amount} comes to {made.raised}, which is no number of a column: it has more than 64 bits")
@@ -105,10 +105,10 @@ class Raise:
 
 def factor_of(percent: str) -> Fraction:
     """What an amount is multiplied by."""
-    told = PERCENT.fullmatch(percent)
-    if told is None:
+    found = PERCENT.fullmatch(percent)
+    if found is None:
         raise Misfit(f"--percent {short(percent)}: no number as 2.5 or -3")
-    whole = 10 ** len(told["decimals"] or "")
+    whole = 10 ** len(found["decimals"] or "")
     more = int(percent.replace(".", ""))
     if more == 0 or more < -100 * whole:
         raise Misfit(f"--percent {percent}: {'nothing is raised' if more == 0 else 'more than all is taken'}")

@@ -8,7 +8,7 @@ from ruzgalt.script.language import Answered, Fields, Role
 from ruzgalt.script.records import to_record, visible
 from ruzgalt.script.schemas import Kind, Schema
 
-# What is told where no more is known of the field.
+# What is said where no more is known of the field.
 REASONS = {
     "BadName": "is no name: 1 to 32 of a to z, 0 to 9 and _, the first a letter",
     "BadPoint": "is no point, as 2024-01-05 or 2024-01-05T08:30:00",
@@ -66,7 +66,7 @@ def bad_number(field: Field, answer: Answer) -> str:
     if field.role is Role.VALUE:
         return REASONS["BadNumber"]
     is_commit = field.role is Role.SUFFIX or answer.command.form.answered is Answered.VERSIONS
-    return "is no number of a commit, as `ok,2` and `log` tell it" if is_commit else "is no whole number from 0 on"
+    return "is no number of a commit, as `ok,2` and `log` have it" if is_commit else "is no whole number from 0 on"
 
 
 def bad_period(_: Field, answer: Answer) -> str:
@@ -87,8 +87,8 @@ def no_column(field: Field, answer: Answer) -> str:
     if field.role is Role.KEY:
         columns = ", ".join(field.table.names if field.table else []) or "there is none"
         place = answer.command.record.fields.index("key", 2) + 1
-        told = f"is no column before `key`, field {place} ({columns}): names of columns stand behind it"
-        return f"{told}, and a column itself needs another name, as key_"
+        what = f"is no column before `key`, field {place} ({columns}): names of columns stand behind it"
+        return f"{what}, and a column itself needs another name, as key_"
     table = field.table or Schema("the table", ())
     return f"is no column of {table.name}, but {', '.join(table.names) or 'it has none'}"
 

@@ -67,7 +67,7 @@ def no_word(word: str) -> str:
     if word.startswith("\ufeff"):
         return "begins with a byte order mark, which only a script's own beginning may have: `tail -c +4` leaves it out"
     if word == "csv-to-load failed":
-        return f"stands in place of a load: {called.LOAD} has told why on standard error"
+        return f"stands in place of a load: {called.LOAD} has said why on standard error"
     if plain in COMMANDS:
         return f"is no command, but {plain} is"
     if "\0" in word:
@@ -79,7 +79,7 @@ def no_word(word: str) -> str:
         return "is no command: a script has no comments"
     if plain.startswith("sep="):
         return "is no command, but a spreadsheet's first line: leave it out"
-    other = next((told for words, told in OTHER_WORDS if plain.split(" ")[0] in words), None)
+    other = next((remedy for words, remedy in OTHER_WORDS if plain.split(" ")[0] in words), None)
     known = f"is no command: these are {', '.join(COMMANDS)}"
     return f"{known}; {other or f'of a CSV file with a header {called.LOAD} makes a load'}"
 
@@ -159,7 +159,7 @@ def is_value(field: Field, kind: Kind) -> bool:
     return field.role is Role.VALUE and field.column is not None and field.column.kind is kind
 
 
-def told_of_value(answer: Answer, field: Field) -> Optional[str]:
+def fault_of_value(answer: Answer, field: Field) -> Optional[str]:
     """Name and reason for which a value would be refused that is none of its column's kind."""
     fault = next((name for name in ("BadNumber", "TooLong", "BadUtf8") if TESTS[name](answer, field, [field])), None)
     return f"{fault}: {visible(to_record([field.text]))} {reasons.of_field(fault, field, answer)}" if fault else None

@@ -1,6 +1,6 @@
 """Does a script's accepted changes again, as docs/LANGUAGE.md defines them, to know each version of each row.
 
-The answers tell which changes were accepted, so none is judged here. Points are kept as dipq prints them, so their
+The answers say which changes were accepted, so none is judged here. Points are kept as dipq prints them, so their
 texts are in the order of time; of two values the texts are equal exactly where the values are.
 """
 from collections import defaultdict
@@ -198,7 +198,7 @@ class Beginnings:
                     begun.setdefault(answer.command.record.fields[1], answer.commits)
 
     def told(self, answer: Answer) -> Iterator[str]:
-        """Tells the tables of a query that have no row yet at the commit which its suffix has."""
+        """Names the tables of a query that have no row yet at the commit which its suffix has."""
         if answer.command.as_of is None:
             return
         names = answer.command.front[1:1 + answer.command.form.tables]

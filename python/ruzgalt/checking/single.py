@@ -23,9 +23,9 @@ def command_for(answers: Sequence[Answer], table: str, row_id: int, set_to: Sequ
             raise Misfit(f"row {other.row_id} has the values of row {row_id} too, and shares some of its time")
     for name, value in set_to:
         column = tables[table].columns[tables[table].place(name)]
-        told = refusals.told_of_value(answers[-1], Field(0, value, Role.VALUE, tables[table], column))
-        if told:
-            raise Misfit(f"--set {name}: {told}")
+        fault = refusals.fault_of_value(answers[-1], Field(0, value, Role.VALUE, tables[table], column))
+        if fault:
+            raise Misfit(f"--set {name}: {fault}")
     values = [text for pair in zip(tables[table].names, row.values) for text in pair]
     changes = ["set", *(text for pair in set_to for text in pair)] if set_to else []
     word = "update" if set_to else "delete"

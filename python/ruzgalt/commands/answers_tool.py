@@ -58,7 +58,7 @@ def do_list(options: Namespace) -> int:
 
 
 def warn_of_mark(mark: marks.Mark, more: str = "") -> None:
-    warn(f"{mark.answer.place}: {records.short(mark.answer.command.text)}: {mark.told}{more}")
+    warn(f"{mark.answer.place}: {records.short(mark.answer.command.text)}: {mark.note}{more}")
 
 
 def others(same: Sequence[marks.Mark]) -> str:

@@ -265,7 +265,7 @@ class Load:
         yield from [*self.notes_of_points(), *self.notes_of_words(), *self.equals.told()]
         yield from self.sheet.notes(self.places[:2], self.places[2:])
         if not self.is_load:
-            yield from [*self.ends.told_of_starts(self.options.delete), *self.overwrites.told()]
+            yield from [*self.ends.equal_starts(self.options.delete), *self.overwrites.told()]
         if self.rows > MOST_ROWS * 9 // 10 or self.bytes > MOST_BYTES * 9 // 10:
             limits = f"a script has {MOST_BYTES:,} bytes at most, a table {MOST_ROWS:,} versions of rows"
             room = f"{self.rows:,} rows in {self.bytes:,} bytes leave little room for corrections"

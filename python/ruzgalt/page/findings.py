@@ -59,8 +59,8 @@ def refused_and_doubtful(found: Sequence[Answer]) -> Tuple[List[Finding], List[F
             more = overlaps.explained(replay, answer) if is_explained else []
             one = finding(answer, answer.refusal.name, refusals.reason(answer), more)
             refused.append(one._replace(place=answer.refusal.record.place))
-    others = [mark for mark in seen.end(replay) if mark.told != marks.of_count(mark.answer, 0)]
-    return refused, [finding(mark.answer, "", mark.told) for mark in others]
+    others = [mark for mark in seen.end(replay) if mark.note != marks.of_count(mark.answer, 0)]
+    return refused, [finding(mark.answer, "", mark.note) for mark in others]
 
 
 def is_idle(answer: Answer, counts: Tally) -> bool:
