@@ -191,11 +191,11 @@ class OverTime(unittest.TestCase):
 class Words(ToolCase):
     def test_what_can_t_be_counted_is_refused(self) -> None:
         months = ["tools/answers", "months", EXAMPLE, "--answers", EXAMPLE + ".stdout"]
-        self.check([*months, "4", "--sum", "euros"], "", 1, "an `at` tells of its point alone: ask by `rows`")
+        self.check([*months, "4", "--sum", "euros"], "", 1, "an `at` is of its point alone: ask by `rows`")
         self.check([*months, "6", "--sum", "euros"], "", 1, "versions of several commits")
         self.check([*months, "7", "--sum", "number"], "", 1, "its records aren't periods")
         pay = [*PAYROLL, "--go-on"]
-        self.check([*pay, "--sum", "sum_euros"], "", 1, "9999-12-31,42150: no end is known: --to tells up to where")
+        self.check([*pay, "--sum", "sum_euros"], "", 1, "9999-12-31,42150: no end is known: --to says up to where")
         self.check([*pay, "--sum", "euros"], "", 1, "no column euros; its columns are valid_from, valid_to, sum_")
         self.check([*pay, "--sum", "valid_to"], "", 1, "valid_to: a start or an end")
         self.check([*pay, "--sum", "sum_euros", "--to", "2024-13-01"], "", 1, "answers: --to 2024-13-01: no point")
@@ -215,7 +215,7 @@ class Words(ToolCase):
         self.check([*months, "--less", "last-1"], "", 0, june)
         self.check([*months, "last", "--less", "last"], "", 1, "--less last: that is the answer whose amounts are")
         self.check([*months, "--less", "before"], "", 1, "before: neither a number, nor @LINE, nor last or last-N")
-        self.check([*months, "--less", "@29"], "", 1, "an `at` tells of its point alone")
+        self.check([*months, "--less", "@29"], "", 1, "an `at` is of its point alone")
 
 
 if __name__ == "__main__":

@@ -1,4 +1,4 @@
-"""Numbers with the decimals that a column is told to have, for a person: in pictures their thousands are parted."""
+"""Numbers with the decimals that a column is said to have, for a person: in pictures their thousands are parted."""
 from dataclasses import dataclass
 from typing import Optional, Sequence, Tuple
 
@@ -19,7 +19,7 @@ class Amounts:
     def of(self, name: str) -> Optional[int]:
         """The decimals of a column, by its own name or by that of the table's which it was made of."""
         names = [name, *(name[len(word):] for word in BEFORE if name.startswith(word))]
-        return next((digits for told, digits in self.digits if told in names), None)
+        return next((digits for column, digits in self.digits if column in names), None)
 
     def refuse_strangers(self, *tables: Table) -> None:
         """A name that no column of numbers has would be taken for used."""
@@ -46,7 +46,7 @@ class Amounts:
         return self.parted(number, digits).replace("." if self.is_german else ",", "")
 
     def printed(self, name: str, text: str) -> str:
-        """A record's field: parted where its column is told to have decimals, or none; else as it is."""
+        """A record's field: parted where its column is said to have decimals, or none; else as it is."""
         digits = self.of(name)
         return text if digits is None or not text.lstrip("-").isdigit() else self.parted(int(text), digits)
 

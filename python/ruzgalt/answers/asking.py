@@ -67,8 +67,8 @@ def faulty(program: str, script: bytes) -> List[str]:
     for record, loads in tried:
         answer = by_number[number]
         if answer.refusal and answer.refused.record is not answer.command.record:
-            told = f"{records.short(record.text)}: {answer.refusal.name}: {reason(answer)}"
-            lines.append(f"line {record.line}, record {record.number}: {told}")
+            fault = f"{records.short(record.text)}: {answer.refusal.name}: {reason(answer)}"
+            lines.append(f"line {record.line}, record {record.number}: {fault}")
         number += len(loads)
     return lines
 

@@ -114,9 +114,9 @@ def cuts(answer: Answer, records: Iterable[Sequence[str]], wish: Wish) -> Iterat
     for record in records:
         start, end = record[place], record[place + 1]
         if end >= NO_END and wish.end is None:
-            raise Misfit(f"{short(','.join(record))}: no end is known: --to tells up to where it counts")
+            raise Misfit(f"{short(','.join(record))}: no end is known: --to says up to where it counts")
         if start == BEGINNING and wish.start is None:
-            raise Misfit(f"{short(','.join(record))}: no start is known: --from tells from where on it counts")
+            raise Misfit(f"{short(','.join(record))}: no start is known: --from says from where on it counts")
         cut = max(seconds(start), first), min(seconds(end), last)
         if cut[0] < cut[1]:
             yield (*cut, record)

@@ -24,10 +24,10 @@ def between(before: Answer, after: Answer) -> Table:
     names = [[column.name for column in columns] for columns, _ in kept]
     both = f"{before.place} and {after.place}: {short(before.command.text)} and {short(after.command.text)}"
     if names[0] != names[1]:
-        told = f"{','.join(names[0])} can't be compared with {','.join(names[1])}"
-        raise Misfit(f"{both}: {told}: ask one question of two commits, or of two tables of the same columns")
+        others = f"{','.join(names[0])} can't be compared with {','.join(names[1])}"
+        raise Misfit(f"{both}: {others}: ask one question of two commits, or of two tables of the same columns")
     if point_of(before) != point_of(after):
-        raise Misfit(f"{both}: an `at` tells of its point alone: ask both for that, or both by `rows`")
+        raise Misfit(f"{both}: an `at` is of its point alone: ask both for that, or both by `rows`")
     columns = unique([Column("change", Kind.TEXT), *PERIOD, *kept[0][0]])
     is_aggregate = before.command.form.answered is Answered.STEPS
     found = sorted(changes(kept[0][1], kept[1][1]), key=order(kept[0][0], is_aggregate))
@@ -51,7 +51,7 @@ def compared(answer: Answer) -> Tuple[List[Column], List[Held]]:
     start = table.names.index("valid_from")
     left_out = {start, start + 1, *(table.names.index(name) for name in IDS[answer.command.form.answered])}
     places = [place for place in range(len(table.columns)) if place not in left_out]
-    # Of an `at` it is the second that was asked for, since what else held before or behind it isn't told.
+    # Of an `at` it is the second that was asked for, since what else held before or behind it isn't known.
     point = point_of(answer)
     records = list(table.texts())
     periods = [(point, next_second(point)) if point else (record[start], record[start + 1]) for record in records]
@@ -60,7 +60,7 @@ def compared(answer: Answer) -> Tuple[List[Column], List[Held]]:
 
 
 def order(columns: List[Column], is_aggregate: bool) -> Callable[[List[str]], Tuple[object, ...]]:
-    """By what changes are told one behind the other."""
+    """By what changes are listed one behind the other."""
     is_int = [column.kind is Kind.INT for column in columns]
 
     def key(change: List[str]) -> Tuple[object, ...]:

@@ -147,7 +147,7 @@ class Asked(NamedTuple):
         return to_text([self.names, *self.records]) if self.names else ""
 
     def table(self) -> Table:
-        """The same, where each column may have numbers: SQLite tells no kinds."""
+        """The same, where each column may have numbers: SQLite gives no kinds."""
         return Table([Column(name, Kind.INT) for name in self.names], self.records)
 
     def twins(self) -> List[str]:
@@ -188,7 +188,7 @@ def with_names(query: str) -> str:
     """The query with names in backquotes where they are in double ones.
 
     SQLite takes what stands in double quotes for a text where no column has that name, so that a misspelt one would be
-    an answer. Not all versions of Python can tell it to refuse; in backquotes it is always a name.
+    an answer. Not all versions of Python can have it refuse that; in backquotes it is always a name.
     """
     return QUOTED.sub(lambda found: in_backquotes(found[0]) if found[0].startswith('"') else found[0], query)
 

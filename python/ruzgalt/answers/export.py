@@ -73,13 +73,13 @@ def listing(answers: Sequence[Answer]) -> str:
 
 def listed(answer: Answer) -> List[str]:
     command = answer.command
-    told, count = command.word, str(len(answer.table.records))
+    what, count = command.word, str(len(answer.table.records))
     if answer.refusal:
-        told, count = answer.refusal.name, ""
+        what, count = answer.refusal.name, ""
     elif answer.table.names == ["commit"]:
-        # A block makes no commit: it tells which one its queries read.
+        # A block makes no commit: it says which one its queries read.
         is_block = command.word == "together"
-        told, count = f"{'together' if is_block else 'commit'} {answer.table.records[0][0]}", ""
+        what, count = f"{'together' if is_block else 'commit'} {answer.table.records[0][0]}", ""
     elif command.word == "check":
-        told = " ".join(field for field in answer.table.records[0] if field is not None)
-    return [str(answer.number), str(command.line), str(command.record.number), told, count, command.text]
+        what = " ".join(field for field in answer.table.records[0] if field is not None)
+    return [str(answer.number), str(command.line), str(command.record.number), what, count, command.text]

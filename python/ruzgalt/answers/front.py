@@ -24,7 +24,7 @@ def answer_at(found: Sequence[Answer], places: Sequence[int], number: int) -> Op
     return before[-1] if before else None
 
 
-def told_of(kept: bytes, now: bytes, found: Sequence[Answer], places: Sequence[int]) -> Iterator[str]:
+def differences(kept: bytes, now: bytes, found: Sequence[Answer], places: Sequence[int]) -> Iterator[str]:
     """Lines for a person where the kept answers are no front of today's."""
     odd = difference(kept, now)
     if odd is None:

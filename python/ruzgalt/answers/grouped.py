@@ -60,10 +60,10 @@ def place_of(answer: Answer, name: str) -> int:
 
 def refuse_others(answer: Answer) -> None:
     """Refuses an answer whose records aren't periods."""
-    told = f"{answer.place}: {short(answer.command.text)}"
+    which = f"{answer.place}: {short(answer.command.text)}"
     if answer.command.word == "at":
-        raise Misfit(f"{told}: an `at` tells of its point alone: ask by `rows`")
+        raise Misfit(f"{which}: an `at` is of its point alone: ask by `rows`")
     if answer.command.form.answered is Answered.VERSIONS:
-        raise Misfit(f"{told}: its records are versions of several commits: ask by `rows`, as of one of them")
+        raise Misfit(f"{which}: its records are versions of several commits: ask by `rows`, as of one of them")
     if answer.command.form.answered not in PERIODS:
-        raise Misfit(f"{told}: its records aren't periods: ask by `rows`, `join`, `anti` or `agg`")
+        raise Misfit(f"{which}: its records aren't periods: ask by `rows`, `join`, `anti` or `agg`")

@@ -75,7 +75,7 @@ def changes_of(
 def days_of(schema: Schema, rows: Iterable[Sequence[str]]) -> Days:
     """The days of a diary, each with the newest commit from then on: the number in its first column.
 
-    Its rows are told by start, end and values.
+    Its rows are given by start, end and values.
     """
     if not schema.columns or schema.columns[0].kind is not Kind.INT:
         raise Misfit(f"{schema.name}: a diary's first column is an int, the newest commit from a row's start on")
@@ -89,9 +89,9 @@ def doubts_of(table: Table, days: Optional[Days], newest: int) -> Iterator[str]:
     yield from strange_commits(days, newest)
     without = dict.fromkeys(record[0] for record in table.records if record[ENTERED] is None)
     if without:
-        told = ", ".join(str(commit) for commit in islice(without, COMMITS))
+        some = ", ".join(str(commit) for commit in islice(without, COMMITS))
         more = f" and {len(without) - COMMITS} more" if len(without) > COMMITS else ""
-        yield f"commits without a day, which --retroactive leaves out: {told}{more}"
+        yield f"commits without a day, which --retroactive leaves out: {some}{more}"
 
 
 def strange_commits(days: Days, newest: int) -> Iterator[str]:

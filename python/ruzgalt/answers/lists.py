@@ -48,10 +48,10 @@ class Checks:
             for number, column in self.places:
                 text = record.fields[number]
                 if text != self.dash.get(number) and not FORMS[column.kind](text):
-                    told = f"field {number + 1} ({column.name}) of the answer at line {record.line}, {short(text)}"
-                    return Misfit(f"{place}: {told}, is no {column.kind.value}")
+                    field = f"field {number + 1} ({column.name}) of the answer at line {record.line}, {short(text)}"
+                    return Misfit(f"{place}: {field}, is no {column.kind.value}")
             # The texts of points are in the order of time.
             if self.point and not record.fields[2] <= self.point < record.fields[3]:
-                told = f"the answer at line {record.line} is {short(record.text)}"
-                return Misfit(f"{place}: {told}, and not a row that holds at that point")
+                other = f"the answer at line {record.line} is {short(record.text)}"
+                return Misfit(f"{place}: {other}, and not a row that holds at that point")
         return Misfit(f"{place}: the answer at line {first.line} has another form")

@@ -57,8 +57,8 @@ def schema_of(answer: Answer, wish: Wish) -> Tuple[List[int], Schema]:
 def refuse_others(answer: Answer) -> None:
     """Refuses an answer whose records have no period, or are of several commits."""
     if answer.command.form.answered not in IDS:
-        told = f"{answer.place}: {short(answer.command.text)}"
-        raise Misfit(f"{told}: its records aren't rows of one commit: ask by `rows`, `at`, `join`, `anti` or `agg`")
+        which = f"{answer.place}: {short(answer.command.text)}"
+        raise Misfit(f"{which}: its records aren't rows of one commit: ask by `rows`, `at`, `join`, `anti` or `agg`")
 
 
 def own_names(answer: Answer, has_ids: bool) -> List[str]:
@@ -71,8 +71,8 @@ def refuse_names(names: Sequence[str]) -> None:
     """Refuses names that a table's columns can't have."""
     for name in names:
         if not is_name(name):
-            told = "no name of a column, which has at most 32 of small letters, digits and _"
-            raise Misfit(f"{visible(name)}: {told}: --column {visible(name)}=NAME gives another")
+            why = "no name of a column, which has at most 32 of small letters, digits and _"
+            raise Misfit(f"{visible(name)}: {why}: --column {visible(name)}=NAME gives another")
         if names.count(name) > 1:
             raise Misfit(f"{name} would be the name of two columns: --column COLUMN=NAME gives another")
     if len(names) > MOST:
@@ -89,5 +89,5 @@ def refuse_long_numbers(answer: Answer, records: Sequence[Sequence[str]], places
     for record in records:
         for place in places:
             if not is_integer(record[place]):
-                told = f"{answer.table.names[place]} is {record[place]}, which has more than 64 bits"
-                raise Misfit(f"{short(to_record(record))}: {told}, and no table can have it")
+                what = f"{answer.table.names[place]} is {record[place]}, which has more than 64 bits"
+                raise Misfit(f"{short(to_record(record))}: {what}, and no table can have it")

@@ -24,7 +24,7 @@ class Pick:
 def pick(
     answers: Sequence[Answer], words: Sequence[str], asked: Sequence[Answer], names: Dict[int, str],
 ) -> List[Pick]:
-    """The answers that the words tell, and those that are asked besides; where there is neither, all that are tables.
+    """The answers that the words name, and those that are asked besides; where there is neither, all that are tables.
 
     Names are those that answers of these numbers have already.
     """
@@ -37,7 +37,7 @@ def pick(
 
 
 def picked(answers: Sequence[Answer], word: str, names: Dict[int, str]) -> Pick:
-    """The answer that a word tells, under the name that stands behind it."""
+    """The answer that a word names, under the name that stands behind it."""
     which, mark, name = word.partition("=")
     answer = find(answers, which)
     if answer.refusal:
@@ -75,13 +75,13 @@ def name_of(answer: Answer) -> str:
 
 
 def find(answers: Sequence[Answer], which: str) -> Answer:
-    told = FORM.fullmatch(which)
-    if not told:
+    form = FORM.fullmatch(which)
+    if not form:
         raise Misfit(f"{which}: neither a number, nor @LINE, nor last or last-N")
-    if told["line"]:
-        found = [answer for answer in answers if answer.line == int(told["line"])]
+    if form["line"]:
+        found = [answer for answer in answers if answer.line == int(form["line"])]
     else:
-        place = int(told["number"]) - 1 if told["number"] else len(answers) - 1 - int(told["back"] or 0)
+        place = int(form["number"]) - 1 if form["number"] else len(answers) - 1 - int(form["back"] or 0)
         found = [answers[place]] if 0 <= place < len(answers) else []
     if not found:
         raise Misfit(f"{which}: no such answer; there are {len(answers)}, which `{called.ANSWERS} list` numbers")

@@ -17,7 +17,7 @@ from ruzgalt.script.schemas import Column, Schema, Table
 # Bytes, or the file that has them.
 Given = Union[bytes, str, Path]
 # Takes how many records were read so far.
-Tell = Callable[[int], None]
+Advance = Callable[[int], None]
 
 
 @dataclass(frozen=True)
@@ -67,13 +67,13 @@ def of(script: Given, output: Given) -> List[Answer]:
 
 
 def silently(_: int) -> None:
-    """Tells nobody."""
+    """Says nothing of it."""
 
 
 def of_commands(
-    script: Iterable[Command], output: bytes, is_own: bool = False, tell: Tell = silently,
+    script: Iterable[Command], output: bytes, is_own: bool = False, advance: Advance = silently,
 ) -> List[Answer]:
-    return list(Reading(Source(output), is_own, tell).answers(script))
+    return list(Reading(Source(output), is_own, advance).answers(script))
 
 
 def bytes_of(source: Given) -> bytes:
@@ -83,9 +83,9 @@ def bytes_of(source: Given) -> bytes:
 class Reading:
     """The answers' records, of which some first ones are read, and the tables and commits of the store by then."""
 
-    def __init__(self, output: Source, is_own: bool, tell: Tell = silently):
+    def __init__(self, output: Source, is_own: bool, advance: Advance = silently):
         """Of answers that the program gave just now the long lists are passed over."""
-        self.source, self.output, self.is_own, self.tell = output, Reader(output), is_own, tell
+        self.source, self.output, self.is_own, self.advance = output, Reader(output), is_own, advance
         self.place = self.output.place
         self.tables: Dict[str, Schema] = {}
         self.commits = 0
@@ -127,7 +127,7 @@ class Reading:
         return Table(columns, READERS[answered](self, command, first, columns))
 
     def has_commits(self, command: Command) -> bool:
-        """Whether the commits that a query tells are numbers, and that of its suffix is there."""
+        """Whether the commits that a query names are numbers, and that of its suffix is there."""
         if command.as_of is not None:
             newest = self.commits if self.held is None else self.held
             return is_count(command.as_of) and int(command.as_of) <= newest
@@ -176,7 +176,7 @@ class Reading:
                 if not checks.pass_over(piece):
                     raise checks.fault(Reader(self.source, place), first)
                 count += len(piece)
-                self.tell(self.output.number)
+                self.advance(self.output.number)
                 behind = self.output.at_list_end(first) if self.is_own and len(piece) == PIECE else None
                 if behind:
                     self.output, count = behind, behind.number - first.number
@@ -201,8 +201,8 @@ class Reading:
                 raise misfit(command, f"part,{part} with ids", record)
             found += len(record.fields) - 2
         if found != int(count):
-            told = f"{count} rows are told, and {found} stand in parts"
-            raise Misfit(f"{command.place}: {short(command.text)}: {told}")
+            both = f"{count} rows are counted, and {found} stand in parts"
+            raise Misfit(f"{command.place}: {short(command.text)}: {both}")
         return Rows(found, lambda: parts_at(self.source, place, int(parts), instant))
 
     def judged(self, command: Command, first: Record, columns: List[Column]) -> Sequence[Row]:
@@ -273,8 +273,8 @@ def is_refusable(name: str, record: Record, command: Command, there: Dict[str, S
     form = command.form
     if name == "NotInBlock":
         return command.in_together and form.is_barred
-    told = form.refusals if record is command.record else form.part_refusals or NONE.refusals
-    if (name == "Unended") is command.is_ended or name not in told.split():
+    names = form.refusals if record is command.record else form.part_refusals or NONE.refusals
+    if (name == "Unended") is command.is_ended or name not in names.split():
         return False
     if name == "KeyOverlap":
         return is_doable(command, there)
@@ -294,5 +294,5 @@ def is_doable(command: Command, there: Dict[str, Schema]) -> bool:
 
 
 def misfit(command: Command, wanted: str, found: Record) -> Misfit:
-    told = f"the answer at line {found.line} is {short(found.text)}, and not {wanted}"
-    return Misfit(f"{command.place}: {short(command.text)}: {told}")
+    other = f"the answer at line {found.line} is {short(found.text)}, and not {wanted}"
+    return Misfit(f"{command.place}: {short(command.text)}: {other}")

@@ -195,7 +195,7 @@ def do_front(options: Namespace) -> int:
         for answer in reading.answers(commands.commands(Source(script))):
             found.append(answer)
             places.append(reading.place.number)
-    lines.extend(front.told_of(kept, output, found, places))
+    lines.extend(front.differences(kept, output, found, places))
     streams.show_lines(lines)
     return 1 if lines else 0
 
