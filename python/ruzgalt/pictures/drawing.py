@@ -9,7 +9,7 @@ from ruzgalt.pictures.timeline import Span, ticks
 
 # Pixels: of a letter, of the edge, of a line of the title or of a note, and of what stands above and below the frame.
 LETTER, EDGE, LINE, ABOVE, BELOW = 7.0, 12, 16, 66, 30
-# The width that no picture goes below, and those that it doesn't go past unless it is told.
+# The width that no picture goes below, and those that it doesn't go past unless that is wanted.
 NARROW, WIDE, TALL = 760, 1_600, 4_000
 # The length of a point; and so many lines of notes there is room for, whatever lanes and groups take.
 TIP, KEPT = 6, 8
@@ -36,7 +36,7 @@ class Frame:
 
 
 def across_for(width: Optional[int], margin: int, wanted: int) -> int:
-    """How wide the frame is: as it is told, or as wanted, within bounds."""
+    """How wide the frame is: as it is given, or as wanted, within bounds."""
     if width:
         return max(width - margin - EDGE, 100)
     return min(max(wanted, NARROW), WIDE - margin - EDGE)
@@ -65,15 +65,15 @@ def top_of(title: str, width: int) -> int:
 def axis(frame: Frame) -> Iterator[str]:
     """Ticks through the whole frame, with their texts above and below, since a drawing may be long."""
     taken = 0.0
-    for second, told in ticks(frame.span, max(frame.across // 90, 1)):
+    for second, label in ticks(frame.span, max(frame.across // 90, 1)):
         place = frame.place(second)
         yield line(place, frame.top - 4, place, frame.bottom + 4, "#ccc")
-        is_long = len(told) > 10
+        is_long = len(label) > 10
         left = place if is_long else place - 40
-        if left >= taken and place + (len(told) * LETTER if is_long else 40) <= frame.right + EDGE:
-            taken = left + len(told) * LETTER
+        if left >= taken and place + (len(label) * LETTER if is_long else 40) <= frame.right + EDGE:
+            taken = left + len(label) * LETTER
             for top in (frame.bottom + 18, frame.top - 26):
-                yield text(place, top, told, "start" if is_long else "middle", GREY)
+                yield text(place, top, label, "start" if is_long else "middle", GREY)
     yield line(frame.left, frame.bottom, frame.right, frame.bottom, GREY)
 
 
@@ -90,15 +90,15 @@ def text(left: float, top: float, words: str, anchor: str = "start", colour: str
     return f'<text x="{left}" y="{top}" text-anchor="{anchor}" fill="{colour}">{clean(words)}</text>'
 
 
-def box(left: float, top: float, width: float, height: float, colour: str, told: str, edge: str = "none") -> str:
+def box(left: float, top: float, width: float, height: float, colour: str, title: str, edge: str = "none") -> str:
     place = f'x="{left}" y="{top}" width="{width}" height="{height}"'
-    return f'<rect {place} fill="{colour}" stroke="{edge}"><title>{clean(told)}</title></rect>'
+    return f'<rect {place} fill="{colour}" stroke="{edge}"><title>{clean(title)}</title></rect>'
 
 
-def shape(points: Sequence[Sequence[float]], colour: str, told: str, edge: str = "none") -> str:
+def shape(points: Sequence[Sequence[float]], colour: str, title: str, edge: str = "none") -> str:
     """A box of other corners."""
     corners = " ".join(f"{left},{top}" for left, top in points)
-    return f'<polygon points="{corners}" fill="{colour}" stroke="{edge}"><title>{clean(told)}</title></polygon>'
+    return f'<polygon points="{corners}" fill="{colour}" stroke="{edge}"><title>{clean(title)}</title></polygon>'
 
 
 def clean(words: str) -> str:

@@ -48,7 +48,7 @@ def is_of_steps(answer: Answer) -> bool:
 
 
 def is_of_groups(answer: Answer, wish: Wish) -> bool:
-    """Whether it is a sum for each value of a column. Bars are drawn of it where their lanes or labels are told."""
+    """Whether it is a sum for each value of a column. Bars are drawn of it where their lanes or labels are given."""
     is_sum = answer.command.form.answered is Answered.STEPS and answer.command.front[2] == "sum"
     return is_sum and not (wish.by or wish.label)
 
@@ -145,7 +145,7 @@ def steps(answer: Answer, wish: Wish) -> Steps:
 
 
 def groups(answer: Answer, wish: Wish) -> Groups:
-    """The steps of each value of the column by which sums are told."""
+    """The steps of each value of the column by which sums are asked."""
     table = answer.table
     column = table.columns[0]
     by_value: Dict[str, List[Step]] = defaultdict(list)

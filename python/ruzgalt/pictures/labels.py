@@ -79,17 +79,17 @@ def listed(given: Iterable[Unplaced], width: int, room: int) -> Iterator[str]:
     """Labels that have no room where they belong, lane by lane, in so many lines at most."""
     labels = list(given)
     left = min(room, LISTED) - 2
-    told = 0
+    noted = 0
     for name, of_lane in groupby(labels, key=lambda label: label.lane):
         within = list(of_lane)
         note = (f"{name}: " if name else "") + "; ".join(f"{one.words} {points(one)}" for one in within)
-        note = note if told else f"Without room above: {note}"
+        note = note if noted else f"Without room above: {note}"
         left -= len(wrapped(note, width))
         if left < 0:
-            rest = counted(len(labels) - told, "label")
-            yield f"{f'And {rest} more' if told else rest} without room: --from and --to, or --width PIXELS, give it."
+            rest = counted(len(labels) - noted, "label")
+            yield f"{f'And {rest} more' if noted else rest} without room: --from and --to, or --width PIXELS, give it."
             return
-        told += len(within)
+        noted += len(within)
         yield note
 
 

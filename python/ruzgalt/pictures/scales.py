@@ -15,7 +15,7 @@ class Scale:
 
 
 def begun_at(picture: Union[Steps, Groups], scale: Scale) -> str:
-    """The title, which tells where heights aren't in proportion to values."""
+    """The title, which says where heights aren't in proportion to values."""
     steps = picture.groups[0][1] if isinstance(picture, Groups) else picture
     return f"{picture.title}; the scale begins at {steps.printed(scale.base)}" if scale.base else picture.title
 

@@ -3,9 +3,9 @@ from typing import Iterator, Sequence
 
 from ruzgalt.pictures.shapes import Bar
 
-# Light enough for black letters, and told apart by readers who see few colours.
+# Light enough for black letters, and seen apart by readers who see few colours.
 COLOURS = ["#9ecae1", "#fdd0a2", "#c7e9c0", "#dadaeb", "#fee391", "#d9d9d9", "#fcbba1", "#ccece6"]
-# How stripes lie that tell bars of one colour apart, also where a page is printed without colours.
+# How stripes lie by which bars of one colour differ, also where a page is printed without colours.
 TURNS = [45, -45]
 MOST = len(COLOURS) * (1 + len(TURNS))
 NOTE = f"No colours: more than {MOST} labels differ."

@@ -14,7 +14,7 @@ class Bar:
     start: int
     end: int
     label: str
-    told: str
+    record: str
     shade: int = 0
     lanes: int = 1
 

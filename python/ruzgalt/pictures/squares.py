@@ -64,5 +64,5 @@ def refuse_overlaps(answer: Answer, bars: List[Bar]) -> None:
         inside = sorted((bar for bar in bars if bar.lane <= lane < bar.lane + bar.lanes), key=lambda bar: bar.start)
         for one, other in zip(inside, inside[1:]):
             if other.start < one.end:
-                both = f"{short(one.told)} and {short(other.told)}"
-                raise Misfit(f"{answer.place}: {both} hold together: tell one fact by --where")
+                both = f"{short(one.record)} and {short(other.record)}"
+                raise Misfit(f"{answer.place}: {both} hold together: choose one fact by --where")

@@ -1,4 +1,4 @@
-"""Draws pictures as SVG, which a browser shows. Each bar tells its record where the pointer rests on it."""
+"""Draws pictures as SVG, which a browser shows. Each bar shows its record where the pointer rests on it."""
 from collections import Counter
 from dataclasses import replace
 from typing import Dict, Iterator, List, Optional, Tuple
@@ -20,7 +20,7 @@ POINTED = "A bar with a point goes on: without a known end, or start, or past wh
 
 
 def draw(picture: Picture, width: Optional[int] = None, height: Optional[int] = None) -> str:
-    """The picture, as wide and at most as tall as is told, or else as it needs within 1,600 and 4,000 pixels."""
+    """The picture, as wide and at most as tall as is given, or else as it needs within 1,600 and 4,000 pixels."""
     if is_empty(picture):
         top = top_of(picture.title, width or NARROW)
         return document(width or NARROW, top, picture.title, [text(EDGE, top - ABOVE + 44, NOTHING)])
@@ -82,12 +82,12 @@ def drawn(one: Box, frame: Frame, many: int) -> str:
     bar, fill = one.bar, shades.fill_of(one.bar.shade, many)
     before, behind = goes_on(bar, frame)
     if not (before or behind):
-        return box(one.left, one.top, one.right - one.left, one.height, fill, bar.told, "#666")
+        return box(one.left, one.top, one.right - one.left, one.height, fill, bar.record, "#666")
     tip = min(TIP, (one.right - one.left) // 2)
     left, right = one.left + tip * before, one.right - tip * behind
     bottom, middle = one.top + one.height, one.top + one.height // 2
     upper, lower = [(left, one.top), (right, one.top)], [(right, bottom), (left, bottom)]
-    return shape([*upper, (one.right, middle), *lower, (one.left, middle)], fill, bar.told, "#666")
+    return shape([*upper, (one.right, middle), *lower, (one.left, middle)], fill, bar.record, "#666")
 
 
 def goes_on(bar: Bar, frame: Frame) -> Tuple[bool, bool]:

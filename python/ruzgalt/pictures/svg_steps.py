@@ -87,13 +87,13 @@ def area(step: Step, picture: Steps, scale: Scale, frame: Frame) -> Iterator[str
     left, top, ground = frame.place(start), height_of(value, scale, frame), height_of(scale.base, scale, frame)
     right = max(frame.place(end), left + 1)
     points = (print_point(at_second(second)) for second in (start, end))
-    told = "valid_from: {}, valid_to: {}, {}: {}".format(*points, picture.name, value)
-    yield box(left, min(top, ground), right - left, round(abs(ground - top), 1), FILL, told)
+    title = "valid_from: {}, valid_to: {}, {}: {}".format(*points, picture.name, value)
+    yield box(left, min(top, ground), right - left, round(abs(ground - top), 1), FILL, title)
     yield line(left, top, right, top, EDGED, 2)
     if end > frame.span.end:
-        yield shape([(right - TIP, top - TIP), (right, top), (right - TIP, top + TIP)], EDGED, told)
+        yield shape([(right - TIP, top - TIP), (right, top), (right - TIP, top + TIP)], EDGED, title)
     if start < frame.span.start:
-        yield shape([(left + TIP, top - TIP), (left, top), (left + TIP, top + TIP)], EDGED, told)
+        yield shape([(left + TIP, top - TIP), (left, top), (left + TIP, top + TIP)], EDGED, title)
 
 
 def values_of(steps: Sequence[Step], picture: Steps, scale: Scale, frame: Frame) -> Iterator[str]:

@@ -36,8 +36,8 @@ def draw_bars(picture: Bars, width: int) -> str:
         for lane in range(bar.lane, bar.lane + bar.lanes):
             by_lane[lane].append(bar)
     for name, bars in zip(picture.lanes, by_lane):
-        told = to_width(shortened(name, margin - 1, ".."), margin - 1)
-        lines.append(told + " " + lane_of(bars, picture.span, cells, mark))
+        shown = to_width(shortened(name, margin - 1, ".."), margin - 1)
+        lines.append(shown + " " + lane_of(bars, picture.span, cells, mark))
     if mark is not None:
         lines.append(" " * margin + pointed(f"^ {picture.instant}", mark, cells))
     return "\n".join(line.rstrip() for line in [*lines, *axis(picture.span, margin, cells)]) + "\n"

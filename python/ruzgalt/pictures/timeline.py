@@ -36,7 +36,7 @@ def is_open(second: int) -> bool:
 
 
 def span_of(periods: Iterable[Tuple[int, int]], start: Optional[int] = None, end: Optional[int] = None) -> Span:
-    """The time from the first to the last known point, and somewhat more on a side that is open, or as it is told."""
+    """The time from the first to the last known point, and somewhat more on a side that is open, or as it is given."""
     points = [point for period in periods for point in period]
     known = [point for point in points if not is_open(point)] or points or [0]
     first = min(known) if start is None else start

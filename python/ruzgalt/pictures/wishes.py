@@ -1,4 +1,4 @@
-"""What is told beside an answer of which a picture is made, and which of its records that leaves."""
+"""What is wanted beside an answer of which a picture is made, and which of its records that leaves."""
 from dataclasses import dataclass, field
 from typing import Dict, Iterable, List, Optional, Sequence, Tuple
 
@@ -43,8 +43,8 @@ class Wish:
         """The script, its command, what is shown of it, of which records, and that their numbers have decimals."""
         script = f"{self.script}: " if self.script else ""
         where = " and ".join(f"{name} is {visible(value) or 'empty'}" for name, value in self.where)
-        told = f"{script}{' '.join(answer.command.text.split())}: {shown}" + (f", where {where}" if where else "")
-        return told + "".join(f"; {name} with {digits} decimals" for name, digits in self.amounts.digits if digits)
+        title = f"{script}{' '.join(answer.command.text.split())}: {shown}" + (f", where {where}" if where else "")
+        return title + "".join(f"; {name} with {digits} decimals" for name, digits in self.amounts.digits if digits)
 
     def wants(self, record: Record) -> bool:
         start, end = printed(self.start or ""), printed(self.end or "")
@@ -66,9 +66,9 @@ class Wish:
 
 
 def bar_of(record: Record, lane: int, label: str) -> Bar:
-    return Bar(lane, seconds(record["valid_from"]), seconds(record["valid_to"]), label, told(record))
+    return Bar(lane, seconds(record["valid_from"]), seconds(record["valid_to"]), label, fields_of(record))
 
 
-def told(record: Record) -> str:
+def fields_of(record: Record) -> str:
     """The record as the answer has it."""
     return ", ".join(f"{name}: {' '.join(value.split())}" for name, value in record.items() if value)
