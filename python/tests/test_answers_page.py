@@ -214,7 +214,7 @@ class Contents(ToolCase):
     def test_a_check_has_its_parts(self) -> None:
         checks = [one for one in data_of(example("audit"))["data"]["questions"] if one["word"] == "check"]
         self.assertEqual(checks[0]["parts"][:2], [["0", "1, 10, 17"], ["1", "2, 9, 11, 14"]])
-        self.assertEqual(checks[0]["told"], "No: rows 11 and 14 are in one part, and overlap.")
+        self.assertEqual(checks[0]["sentence"], "No: rows 11 and 14 are in one part, and overlap.")
 
     def test_a_question_has_the_name_that_it_was_asked_by(self) -> None:
         questions = data_of(page_of("table,t\n", "ok,1\nend,0\n", "--ask", "all=rows,t"))["data"]["questions"]

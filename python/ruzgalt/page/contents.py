@@ -70,8 +70,8 @@ def of(sources: Sources, diary: Optional[str]) -> Contents:
         "said": {then.number: pairs.marks(then, now) for then, now in pairs_of(kept)},
         "tables": list(parts.tables()),
     }
-    if found.untold:
-        parts.left_out.append(f"{found.untold:,} findings: `{called.ANSWERS} refusals` tells all")
+    if found.left_out:
+        parts.left_out.append(f"{found.left_out:,} findings: `{called.ANSWERS} refusals` lists all")
     return Contents({**data, "leftOut": parts.left_out}, parts.lists)
 
 
@@ -104,7 +104,7 @@ class Parts:
                 "word": answer.command.word, "commit": answer.commit,
                 "columns": columns_of(answer.table, self.sources.look),
                 "count": len(answer.table.records), "hasAll": has_all, "shown": shown,
-                "name": self.sources.names.get(answer.number, ""), "told": told_of(answer), "parts": parts_of(answer),
+                "name": self.sources.names.get(answer.number, ""), "sentence": sentence_of(answer), "parts": parts_of(answer),
                 "picture": drawing.tree, "noPicture": drawing.why,
             }
 
@@ -114,8 +114,8 @@ class Parts:
         has_all = room.take(text) or count <= shown
         if not has_all:
             text = as_json(answer.table, shown)
-            told = f"{count - shown:,} of {count:,} records"
-            self.left_out.append(f"of {answer.place}, {short(answer.command.text)}: {told}")
+            rest = f"{count - shown:,} of {count:,} records"
+            self.left_out.append(f"of {answer.place}, {short(answer.command.text)}: {rest}")
         self.lists.append((f"records-{answer.number}", text))
         return has_all
 
@@ -144,7 +144,7 @@ def as_objects(found: Sequence[findings.Finding]) -> List[Data]:
 
 
 def days_of(sources: Sources, diary: Optional[str]) -> history.Days:
-    """The days of the diary, as its rows tell them at the script's end."""
+    """The days of the diary, as its rows have them at the script's end."""
     if diary is None:
         return []
     history.refuse_missing(sources.answers, diary)
@@ -157,8 +157,8 @@ def doubts_of(sources: Sources, diary: Optional[str], days: history.Days) -> Ite
     if not sources.answers:
         yield findings.Finding("line 1", "", "", EMPTY, [])
     newest = max((answer.commits for answer in sources.answers), default=0)
-    for told in history.strange_commits(days, newest):
-        yield findings.Finding(f"--diary {diary}", "", "", told, [])
+    for reason in history.strange_commits(days, newest):
+        yield findings.Finding(f"--diary {diary}", "", "", reason, [])
 
 
 def commits_of(sources: Sources, counts: Tally, days: Sequence[Tuple[str, int]]) -> Iterator[List[str]]:
@@ -194,10 +194,10 @@ def columns_of(table: Table, look: Look) -> List[List[Any]]:
     return found
 
 
-def told_of(answer: Answer) -> str:
+def sentence_of(answer: Answer) -> str:
     """What a division or a verdict says, in a sentence."""
     if answer.command.word == "dip":
-        return division_told(answer.table)
+        return sentence_of_division(answer.table)
     if answer.command.word == "check":
         return verdicts.told(answer)
     return ""
@@ -210,7 +210,7 @@ def parts_of(answer: Answer) -> List[List[str]]:
     return [[str(place), ", ".join(part.fields[1:])] for place, part in enumerate(islice(answer.command.rows, PARTS))]
 
 
-def division_told(table: Table) -> str:
+def sentence_of_division(table: Table) -> str:
     records = list(table.texts())
     if not records:
         return "No rows, so no part."

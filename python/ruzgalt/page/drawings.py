@@ -39,8 +39,8 @@ def of(found: Sequence[Answer], answer: Answer, amounts: Amounts) -> Drawing:
     if count == 0:
         return Drawing(None)
     if count > MOST:
-        told = f"No picture: {count:,} records are more than {MOST}. `{called.ANSWERS} picture` draws some of them."
-        return Drawing(None, told)
+        why = f"No picture: {count:,} records are more than {MOST}. `{called.ANSWERS} picture` draws some of them."
+        return Drawing(None, why)
     try:
         wish = figures.Wish(amounts=amounts.known_to(answer.table))
         text = svg.draw(figures.of(of_one_table(found, answer), answer, wish), WIDTH)

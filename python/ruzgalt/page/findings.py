@@ -11,8 +11,8 @@ from ruzgalt.script.language import CHANGES
 from ruzgalt.script.records import short, to_record, visible
 from ruzgalt.script.schemas import Table
 
-# So many findings of each kind are told, and of so many changes that touched nothing the rows are looked at.
-TOLD, LOOKED_AT = 1_000, 100
+# So many findings of each kind are listed, and of so many changes that touched nothing the rows are looked at.
+LISTED, LOOKED_AT = 1_000, 100
 
 
 class Finding(NamedTuple):
@@ -29,8 +29,8 @@ class Findings(NamedTuple):
     refused: List[Finding]
     idle: List[Finding]
     doubtful: List[Finding]
-    # How many of them aren't told.
-    untold: int
+    # How many of them aren't listed.
+    left_out: int
 
 
 def of(sources: Sources, counts: Tally) -> Findings:
@@ -40,8 +40,8 @@ def of(sources: Sources, counts: Tally) -> Findings:
     idle = [finding(one, "", why_idle(one, sources)) for one in changes[:LOOKED_AT]]
     idle.extend(finding(one, "", "no row that it names holds in that time") for one in changes[LOOKED_AT:])
     kinds = refused, idle, doubtful
-    untold = sum(max(len(kind) - TOLD, 0) for kind in kinds)
-    return Findings(refused[:TOLD], idle[:TOLD], doubtful[:TOLD], untold)
+    left_out = sum(max(len(kind) - LISTED, 0) for kind in kinds)
+    return Findings(refused[:LISTED], idle[:LISTED], doubtful[:LISTED], left_out)
 
 
 def finding(answer: Answer, name: str, reason: str, more: Sequence[str] = ()) -> Finding:
@@ -81,7 +81,7 @@ def why_idle(answer: Answer, sources: Sources) -> str:
         values = {row[place] or "" for row in rows}
         if value not in values:
             name = schema.names[place - VALUES]
-            return f"no row has {told(value)} as {name} then{alike(value, sorted(values))}"
+            return f"no row has {shown_value(value)} as {name} then{alike(value, sorted(values))}"
     held = [row for row in rows if all((row[place] or "") == value for place, value in wanted)]
     if not held:
         return "no row has all of these values" if wanted else f"{texts[1]} had no row then"
@@ -103,8 +103,8 @@ def alike(value: str, others: Sequence[str]) -> str:
         return ""
     folded = fold(value)
     found = next((other for other in others if other and fold(other) == folded), None)
-    return f", but {told(found)}, which looks alike" if found else ""
+    return f", but {shown_value(found)}, which looks alike" if found else ""
 
 
-def told(value: str) -> str:
+def shown_value(value: str) -> str:
     return visible(to_record([value]))

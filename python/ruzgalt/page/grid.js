@@ -109,15 +109,15 @@ function orderOf(kind) {
 
 // --- A table ---
 
-// Records under columns of a name and a kind. It is saved as `file`, where that is told. Of `count` records some may not be
-// in the page, and `shown` are shown at first. `look` tells the class of a record's row.
+// Records under columns of a name and a kind. It is saved as `file`, where that is given. Of `count` records some may not be
+// in the page, and `shown` are shown at first. `look` gives the class of a record's row.
 class Grid {
   constructor({ label, columns, records, file, shown = data.shown, count = records.length, look = () => "" }) {
     Object.assign(this, { columns, records, count, look, limit: shown, words: "", only: null, sorted: null, isFalling: false });
     this.body = make("tbody");
     this.body.addEventListener("click", (event) => this.pick(event.target.closest("td")));
     this.all = pressed("", () => { this.only = null; this.refresh(); });
-    this.told = make("output", { class: "soft" });
+    this.status = make("output", { class: "soft" });
     this.more = pressed("Show more", () => { this.limit = data.shown; this.refresh(); });
     this.heads = columns.map(([name, kind], place) => this.headOf(name, kind, place));
     const table = make("table", {}, make("thead", {}, make("tr", {}, ...this.heads)), this.body);
@@ -127,17 +127,17 @@ class Grid {
   }
 
   toolsFor(label, file) {
-    const tools = make("div", { class: "tools" }, this.told, this.all, this.more);
+    const tools = make("div", { class: "tools" }, this.status, this.all, this.more);
     if (this.count > 5) {
       const search = make("input", { type: "search", "aria-label": `Filter ${label}`, placeholder: "Filter" });
       search.addEventListener("input", () => { this.words = search.value.toLowerCase(); this.refresh(); });
       tools.append(search);
     }
     if (file) {
-      const told = make("output", { class: "soft" });
-      const csv = pressed("Save as CSV", () => { told.textContent = saveAs(file, this.columns, this.records); });
+      const note = make("output", { class: "soft" });
+      const csv = pressed("Save as CSV", () => { note.textContent = saveAs(file, this.columns, this.records); });
       csv.setAttribute("aria-label", `Save as CSV: ${label}`);
-      tools.append(told, csv);
+      tools.append(note, csv);
     }
     return tools;
   }
@@ -187,13 +187,13 @@ class Grid {
     this.scroll.classList.toggle("long", this.visible.length > LONG);
     const front = found.length > limit ? `first ${grouped(limit)} of ` : "";
     const lacking = records.length < count ? `; of ${grouped(count)} the others aren't in this page` : "";
-    this.told.textContent = `${front}${counted(found.length, "record")}${this.words || only ? " found" : ""}${lacking}`;
+    this.status.textContent = `${front}${counted(found.length, "record")}${this.words || only ? " found" : ""}${lacking}`;
     if (Math.min(found.length, limit) > ON_PAPER) {
-      this.told.append(make("span", { class: "on-paper" }, `; on paper the first ${ON_PAPER}`));
+      this.status.append(make("span", { class: "on-paper" }, `; on paper the first ${ON_PAPER}`));
     }
     this.all.hidden = only === null;
-    const told = only ? seen(shownField(this.columns[only.place], only.field)) || "empty" : "";
-    this.all.textContent = only ? `${this.columns[only.place][0]}: ${told} \u00d7` : "";
+    const field = only ? seen(shownField(this.columns[only.place], only.field)) || "empty" : "";
+    this.all.textContent = only ? `${this.columns[only.place][0]}: ${field} \u00d7` : "";
     this.all.setAttribute("aria-label", "Show all records again");
     this.more.hidden = limit >= data.shown || found.length <= limit;
   }

@@ -7,22 +7,22 @@ function section(id, ...inner) {
   document.getElementById(id).append(...inner);
 }
 
-function fileTold(file) {
+function fileText(file) {
   return [`${file.name}, ${counted(file.size, "byte")}, SHA-256 `, make("span", { class: "mark" }, file.sha256)];
 }
 
-function answeredTold() {
+function answeredBy() {
   const [command, program] = data.files;
   if (!data.isOwn) {
-    return ["no program was run: the answers were read from ", ...fileTold(command)];
+    return ["no program was run: the answers were read from ", ...fileText(command)];
   }
   if (!command) {
     return ["a program whose file can't be read"];
   }
-  return program ? [...fileTold(command), ", which runs ", ...fileTold(program)] : fileTold(command);
+  return program ? [...fileText(command), ", which runs ", ...fileText(program)] : fileText(command);
 }
 
-function againTold() {
+function doneAgain() {
   if (!data.isDoneAgain) {
     return "No. The program's answers stand here as it printed them.";
   }
@@ -41,9 +41,9 @@ function showHead() {
   const findings = [[data.refused, "refused"], [data.idle, "touched nothing"], [data.doubtful, "may not be meant"]];
   const short = findings.map(([found, what]) => `${grouped(found.length)} ${what}`).join(", ");
   const counts = `${counted(data.newest, "commit")}, ${counted(data.questions.length, "question")}; ${short}.`;
-  const facts = [["Script", fileTold(data.script)], ["Answered by", answeredTold()], ["Done again", [againTold()]], ["In short", [counts]]];
-  for (const [what, told] of facts) {
-    document.getElementById("facts").append(make("dt", {}, what), make("dd", {}, ...told));
+  const facts = [["Script", fileText(data.script)], ["Answered by", answeredBy()], ["Done again", [doneAgain()]], ["In short", [counts]]];
+  for (const [what, text] of facts) {
+    document.getElementById("facts").append(make("dt", {}, what), make("dd", {}, ...text));
   }
   document.getElementById("facts").after(savingChoice());
 }
@@ -72,7 +72,7 @@ function showCommits() {
   const hasDays = data.diary !== null;
   const about = hasDays
     ? `Days are those of the table ${data.diary}: the first day on which a commit was there.`
-    : "The store has no clock, and no diary was told (--diary TABLE), so commits have numbers and no days.";
+    : "The store has no clock, and no diary is given (--diary TABLE), so commits have numbers and no days.";
   const all = [
     ["commit", "int"], ["day", "point"], ["place", "short"], ["command", "code"], ["rows added", "int"], ["rows closed", "int"],
   ];
@@ -106,7 +106,7 @@ function signed(records, signs, only) {
 }
 
 function sideOf(when, question, records) {
-  const label = `${when}: ${commitTold(question.commit)}`;
+  const label = `${when}: ${commitText(question.commit)}`;
   const columns = [["said", "short"], ...question.columns];
   const file = `${when.toLowerCase()}-${question.number}.csv`;
   const look = ([mark]) => mark.slice(5);
@@ -127,7 +127,7 @@ function pairOf(then, now) {
   const article = make("article", {}, make("h3", {}, headOf(name, now.command)), ...command);
   if (!then.hasAll || !now.hasAll) {
     const command = make("code", {}, `${data.tool} changed ${data.scriptWord} ${then.number} ${now.number}`);
-    article.append(make("p", {}, "Not all records are in this page. What changed is told by ", command, "."));
+    article.append(make("p", {}, "Not all records are in this page. What changed is listed by ", command, "."));
     return article;
   }
   const before = blockOf(`records-${then.number}`), after = blockOf(`records-${now.number}`);
@@ -176,15 +176,15 @@ function figureOf(tree, label) {
 function questionOf(question) {
   const { number, command, columns, count, shown, picture } = question;
   const records = blockOf(`records-${number}`), file = `${number}-${question.word}.csv`;
-  const about = `${question.place}, answer ${number}; it reads ${commitTold(question.commit)}.`;
+  const about = `${question.place}, answer ${number}; it reads ${commitText(question.commit)}.`;
   const grid = new Grid({ label: command, columns, records, count, shown, file });
   const beside = make("div", { class: `beside ${picture && columns.length <= WIDEST ? "two" : ""}` }, grid.element);
   beside.append(...(picture ? [figureOf(picture, command)] : []));
-  const told = question.told ? [make("p", {}, question.told)] : [];
+  const sentence = question.sentence ? [make("p", {}, question.sentence)] : [];
   const none = question.noPicture ? [make("p", { class: "soft" }, question.noPicture)] : [];
   const name = question.name ? [`${question.name}: `] : [];
   const title = make("h3", { id: `question-${number}` }, ...name, make("code", {}, command));
-  return make("article", {}, title, make("p", { class: "soft" }, about), ...told, beside, ...none, ...partsOf(question));
+  return make("article", {}, title, make("p", { class: "soft" }, about), ...sentence, beside, ...none, ...partsOf(question));
 }
 
 function partsOf({ number, command, parts }) {
@@ -219,7 +219,7 @@ function showTables() {
       + "between,TABLE,0,1000000 for each table."
     : `What is shown here is found in this page from versions that ${data.tool} made when it did the script's changes once `
       + "more. The program wasn't asked for them.";
-  const times = "Two times are told apart: the day for which a row holds, and the commit from which on the store knew it.";
+  const times = "Two times are kept apart: the day for which a row holds, and the commit from which on the store knew it.";
   section("tables", make("p", {}, source), make("p", {}, times));
   section("tables", ...(data.tables.length ? data.tables.map(tableOf) : [make("p", {}, "The script makes no table.")]));
 }

@@ -152,10 +152,10 @@ def refuse_others(found: Found, replay: Replay) -> None:
         fitting.refuse_unfit(found.answers, found.answers)
         return
     for answer in found.answers:
-        told = None if answer.refusal else fitting.fault(found.answers, replay, answer)
-        if told:
+        difference = None if answer.refusal else fitting.fault(found.answers, replay, answer)
+        if difference:
             text = short(answer.command.text)
-            raise Misfit(f"{answer.place}: {text}: {told}: the program answers otherwise than the changes, done again")
+            raise Misfit(f"{answer.place}: {text}: {difference}: the program answers otherwise than the changes, done again")
 
 
 def done_again(replay: Replay, schema: Schema) -> Table:

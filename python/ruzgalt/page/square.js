@@ -23,11 +23,11 @@ class Square {
     this.bottom = TOP + this.commits.length * LANE;
     this.setSpan();
     this.cross = drawn("path", { class: "cross" });
-    this.crossTold = drawn("text", { y: TOP - 14 });
+    this.crossText = drawn("text", { y: TOP - 14 });
     this.element = drawn("svg", {
       viewBox: `0 0 ${WIDTH} ${this.bottom + 28}`, width: WIDTH, height: this.bottom + 28, role: "img",
       "aria-label": `Picture of ${fact}: time across and commits down. The table beside it has the same.`,
-    }, ...this.lanes(), ...this.ticks(), ...this.bars(), this.cross, this.crossTold);
+    }, ...this.lanes(), ...this.ticks(), ...this.bars(), this.cross, this.crossText);
   }
 
   // From the first to the last known point, and somewhat more on a side that is open.
@@ -54,9 +54,9 @@ class Square {
   lanes() {
     return this.commits.flatMap((commit, place) => {
       const next = this.commits[place + 1] ?? data.newest + 1, top = TOP + place * LANE;
-      const told = next > commit + 1 ? `commits ${commit}-${next - 1}` : `commit ${commit}`;
+      const label = next > commit + 1 ? `commits ${commit}-${next - 1}` : `commit ${commit}`;
       return [
-        drawn("text", { x: LEFT - 8, y: top + LANE - 8, "text-anchor": "end" }, told),
+        drawn("text", { x: LEFT - 8, y: top + LANE - 8, "text-anchor": "end" }, label),
         drawn("line", { class: "grid", x1: LEFT, x2: WIDTH - RIGHT, y1: top, y2: top }),
       ];
     });
@@ -91,8 +91,8 @@ class Square {
     const x = this.across(version[FROM]), width = Math.max(this.across(version[TO]) - x, 2);
     const top = this.down(Number(version[MADE]));
     const end = version[CLOSED] === "" ? this.bottom : this.down(Number(version[CLOSED]));
-    const told = drawn("title", {}, this.names.map((name, place) => `${name}: ${version[place]}`).join(", "));
-    const box = drawn("rect", { class: `bar shade${shade}`, x, y: top + 1, width, height: end - top - 2 }, told);
+    const title = drawn("title", {}, this.names.map((name, place) => `${name}: ${version[place]}`).join(", "));
+    const box = drawn("rect", { class: `bar shade${shade}`, x, y: top + 1, width, height: end - top - 2 }, title);
     const hasRoom = label.length * LETTER < width - 8;
     return hasRoom ? [box, drawn("text", { x: x + 4, y: (top + end) / 2 + 4 }, label)] : [box];
   }
@@ -101,7 +101,7 @@ class Square {
   mark(point, commit) {
     const x = this.across(point), y = Math.max(this.down(commit) + LANE - 4, TOP - 4);
     this.cross.setAttribute("d", `M${x} ${TOP - 8}V${this.bottom + 4}M${LEFT} ${y}H${WIDTH - RIGHT}`);
-    this.crossTold.textContent = `${point}, commit ${commit}`;
-    this.crossTold.setAttribute("x", Math.min(x, WIDTH - RIGHT - this.crossTold.textContent.length * LETTER));
+    this.crossText.textContent = `${point}, commit ${commit}`;
+    this.crossText.setAttribute("x", Math.min(x, WIDTH - RIGHT - this.crossText.textContent.length * LETTER));
   }
 }

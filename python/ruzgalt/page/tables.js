@@ -8,7 +8,7 @@ function commitOf(number) {
   return data.commits[number - 1] || [String(number), "", "", ""];
 }
 
-function commitTold(number) {
+function commitText(number) {
   const [, day] = commitOf(number);
   return number === 0 ? "commit 0, the empty store" : `commit ${number}${day ? `, entered ${day}` : ""}`;
 }
@@ -36,11 +36,11 @@ function slider(label, most, value) {
   sliders += 1;
   const id = `slider-${sliders}`;
   const input = make("input", { type: "range", id, min: 0, max: most, step: 1, value });
-  const told = make("span", { class: "soft" });
-  return { input, told, element: make("div", { class: "slider" }, make("label", { for: id }, label), input, told) };
+  const text = make("span", { class: "soft" });
+  return { input, text, element: make("div", { class: "slider" }, make("label", { for: id }, label), input, text) };
 }
 
-// What held of a table at a point, as the store stood at a commit. `mark` is told both.
+// What held of a table at a point, as the store stood at a commit. `mark` is given both.
 class Moment {
   constructor(table, versions, mark) {
     Object.assign(this, { table, versions, mark });
@@ -49,7 +49,7 @@ class Moment {
     this.day = slider("Day", this.points.length - 1, this.points.indexOf(this.point));
     this.commit = slider("Commit", data.newest, data.newest);
     this.exact = make("input", { type: "text", value: this.point, autocomplete: "off" });
-    this.told = make("output", { "aria-live": "polite" });
+    this.status = make("output", { "aria-live": "polite" });
     const label = `what held of ${table.name}`;
     this.grid = new Grid({ label, columns: withoutCommits(table.columns), records: [], file: `${table.name}-held.csv` });
     this.day.input.addEventListener("input", () => this.slide());
@@ -61,7 +61,7 @@ class Moment {
   get element() {
     const other = make("label", {}, "Another day or second, as 2024-01-31 or 2024-01-31T08:30:00 ", this.exact);
     return make("fieldset", {}, make("legend", {}, `What held of ${this.table.name}`), this.day.element,
-      make("div", { class: "tools" }, other), this.commit.element, make("p", {}, this.told), this.grid.element);
+      make("div", { class: "tools" }, other), this.commit.element, make("p", {}, this.status), this.grid.element);
   }
 
   slide() {
@@ -84,12 +84,12 @@ class Moment {
     const { point, table } = this, commit = Number(this.commit.input.value);
     const found = this.versions.filter((version) => isShown(version, commit) && holds(version, point));
     const next = this.points.find((one) => one > point);
-    this.day.told.textContent = `${point}${next ? `; nothing starts or ends before ${next}` : ""}`;
+    this.day.text.textContent = `${point}${next ? `; nothing starts or ends before ${next}` : ""}`;
     this.day.input.setAttribute("aria-valuetext", point);
-    this.commit.told.textContent = `${commitTold(commit)}: ${seen(commitOf(commit)[3])}`.replace(/: $/, "");
-    this.commit.input.setAttribute("aria-valuetext", commitTold(commit));
-    const told = `On ${point}, as the store stood at commit ${commit}, ${counted(found.length, "row")} held. The program is asked so: `;
-    this.told.replaceChildren(told, make("code", {}, `at,${table.name},${point},asof,${commit}`));
+    this.commit.text.textContent = `${commitText(commit)}: ${seen(commitOf(commit)[3])}`.replace(/: $/, "");
+    this.commit.input.setAttribute("aria-valuetext", commitText(commit));
+    const held = `On ${point}, as the store stood at commit ${commit}, ${counted(found.length, "row")} held. The program is asked so: `;
+    this.status.replaceChildren(held, make("code", {}, `at,${table.name},${point},asof,${commit}`));
     this.grid.show(found.map(withoutCommits));
     this.mark(point, commit);
   }
@@ -100,7 +100,7 @@ class Fact {
   constructor(table, versions) {
     Object.assign(this, { table, versions });
     this.kinds = this.kindsOf(table);
-    this.kind = make("select", { "aria-label": `What a fact of ${table.name} is told by` },
+    this.kind = make("select", { "aria-label": `What a fact of ${table.name} is known by` },
       ...this.kinds.map(({ name }, place) => make("option", { value: place }, name)));
     this.about = make("p", { class: "soft" });
     this.figure = make("figure", { class: "square" });
@@ -116,7 +116,7 @@ class Fact {
     this.group();
   }
 
-  // The columns by whose values facts are told apart: those of the key, or each alone.
+  // The columns by whose values facts differ: those of the key, or each alone.
   kindsOf(table) {
     const names = table.columns.map(([name]) => name);
     const { key } = table;
@@ -129,8 +129,8 @@ class Fact {
   }
 
   group() {
-    this.told = this.kinds[Number(this.kind.value)];
-    this.facts = this.grouped(this.told.places);
+    this.chosen = this.kinds[Number(this.kind.value)];
+    this.facts = this.grouped(this.chosen.places);
     this.sorted = [...this.facts.values()].sort((one, other) => collator.compare(one.label, other.label));
     this.search.hidden = this.sorted.length <= 20;
     this.search.value = "";
@@ -173,7 +173,7 @@ class Fact {
   refresh() {
     const { label, versions } = this.facts.get(this.choice.value);
     const found = [...versions].sort((one, other) => Number(one[MADE]) - Number(other[MADE]) || byPoint(one[FROM], other[FROM]));
-    this.picked.textContent = `${this.told.name} ${seen(label)}`;
+    this.picked.textContent = `${this.chosen.name} ${seen(label)}`;
     this.about.textContent = `${counted(found.length, "version")}. Each is shown by the commits from sys_from on and before sys_to; `
       + "where that is empty, by the newest too.";
     this.grid.show(found.map((version) => [...version.slice(FROM), version[0], madeBy(version)]));
@@ -205,7 +205,7 @@ function tableOf(table) {
   const article = make("article", {}, make("h3", {}, make("code", {}, table.name)), about);
   if (!table.isThere) {
     const command = make("code", {}, `${data.tool} csv ${data.scriptWord} --ask at,${table.name},DAY,asof,N`);
-    article.append(make("p", {}, "So many versions aren't in this page. What held is told by ", command, "."));
+    article.append(make("p", {}, "So many versions aren't in this page. What held is listed by ", command, "."));
   } else if (table.count === 0) {
     article.append(make("p", {}, "No row was ever in it."));
   } else {
