@@ -22,7 +22,7 @@ WORDS = ["pay", "Start", "End", "Name", "Pay"]
 
 
 def load(text: Union[str, bytes], *words: str) -> Tuple[str, List[str]]:
-    """What is printed, and what is told: faults, or else notes. Nothing is printed where something is at fault."""
+    """What is printed, and what is reported: faults, or else notes. Nothing is printed where something is at fault."""
     with tempfile.TemporaryDirectory() as folder:
         file = Path(folder, "pay.txt")
         file.write_bytes(text.encode() if isinstance(text, str) else text)
@@ -39,35 +39,35 @@ def rows(*lines: str) -> str:
 
 
 class Case(unittest.TestCase):
-    def told(self, part: str, text: Union[str, bytes], *words: str) -> None:
-        """One thing is told, and it has this part; the file is loaded or not."""
-        _, told = load(text, *(words or WORDS))
-        self.assertEqual(len(told), 1, told)
-        self.assertIn(part, told[0])
+    def noted(self, part: str, text: Union[str, bytes], *words: str) -> None:
+        """One thing is reported, and it has this part; the file is loaded or not."""
+        _, notes = load(text, *(words or WORDS))
+        self.assertEqual(len(notes), 1, notes)
+        self.assertIn(part, notes[0])
 
     def refused(self, part: str, text: Union[str, bytes], *words: str) -> None:
         printed, _ = load(text, *(words or WORDS))
         self.assertEqual(printed, "")
-        self.told(part, text, *words)
+        self.noted(part, text, *words)
 
     def loaded(self, wanted: str, text: Union[str, bytes], *words: str) -> None:
-        """The load is this, and nothing is told."""
+        """The load is this, and nothing is reported."""
         self.assertEqual(load(text, *(words or WORDS)), (wanted, []))
 
 
 class LastDays(Case):
-    def test_a_start_behind_the_last_day_is_told_with_lines_and_counts(self) -> None:
+    def test_a_start_behind_the_last_day_is_reported_with_lines_and_counts(self) -> None:
         text = rows("A,1,2024-01-01,2024-03-15", "A,2,2024-03-16,2024-06-01")
-        self.told("1 start on the day behind it (line 3 after line 2): a row doesn't hold on that day any more", text)
+        self.noted("1 start on the day behind it (line 3 after line 2): a row doesn't hold on that day any more", text)
 
     def test_the_first_of_a_month_elsewhere_hides_no_last_days(self) -> None:
         ends = ["A,1,2024-01-01,2024-03-31", "B,1,2024-01-01,2024-05-31", "C,1,2024-01-01,2024-07-31"]
         ends += ["D,1,2024-01-01,2024-08-31", "E,1,2024-01-01,2024-10-31", "F,1,2024-01-01,2024-07-01"]
-        self.told("5 ends are last days of a month, and 1 first ones", rows(*ends))
+        self.noted("5 ends are last days of a month, and 1 first ones", rows(*ends))
 
-    def test_last_day_where_rows_touch_is_told(self) -> None:
+    def test_last_day_where_rows_touch_is_reported(self) -> None:
         text = rows("A,1,2024-01-01,2024-03-15", "A,2,2024-03-15,2024-06-02")
-        self.told("1 start on it (line 3 after line 2): --last-day takes it", text, *WORDS, "--last-day")
+        self.noted("1 start on it (line 3 after line 2): --last-day takes it", text, *WORDS, "--last-day")
 
     def test_a_row_of_one_day_doesn_t_follow_itself(self) -> None:
         text = rows("A,1,2024-01-05,2024-01-05", "B,2,2024-02-07,2024-02-07")
@@ -75,21 +75,21 @@ class LastDays(Case):
         self.loaded(wanted, text, *WORDS, "--last-day")
         self.loaded(wanted, text, "pay", "Start", "Start", "Name", "Pay", "--last-day")
 
-    def test_rows_of_both_kinds_are_told(self) -> None:
+    def test_rows_of_both_kinds_are_reported(self) -> None:
         text = rows(
             "A,1,2024-01-01,2024-03-15", "A,2,2024-03-15,2024-05-20", "B,1,2024-01-01,2024-03-15",
             "B,2,2024-03-15,2024-05-20", "B,3,2024-05-21,2024-06-20",
         )
-        told = "1 start on the day behind it (line 6 after line 5) and 2 start on it (line 3 after line 2): is it"
-        self.told(told, text)
+        note = "1 start on the day behind it (line 6 after line 5) and 2 start on it (line 3 after line 2): is it"
+        self.noted(note, text)
 
     def test_rows_that_touch_are_loaded_without_a_word(self) -> None:
         text = rows("A,1,2024-01-01,2024-03-15", "A,2,2024-03-15,2024-06-02")
         self.loaded("load,pay\nrow,2024-01-01,2024-03-15,A,1\nrow,2024-03-15,2024-06-02,A,2\nend\n", text)
 
-    def test_the_last_minute_of_a_day_is_told(self) -> None:
+    def test_the_last_minute_of_a_day_is_reported(self) -> None:
         text = rows("A,1,2024-01-01,2024-03-15 23:59:59")
-        self.told("the row doesn't hold at its end", text, *WORDS, "--dates", "2024-12-31 00:00:00")
+        self.noted("the row doesn't hold at its end", text, *WORDS, "--dates", "2024-12-31 00:00:00")
 
 
 class Separators(Case):
@@ -103,9 +103,9 @@ class Separators(Case):
 
     def test_another_number_of_the_file_settles_it(self) -> None:
         text = HEADER + 'A,"7,500",2024-01-01,2024-03-05\nB,2.5,2024-01-01,2024-03-05\n'
-        printed, told = load(text, *WORDS, "--decimals", "Pay=1")
+        printed, notes = load(text, *WORDS, "--decimals", "Pay=1")
         self.assertIn(",A,75000\nrow,2024-01-01,2024-03-05,B,25\n", printed)
-        self.assertEqual(told, [])
+        self.assertEqual(notes, [])
 
     def test_a_word_settles_it(self) -> None:
         text = HEADER + 'A,"7,500",2024-01-01,2024-03-05\n'
@@ -128,15 +128,15 @@ class Separators(Case):
 
     def test_a_word_for_the_mark_takes_three_digits_behind_it(self) -> None:
         text = rows("A,0.500,2024-01-01,2024-03-05", "B,4.900,2024-01-01,2024-03-05", "C,12.5000,2024-01-01,2024-03-05")
-        printed, told = load(text, *WORDS, "--decimals", "Pay=2", "--decimal-mark", ".")
+        printed, notes = load(text, *WORDS, "--decimals", "Pay=2", "--decimal-mark", ".")
         self.assertEqual([line.rpartition(",")[2] for line in printed.split()[1:-1]], ["50", "490", "1250"])
-        self.assertEqual(told, [])
+        self.assertEqual(notes, [])
 
     def test_apostrophes_part_thousands(self) -> None:
         text = rows("A,1'234.50,2024-01-01,2024-03-05", "B,-1’234’567.5,2024-01-01,2024-03-05")
-        printed, told = load(text, *WORDS, "--decimals", "Pay=2")
+        printed, notes = load(text, *WORDS, "--decimals", "Pay=2")
         self.assertEqual([line.rpartition(",")[2] for line in printed.split()[1:-1]], ["123450", "-123456750"])
-        self.assertEqual(told, [])
+        self.assertEqual(notes, [])
         for number in ("1'23.50", "12'34'567", "1'234,567.50", "0'500"):
             with self.subTest(number):
                 self.refused("no number as", rows(f'A,"{number}",2024-01-01,2024-03-05'), *WORDS, "--decimals", "Pay=2")
@@ -148,16 +148,16 @@ class Separators(Case):
         ]:
             with self.subTest(number):
                 text, words = rows(f"A,{number},2024-01-01,2024-03-05"), [*WORDS, "--decimals", "Pay=2"]
-                _, [told] = load(text, *words)
-                found = re.search("with (--unit .*) it is one", told)
-                self.assertIsNotNone(found, told)
+                _, [note] = load(text, *words)
+                found = re.search("with (--unit .*) it is one", note)
+                self.assertIsNotNone(found, note)
                 more = shlex.split(found[1]) if found else []
                 self.loaded(f"load,pay\nrow,2024-01-01,2024-03-05,A,{made}\nend\n", text, *words, *more)
 
-    def test_another_unit_is_told_as_that(self) -> None:
+    def test_another_unit_is_reported_as_that(self) -> None:
         text = rows("A,5 €,2024-01-01,2024-03-05", "B,5 $,2024-01-01,2024-03-05")
-        told = "line 3: Pay is '5 $': no number as 1,234.50; with --unit '$' it is one, of the same unit as those of €"
-        self.refused(told, text, *WORDS, "--decimals", "Pay=2", "--unit", "€")
+        note = "line 3: Pay is '5 $': no number as 1,234.50; with --unit '$' it is one, of the same unit as those of €"
+        self.refused(note, text, *WORDS, "--decimals", "Pay=2", "--unit", "€")
 
     def test_numbers_below_zero_have_a_minus_before_them(self) -> None:
         for number in ("(500.00)", "500.00-", "−500"):
@@ -165,33 +165,33 @@ class Separators(Case):
                 text = rows(f"A,{number},2024-01-01,2024-03-05")
                 self.refused("a number below zero has a minus before it, as -5", text, *WORDS, "--decimals", "Pay=2")
 
-    def test_cents_that_are_told_as_thousandths_are_noted(self) -> None:
+    def test_cents_that_are_given_as_thousandths_are_noted(self) -> None:
         text = rows("A,7.25,2024-01-01,2024-03-05")
-        self.told("--decimals Pay=2 takes them as they are", text, *WORDS, "--decimals", "Pay=3")
+        self.noted("--decimals Pay=2 takes them as they are", text, *WORDS, "--decimals", "Pay=3")
 
 
 class LookAlikeTexts(Case):
-    def test_texts_that_look_alike_are_told_once_with_a_count_and_a_line(self) -> None:
+    def test_texts_that_look_alike_are_reported_once_with_a_count_and_a_line(self) -> None:
         for one, other in [("1", "001"), ("Müller", "MÜLLER"), ("José", "Jose\u0301"), ("A B", "A  B")]:
             seconds = [f"{other},1,2024-03-03,2024-04-05", f"{other},2,2024-05-03,2024-06-05"]
             text = rows(f"{one},1,2024-01-01,2024-02-05", *seconds)
             with self.subTest(other):
-                self.told("(line 3, and 1 more rows)", text)
+                self.noted("(line 3, and 1 more rows)", text)
 
-    def test_what_spreadsheets_make_of_numbers_is_told(self) -> None:
+    def test_what_spreadsheets_make_of_numbers_is_reported(self) -> None:
         for value, part in [
             ('"=""001"""', "a formula of a"), ("1.23E+05", "digits are rounded off"), ("", "it is empty"),
         ]:
             with self.subTest(value):
-                self.told(part, rows(f"{value},1,2024-01-01,2024-02-05"))
+                self.noted(part, rows(f"{value},1,2024-01-01,2024-02-05"))
 
-    def test_signs_that_look_alike_are_told(self) -> None:
+    def test_signs_that_look_alike_are_reported(self) -> None:
         for one, other in [("O'Neil", "O’Neil"), ("A-B", "A‑B"), ("A-B", "A–B"), ("A", "\u0410"), ("Gross", "Groß")]:
             with self.subTest(other):
                 text = rows(f"{one},1,2024-01-01,2024-02-05", f"{other},1,2024-03-03,2024-04-05")
-                self.told(f"it is another text than '{one}', though they look alike", text)
+                self.noted(f"it is another text than '{one}', though they look alike", text)
 
-    def test_what_no_name_has_is_told(self) -> None:
+    def test_what_no_name_has_is_reported(self) -> None:
         for value, part in [
             ("MÃ¼ller", "read in another encoding"), ("GroÃŸ", "another encoding"), ("DaÄŸ", "another encoding"),
             ("M\ufffdller", "has lost a character"), ("A\x07B", "can't be seen"), ("A\tB", "can't be seen"),
@@ -203,8 +203,8 @@ class LookAlikeTexts(Case):
                 with self.subTest(value, count=count):
                     others = [f"N{number},1,2024-01-01,2024-03-05" for number in range(count)]
                     text = rows(*others, f"{value},1,2024-01-01,2024-02-05")
-                    self.told(f"Name is '{visible(value)}', and is loaded so: ", text)
-                    self.told(part, text)
+                    self.noted(f"Name is '{visible(value)}', and is loaded so: ", text)
+                    self.noted(part, text)
 
     def test_a_zero_byte_is_refused_with_its_line(self) -> None:
         self.refused("line 2: a zero byte, of 1 in the file", rows("A\0,1,2024-01-01,2024-02-05"))
@@ -217,8 +217,8 @@ class ManyValues(Case):
         """The values of the rows, each with another number."""
         text = io.StringIO(newline="")
         csv.writer(text).writerows([name, number, "2024-01-01", "2024-03-05"] for number, name in enumerate(names))
-        printed, told = load(HEADER + text.getvalue(), *WORDS, *words)
-        self.assertEqual(told, [])
+        printed, notes = load(HEADER + text.getvalue(), *WORDS, *words)
+        self.assertEqual(notes, [])
         return [row[3:] for row in csv.reader(io.StringIO(printed, newline="")) if row[0] == "row"]
 
     def test_each_row_keeps_its_value(self) -> None:
@@ -231,13 +231,13 @@ class ManyValues(Case):
                 wanted = [[name, str(number)] for number, name in enumerate(names)]
                 self.assertEqual(self.made(names, "--line-breaks"), wanted)
 
-    def test_a_text_that_looks_like_one_of_many_is_told_with_both(self) -> None:
+    def test_a_text_that_looks_like_one_of_many_is_reported_with_both(self) -> None:
         pairs = [("Person {}", "PERSON 250"), ("Öz {} Straße", "öz 250 STRASSE"), ("{}", "0250"), ("C{}", "\u0421250")]
         for form, other in pairs:
             names = [*map(form.format, range(1, 300)), other]
             with self.subTest(form):
                 text = rows(*(f"{name},1,2024-01-01,2024-03-05" for name in names))
-                self.told(f"Name is '{other}', and is loaded so: it is another text than '{form.format(250)}'", text)
+                self.noted(f"Name is '{other}', and is loaded so: it is another text than '{form.format(250)}'", text)
 
     def test_numbers_past_the_store_s_are_refused(self) -> None:
         words = [*WORDS, "--decimals", "Pay=2"]
@@ -251,10 +251,10 @@ class ManyValues(Case):
             texts = [form.format(number) for number in range(10, 100)]
             text = rows(*(f'{place},"{one}",2024-01-01,2024-03-05' for place, one in enumerate([*texts, "0.1"])))
             with self.subTest(form):
-                printed, told = load(text, *WORDS, "--decimals", "Pay=2")
+                printed, notes = load(text, *WORDS, "--decimals", "Pay=2")
                 wanted = [str(int(Decimal(one.replace(",", "")) * 100)) for one in [*texts, "0.1"]]
                 found = [row[4] for row in csv.reader(io.StringIO(printed)) if row[0] == "row"]
-                self.assertEqual((found, told), (wanted, []))
+                self.assertEqual((found, notes), (wanted, []))
 
 
 class Tables(Case):
@@ -317,32 +317,32 @@ class Dates(Case):
         text = rows("A,1,2024-01-01,NULL")
         self.loaded("load,pay\nrow,2024-01-01,9999-12-31,A,1\nend\n", text, *WORDS, "--no-end", "NULL")
 
-    def test_years_far_off_are_told(self) -> None:
-        self.told("2204 is far off", rows("A,1,2204-01-01,2205-02-05").replace("2205-02-05", "9999-12-31"))
-        self.told("0204 is far off", rows("A,1,0204-01-01,2024-02-05"))
-        self.told("--no-end '2099-12-31' makes it", rows("A,1,2024-01-01,2099-12-31"))
+    def test_years_far_off_are_reported(self) -> None:
+        self.noted("2204 is far off", rows("A,1,2204-01-01,2205-02-05").replace("2205-02-05", "9999-12-31"))
+        self.noted("0204 is far off", rows("A,1,0204-01-01,2024-02-05"))
+        self.noted("--no-end '2099-12-31' makes it", rows("A,1,2024-01-01,2099-12-31"))
 
-    def test_the_first_of_1900_is_told(self) -> None:
-        self.told("1900 is far off", rows("A,1,1900-01-01,2024-02-05"))
+    def test_the_first_of_1900_is_reported(self) -> None:
+        self.noted("1900 is far off", rows("A,1,1900-01-01,2024-02-05"))
 
-    def test_days_and_months_the_other_way_round_are_told(self) -> None:
+    def test_days_and_months_the_other_way_round_are_reported(self) -> None:
         lines = [f"A{month},1,{month:02}/01/2024,{month + 1:02}/01/2024" for month in range(1, 12)]
-        told = "--dates 12/31/2024 reads all dates too, which are then of 12 months, and not of 1: which is meant?"
-        self.told(told, rows(*lines), *WORDS, "--dates", "31/12/2024")
+        note = "--dates 12/31/2024 reads all dates too, which are then of 12 months, and not of 1: which is meant?"
+        self.noted(note, rows(*lines), *WORDS, "--dates", "31/12/2024")
         _, found = load(rows(*lines), *WORDS, "--dates", "12/31/2024")
         self.assertEqual(found, [])
         _, found = load(rows(*lines, "B,1,01/13/2024,02/01/2024"), *WORDS, "--dates", "12/31/2024")
         self.assertEqual(found, [])
 
-    def test_days_that_are_as_good_as_months_are_told(self) -> None:
+    def test_days_that_are_as_good_as_months_are_reported(self) -> None:
         days = [f"{n % 12 + 1:02}/{n * 5 % 12 + 1:02}" for n in range(80)]
         lines = [f"A{n},1,{days[n]}/2024,{days[n + 40]}/2025" for n in range(40)]
         for form, other in [("31/12/2024", "12/31/2024"), ("12/31/2024", "31/12/2024")]:
-            told = f"Start and End: --dates {other} reads all dates too, which are then of 12 months either way"
-            self.told(told, rows(*lines), *WORDS, "--dates", form)
+            note = f"Start and End: --dates {other} reads all dates too, which are then of 12 months either way"
+            self.noted(note, rows(*lines), *WORDS, "--dates", form)
         text = rows("A,1,04/03/2024 08:00,06/05/2024 08:00")
-        told = "('04/03/2024 08:00', of 2, is 2024-03-04T08:00:00, and would be 2024-04-03T08:00:00)"
-        self.told(told, text, *WORDS, "--dates", "31/12/2024")
+        note = "('04/03/2024 08:00', of 2, is 2024-03-04T08:00:00, and would be 2024-04-03T08:00:00)"
+        self.noted(note, text, *WORDS, "--dates", "31/12/2024")
 
     def test_first_days_of_months_are_loaded_without_a_word(self) -> None:
         text = rows("A,1,01/02/2024,01/03/2024", "B,1,01/07/2024,01/11/2024")
@@ -371,24 +371,24 @@ class Dates(Case):
         ]:
             with self.subTest(text):
                 given = rows(f'A,1,"{text}",2024-03-05')
-                _, [told] = load(given, *WORDS)
-                self.assertRegex(told, "; with .*it is one$")
-                words = [re.sub(",.*", "", one) for one in re.split(" or | and ", told.partition("; with ")[2])]
+                _, [note] = load(given, *WORDS)
+                self.assertRegex(note, "; with .*it is one$")
+                words = [re.sub(",.*", "", one) for one in re.split(" or | and ", note.partition("; with ")[2])]
                 more = shlex.split(" ".join(one.removesuffix(" it is one") for one in words))
                 printed, _ = load(given, *WORDS, *more)
                 self.assertEqual(printed, f"load,pay\nrow,{made},2024-03-05,A,1\nend\n")
 
-    def test_a_start_far_ahead_is_told(self) -> None:
+    def test_a_start_far_ahead_is_reported(self) -> None:
         year = date.today().year
-        self.told(f"{year + 11} is far off; is the year right?", rows(f"A,1,{year + 11}-02-03,9999-12-31"))
-        _, told = load(rows(f"A,1,{year + 9}-02-03,9999-12-31"), *WORDS)
-        self.assertEqual(told, [])
+        self.noted(f"{year + 11} is far off; is the year right?", rows(f"A,1,{year + 11}-02-03,9999-12-31"))
+        _, notes = load(rows(f"A,1,{year + 9}-02-03,9999-12-31"), *WORDS)
+        self.assertEqual(notes, [])
 
-    def test_a_word_for_no_end_that_no_row_has_is_told(self) -> None:
+    def test_a_word_for_no_end_that_no_row_has_is_reported(self) -> None:
         text = rows("A,1,2024-01-01,2024-03-05")
-        self.told("--no-end 'none': no row's End is 'none'", text, *WORDS, "--no-end", "none")
-        self.told("--open: no row's End is empty", text, *WORDS, "--open")
-        self.told("--no-end 'none': no row's", rows("A,1,2024-01-01,"), *WORDS, "--no-end", "none", "--open")
+        self.noted("--no-end 'none': no row's End is 'none'", text, *WORDS, "--no-end", "none")
+        self.noted("--open: no row's End is empty", text, *WORDS, "--open")
+        self.noted("--no-end 'none': no row's", rows("A,1,2024-01-01,"), *WORDS, "--no-end", "none", "--open")
 
     def test_days_that_excel_counts_otherwise_are_refused(self) -> None:
         self.refused("Start is '00060': no date as", rows("A,1,00060,45000"), *WORDS, "--dates", "45657")
@@ -404,18 +404,18 @@ class Updates(Case):
         wanted = 'update,pay,2024-01-01,2024-03-05,set,euros,1,where,person,"Hill, Grace"\n'
         self.loaded(wanted, text, "pay", "Start", "End", "person", "euros", "--update", "person")
 
-    def test_two_updates_of_one_key_and_start_are_told(self) -> None:
+    def test_two_updates_of_one_key_and_start_are_reported(self) -> None:
         text = "person,euros,Start,End\nA,1,2024-01-01,2024-03-05\nA,2,2024-01-01,2024-04-05\n"
-        told = "line 3 updates the same person from the same point on as line 2, and the later one stands"
-        self.told(told, text, "pay", "Start", "End", "person", "euros", "--update", "person")
+        note = "line 3 updates the same person from the same point on as line 2, and the later one stands"
+        self.noted(note, text, "pay", "Start", "End", "person", "euros", "--update", "person")
 
-    def test_an_update_that_takes_an_earlier_line_s_place_is_told(self) -> None:
+    def test_an_update_that_takes_an_earlier_line_s_place_is_reported(self) -> None:
         words = ["pay", "Start", "End", "person", "euros", "--update", "person"]
         text = "person,euros,Start,End\nA,3,2024-09-01,2025-01-01\nB,1,2024-07-01,2025-01-01\n"
-        told = "line 4 updates the same person from an earlier point on than line 2, and past its start, so it"
-        self.told(told, text + "A,2,2024-07-01,2025-01-01\n", *words)
+        note = "line 4 updates the same person from an earlier point on than line 2, and past its start, so it"
+        self.noted(note, text + "A,2,2024-07-01,2025-01-01\n", *words)
         both = text + "A,2,2024-07-01,2025-01-01\nA,4,2024-08-01,2025-01-01\n"
-        self.told("out of order?; 1 more do so", both, *words)
+        self.noted("out of order?; 1 more do so", both, *words)
         for line in ("A,2,2024-07-01,2024-09-01", "A,2,2024-10-01,2025-01-01"):
             self.assertEqual(load(f"{text}{line}\n", *words)[1], [])
 
@@ -425,9 +425,9 @@ class Updates(Case):
         wanted = "update,pay,2024-01-01,2024-03-05,set,euros,500,where,pid,7\n"
         self.loaded(wanted, text, *words, "PID", "Euros", "--update", "PID")
         self.loaded(wanted, text, *words, "Euros", "PID", "--update", "pid")
-        printed, told = load(text, *words, "--update", "pid")
+        printed, notes = load(text, *words, "--update", "pid")
         self.assertEqual(printed, wanted)
-        self.assertEqual(told, ["the file has no column name, grade, so updates leave it as it is"])
+        self.assertEqual(notes, ["the file has no column name, grade, so updates leave it as it is"])
         part = "Start: where not all columns are given, the file has the table's names, and pay has pid, name, grade, e"
         self.refused(part, text, *words, "PID", "Start", "--update", "PID")
         self.refused("Euros is '5x': no number", text.replace("500", "5x"), *words, "--update", "pid")
@@ -482,11 +482,11 @@ class Deletes(Case):
         words = [*self.WORDS, *self.RECORD, "--delete"]
         longer = self.TEXT + '"Hill, Grace",500,2024-01-01,2024-05-05\n'
         part = "line 3 deletes the same Person from the same point on as line 2, and the longer one would do alone"
-        self.told(part, longer, *words)
+        self.noted(part, longer, *words)
         header, _, row = self.TEXT.partition("\n")
         _, notes = load(f"{header}\n{row}{row}", *words)
         self.assertEqual(notes[0], "line 3 makes the same delete as line 2, and both stand")
-        self.told("no row stands behind the header, so nothing is changed", header, *words)
+        self.noted("no row stands behind the header, so nothing is changed", header, *words)
 
     def test_deletes_are_parted_as_the_load_is(self) -> None:
         lines = [f"{name},{place},2024-01-01,2024-03-05" for place, name in enumerate("ABCDEFGH")]
@@ -504,9 +504,9 @@ class Claims(Case):
         wanted = "check,posts,2,2024-01-05\npart,1,3\npart,2\nend\n"
         self.loaded(wanted, text, "posts", "Post", "Contract", "--check", "2024-01-05")
 
-    def test_parts_that_look_alike_are_told(self) -> None:
-        told = "Post is '01', and is another part than '1', though they look alike"
-        self.told(told, "Post,Contract\n1,1\n01,2\n2,3\n", "posts", "Post", "Contract", "--check", "2024-01-05")
+    def test_parts_that_look_alike_are_reported(self) -> None:
+        note = "Post is '01', and is another part than '1', though they look alike"
+        self.noted(note, "Post,Contract\n1,1\n01,2\n2,3\n", "posts", "Post", "Contract", "--check", "2024-01-05")
 
     def test_words_of_a_load_are_refused(self) -> None:
         words = ["posts", "P", "I", "--check"]
@@ -527,7 +527,7 @@ class Files(Case):
         for name in ("Pay", "my pay", "a,b", "1a", ""):
             self.refused("no name of a table", rows("A,1,2024-01-01,2024-03-05"), name, *WORDS[1:])
 
-    def test_a_packed_file_is_told_as_that(self) -> None:
+    def test_a_packed_file_is_refused_as_that(self) -> None:
         self.refused("this is a packed file", b"\x1f\x8b\x08\x00")
 
     def test_parts_have_each_row_once(self) -> None:
@@ -536,13 +536,13 @@ class Files(Case):
         whole = load(rows(*lines), *WORDS)[0].splitlines()[1:-1]
         self.assertEqual(sorted(sum(printed, [])), sorted(whole))
 
-    def test_a_part_is_told_with_how_many_there_are(self) -> None:
+    def test_a_part_is_reported_with_how_many_there_are(self) -> None:
         lines = [f"{name},1,2024-01-01,2024-03-05" for name in "ABCDEFG"]
         counts = []
         for part in (1, 2, 3):
-            _, [told] = load(rows(*lines), *WORDS, "--part", f"{part}/3")
+            _, [note] = load(rows(*lines), *WORDS, "--part", f"{part}/3")
             form = f"part {part} of 3 has (.) of the file's 7 rows; only all 3 parts together have each"
-            found = re.fullmatch(form, told)
+            found = re.fullmatch(form, note)
             counts.append(int(found[1]) if found else 0)
         self.assertEqual(sum(counts), 7)
 
@@ -557,17 +557,17 @@ class Files(Case):
 
     def test_a_name_that_two_columns_have_but_for_capitals_is_refused(self) -> None:
         text = "Name,NAME,Start,End\nA,B,2024-01-01,2024-03-05\n"
-        told = "name is in the header as 'Name' and 'NAME': the COLUMNs are to say which is meant"
-        self.refused(told, text, "pay", "Start", "End", "--table", "table,pay,name,text")
+        note = "name is in the header as 'Name' and 'NAME': the COLUMNs are to say which is meant"
+        self.refused(note, text, "pay", "Start", "End", "--table", "table,pay,name,text")
 
-    def test_nine_tenths_of_a_limit_are_told(self) -> None:
+    def test_nine_tenths_of_a_limit_are_reported(self) -> None:
         lines = [f"{letter},1,2024-01-01,2024-03-05" for letter in "ABCDEFGHIJ"]
         with mock.patch.object(making, "MOST_ROWS", 10):
-            self.told("10 rows in 300 bytes leave little room for corrections", rows(*lines))
+            self.noted("10 rows in 300 bytes leave little room for corrections", rows(*lines))
 
     def test_rows_behind_a_wrong_one_are_read_for_their_faults(self) -> None:
-        _, told = load(rows("A,1,2024-01-01", "B,1,x,y"), *WORDS)
-        self.assertEqual([one[:7] for one in told], ["line 2:", "line 3:", "line 3:"])
+        _, notes = load(rows("A,1,2024-01-01", "B,1,x,y"), *WORDS)
+        self.assertEqual([one[:7] for one in notes], ["line 2:", "line 3:", "line 3:"])
 
 
 if __name__ == "__main__":

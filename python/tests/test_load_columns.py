@@ -73,8 +73,8 @@ class Columns(unittest.TestCase):
         wanted = [["load", "t"], *([*row, *values] for values in file.rows), ["end"]]
         self.assertEqual(loaded([*words, "--table", printed([table])], file), wanted)
         by_name: List[Dict[str, str]] = [dict(zip(file.names, values)) for values in file.rows]
-        told = [word.partition("=")[0] for word in words]
-        plain = [["load", "t"], *([*row, *(one[name] for name in told)] for one in by_name), ["end"]]
+        note = [word.partition("=")[0] for word in words]
+        plain = [["load", "t"], *([*row, *(one[name] for name in note)] for one in by_name), ["end"]]
         self.assertEqual(loaded(words, file), plain)
 
     @DRAWN
@@ -113,8 +113,8 @@ class Columns(unittest.TestCase):
         found = list(csv.reader(io.StringIO(text, newline="")))
         self.assertEqual((status, [record[3:] for record in found[1:-1]]), (0, once), said)
         count = len(rows) - len(once)
-        told = f"--drop-equal: {count} row" if count else "--drop-equal: no row is equal to an earlier one"
-        self.assertIn(told, said)
+        note = f"--drop-equal: {count} row" if count else "--drop-equal: no row is equal to an earlier one"
+        self.assertIn(note, said)
 
 
 class Words(ToolCase):
@@ -123,7 +123,7 @@ class Words(ToolCase):
 
     def test_names_that_no_table_has_are_refused(self) -> None:
         table = ["--table", "table,pay,name,text,grade,text"]
-        for words, told in [
+        for words, note in [
             (["Grade=Neu"], "Grade=Neu: Grade is no name of a table's column"),
             (["grade=Neu", "grade=Alt"], "grade=Alt: the table's grade is given twice"),
             (["grade=Neu", "note=Neu"], "Neu is given twice"),
@@ -131,13 +131,13 @@ class Words(ToolCase):
             (["note=Neu", *table], "Neu: pay has no column note, but name, grade"),
             (["Name", "Neu", "--update", "Name"], "NAME=Name or --table gives the table's"),
         ]:
-            self.check([*self.LOADS, *words], self.FILE, 1, told)
+            self.check([*self.LOADS, *words], self.FILE, 1, note)
 
     def test_a_load_takes_its_other_columns_by_their_names(self) -> None:
         table = ["--table", "table,pay,name,text,grade,text,key,name", "--drop-equal"]
         self.check([*self.LOADS, "grade=Neu", *table], self.FILE, 0, "load,pay\nrow,2024-01-01,2024-02-01,A,S2\nend\n")
-        told = "1 row was left out, equal to an earlier one in all of the file's fields (line 3)"
-        self.check([*self.LOADS, "grade=Neu", *table], self.FILE, 0, told)
+        note = "1 row was left out, equal to an earlier one in all of the file's fields (line 3)"
+        self.check([*self.LOADS, "grade=Neu", *table], self.FILE, 0, note)
 
     def test_rows_that_differ_in_a_column_that_isn_t_taken_are_kept(self) -> None:
         file = self.FILE.replace("S1", "S0", 1)

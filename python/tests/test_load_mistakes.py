@@ -51,7 +51,7 @@ class Refused(Case):
             self.refused(f"as 5000; --decimals Pay={digits} makes", rows(f'A,"{number}",{PERIOD}'), *table)
         self.loaded(f"load,pay\nrow,{PERIOD},A,5\nend\n", rows(f"A,05,{PERIOD}"), *table, "--decimals", "Pay=0")
 
-    def test_a_file_as_a_column_is_told_as_that(self) -> None:
+    def test_a_file_as_a_column_is_refused_as_that(self) -> None:
         self.refused(f"{__file__} is a file, which --file or `<` gives", rows(f"A,1,{PERIOD}"), *WORDS, __file__)
 
     def test_a_unit_of_no_column_is_refused(self) -> None:
@@ -70,33 +70,33 @@ class Refused(Case):
 
 
 class Reported(Case):
-    def test_rows_with_sums_of_others_are_told(self) -> None:
+    def test_rows_with_sums_of_others_are_reported(self) -> None:
         names = ("Total", "TOTAL:", "Total 2024", "Grand total", "Insgesamt", "Summe: ", "Zwischensumme", "Subtotals")
         for name in names:
             for count in (1, 100):
                 with self.subTest(name, count=count):
                     others = [f"N{number},1,{PERIOD}" for number in range(count)]
-                    self.told("a row with a sum of others", rows(*others, f"{name},{count},{PERIOD}"))
+                    self.noted("a row with a sum of others", rows(*others, f"{name},{count},{PERIOD}"))
         for name in ("Totalenergies", "Summer", "Total Body Fitness"):
             self.loaded(f"load,pay\nrow,{PERIOD},{name},1\nend\n", rows(f"{name},1,{PERIOD}"))
 
-    def test_a_time_without_am_where_others_have_it_is_told(self) -> None:
+    def test_a_time_without_am_where_others_have_it_is_reported(self) -> None:
         text = rows("A,1,01/13/2024 06:30,01/13/2024 02:30 PM", "B,1,01/13/2024,01/14/2024")
-        told = "Start and End: '01/13/2024 06:30' has neither AM nor PM, which others have"
-        self.told(told, text, *WORDS, "--dates", "12/31/2024")
+        note = "Start and End: '01/13/2024 06:30' has neither AM nor PM, which others have"
+        self.noted(note, text, *WORDS, "--dates", "12/31/2024")
 
-    def test_quotes_that_are_none_of_csv_are_told(self) -> None:
+    def test_quotes_that_are_none_of_csv_are_reported(self) -> None:
         for name in ("'A'", "„A“", "“A”", "«A»"):
-            self.told("quotes of this kind are a part of the text", rows(f"{name},1,{PERIOD}"))
+            self.noted("quotes of this kind are a part of the text", rows(f"{name},1,{PERIOD}"))
 
-    def test_a_value_in_a_column_without_a_name_is_told(self) -> None:
+    def test_a_value_in_a_column_without_a_name_is_reported(self) -> None:
         text = f"Name,Pay,,Start,End\nA,4,,{PERIOD}\nB,4,500,{PERIOD}\n"
-        self.told("line 3: '500' is left out: its column, 3, has no name", text)
+        self.noted("line 3: '500' is left out: its column, 3, has no name", text)
 
-    def test_rows_of_one_value_that_overlap_are_told(self) -> None:
+    def test_rows_of_one_value_that_overlap_are_reported(self) -> None:
         pairs = [f"A,1,{PERIOD}", f"B,1,{PERIOD}", "A,1,2024-02-01,2024-04-02", f"C,1,{PERIOD}"]
-        told = "line 4 has the values of line 2, and both hold at one time: is one of them too many?"
-        self.told(told, rows(*pairs))
+        note = "line 4 has the values of line 2, and both hold at one time: is one of them too many?"
+        self.noted(note, rows(*pairs))
         key = ["--table", "table,pay,name,text,pay,int,key,name"]
         for words in (key, ["--update", "Name", *key]):
             self.assertFalse([one for one in load(rows(*pairs), *WORDS, *words)[1] if "too many" in one])

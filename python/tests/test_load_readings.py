@@ -132,11 +132,11 @@ class Numbers(unittest.TestCase):
         csv.writer(file).writerows([text, "2024-01-01", "2024-03-05"] for text in ["Pay", *texts])
         text = file.getvalue().replace("Pay,2024-01-01,2024-03-05", "Pay,Start,End", 1)
         more = [*words_of(words), *(word for unit in units for word in ("--unit", unit))]
-        printed, told = load(text, "pay", "Start", "End", "Pay", "--decimals", f"Pay={digits}", *more)
+        printed, notes = load(text, "pay", "Start", "End", "Pay", "--decimals", f"Pay={digits}", *more)
         mark = words["--decimal-mark"] or ("," if words["--german"] else ".")
         wanted = wanted_numbers(texts, mark, bool(words["--decimal-mark"]), digits, units)
         self.assertEqual([row[3] for row in csv.reader(io.StringIO(printed)) if row[0] == "row"], wanted)
-        self.assertTrue(wanted or told)
+        self.assertTrue(wanted or notes)
 
 
 # Points.
@@ -284,23 +284,23 @@ class Points(unittest.TestCase):
         pairs, words = drawn
         file = io.StringIO(newline="")
         csv.writer(file).writerows([["Pay", "Start", "End"], *(["A", *pair] for pair in pairs)])
-        printed, told = load(file.getvalue(), "pay", "Start", "End", "Pay", *words_of(words))
+        printed, notes = load(file.getvalue(), "pay", "Start", "End", "Pay", *words_of(words))
         form = words["--dates"] or ("31.12.2024" if "--german" in words else None)
         wanted = [wanted_row(start, end, form, words) for start, end in pairs]
         found = [row[1:3] for row in csv.reader(io.StringIO(printed)) if row[0] == "row"]
         self.assertEqual(found, [] if None in wanted else wanted)
-        self.assertTrue(found or told)
+        self.assertTrue(found or notes)
 
     @DRAWN
     @given(st.lists(POINTS, min_size=2, max_size=6), st.sampled_from(["31/12/2024", "12/31/2024", "31-12-2024"]))
-    def test_dates_that_are_as_good_the_other_way_round_are_told(self, points: List[datetime], form: str) -> None:
+    def test_dates_that_are_as_good_the_other_way_round_are_reported(self, points: List[datetime], form: str) -> None:
         """Silent are dates of which one has no other reading, or whose months are twice as many as by that."""
         pattern = FORMS[form]
         lines = [f"A{place},{point.strftime(pattern)},9999-12-31\n" for place, point in enumerate(points)]
-        _, told = load("".join(["Pay,Start,End\n", *lines]), "pay", "Start", "End", "Pay", "--dates", form)
+        _, notes = load("".join(["Pay,Start,End\n", *lines]), "pay", "Start", "End", "Pay", "--dates", form)
         days, months = [point.day for point in points], [point.month for point in points]
         is_other = max(days) <= 12 and days != months and len(set(months)) < 2 * len(set(days))
-        self.assertEqual(any("reads all dates too" in one for one in told), is_other)
+        self.assertEqual(any("reads all dates too" in one for one in notes), is_other)
 
 
 if __name__ == "__main__":

@@ -1,4 +1,4 @@
-"""The words of tools/csv-to-load, and what is printed and told beside its status."""
+"""The words of tools/csv-to-load, and what is printed and reported beside its status."""
 import unittest
 
 from tests.support import ToolCase
@@ -76,7 +76,7 @@ class Loads(ToolCase):
         taken = CSV.format("5", "2024-01-01", "2024-02-01") + BROKEN
         self.check(LOADS, taken, 1, "csv-to-load: line 3: a field in quotes goes on to line 4; ")
 
-    def test_ends_that_look_otherwise_are_told(self) -> None:
+    def test_ends_that_look_otherwise_are_reported(self) -> None:
         once = "Name;Pay;Start;End\nA;5;{};{}\n"
         for start, end, word, note in [
             ("2024-01-01", "2024-12-31", "--open", "End is 2024-12-31: a row doesn't hold on that day any more; "),
@@ -89,7 +89,7 @@ class Loads(ToolCase):
         ]:
             self.check(LOADS, once.format(start, end) + ";;;\n", 0, f"load,pay\nrow,{start},{end},A,5\nend\n")
 
-    def test_equal_rows_and_files_without_rows_are_told(self) -> None:
+    def test_equal_rows_and_files_without_rows_are_reported(self) -> None:
         once = "Name;Pay;Start;End\nA;5;{};{}\n"
         twice = once.format("2024-01-01", "2024-03-05") + "A;5;2024-01-01;2024-03-05\n"
         self.check(LOADS, twice, 0, "csv-to-load: line 3 makes the same row as line 2, and both are loaded\n")
@@ -98,7 +98,7 @@ class Loads(ToolCase):
         )
         self.check(LOADS, "\n", 1, "csv-to-load: no header, since the file has nothing but empty lines\n")
 
-    def test_line_breaks_stand_in_quotes_where_that_is_told(self) -> None:
+    def test_line_breaks_stand_in_quotes_where_that_is_wanted(self) -> None:
         taken = CSV.format("5", "2024-01-01", "2024-02-01") + BROKEN
         self.check(
             LOADS, "Name,Pay,Start,End\nHill, G,5,2024-01-01,2024-03-05\n", 1,
