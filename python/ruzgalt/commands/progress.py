@@ -5,6 +5,24 @@ from time import monotonic
 from typing import Callable, ClassVar, List, Optional
 
 
+class Line:
+    """A plain line, which is written anew."""
+
+    def show(self, progress: "Progress") -> None:
+        self.write(f"\r{progress.what}: {progress.done}\033[K")
+
+    def take_away(self) -> None:
+        self.write("\r\033[K")
+
+    def write(self, text: str) -> None:
+        """Where nobody reads it any more, what is being done goes on."""
+        try:
+            sys.stderr.write(text)
+            sys.stderr.flush()
+        except (OSError, ValueError):
+            pass
+
+
 class Progress:
     """For a `with`, which takes the line away. It shows the seconds since, or how many records there were.
 
@@ -15,15 +33,21 @@ class Progress:
     PATIENCE, PAUSE = 2.0, 0.5
     LOCK: ClassVar[RLock] = RLock()
     begun: ClassVar[List["Progress"]] = []
-    # Whether a line stands on the terminal, and whether none is to be written any more.
-    is_shown: ClassVar[bool] = False
+    # Whose line stands there, and whether none is to be written any more.
+    shown: ClassVar[Optional["Progress"]] = None
     is_over: ClassVar[bool] = False
 
-    def __init__(self, what: str) -> None:
+    def __init__(self, what: str, is_watched: Optional[bool] = None) -> None:
         self.what, self.start = what, monotonic()
         self.count: Optional[int] = None
-        self.is_watched, self.is_done = sys.stderr.isatty(), Event()
+        self.line = Line()
+        self.is_watched, self.is_done = sys.stderr.isatty() if is_watched is None else is_watched, Event()
         self.thread = Thread(target=self.watch, daemon=True)
+
+    @property
+    def done(self) -> str:
+        """How far it is."""
+        return f"{monotonic() - self.start:,.0f} s" if self.count is None else f"{self.count:,} records"
 
     def advance(self, count: int) -> None:
         self.count = count
@@ -37,10 +61,13 @@ class Progress:
                     self.show()
 
     def show(self) -> None:
-        done = f"{monotonic() - self.start:,.0f} s" if self.count is None else f"{self.count:,} records"
-        sys.stderr.write(f"\r{self.what}: {done}\033[K")
-        sys.stderr.flush()
-        Progress.is_shown = True
+        if Progress.shown is not self:
+            take_away()
+            self.line, Progress.shown = self.new_line(), self
+        self.line.show(self)
+
+    def new_line(self) -> Line:
+        return Line()
 
     def __enter__(self) -> Callable[[int], None]:
         if self.is_watched:
@@ -62,10 +89,9 @@ class Progress:
 def take_away() -> None:
     """Takes a line away that stands on the terminal."""
     with Progress.LOCK:
-        if Progress.is_shown:
-            sys.stderr.write("\r\033[K")
-            sys.stderr.flush()
-            Progress.is_shown = False
+        if Progress.shown:
+            Progress.shown.line.take_away()
+            Progress.shown = None
 
 
 def end() -> None:

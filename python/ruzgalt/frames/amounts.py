@@ -18,6 +18,7 @@ from ruzgalt.frames.named import with_levels
 from ruzgalt.frames.options import (
     MONTH, NO_DECIMALS, PERIOD, PIECES, WORKERS, Names, Options, PeriodNames, options_of,
 )
+from ruzgalt.frames.progress import OfCall
 from ruzgalt.frames.shares import Shares
 from ruzgalt.frames.sides import Side
 from ruzgalt.frames.values import Values
@@ -35,7 +36,7 @@ NO_END = instants.second_of("9999-01-01")
 def spread(frame: Frame, column: Any, *, each: str = MONTH, by: Names = None, within: Any = None, exact: bool = False,
            period: PeriodNames = PERIOD, open_end: bool = False, last_day: bool = False,
            decimals: Mapping[Any, int] = NO_DECIMALS, points_as: Optional[str] = None, workers: int = WORKERS,
-           parts: Optional[int] = None) -> Frame:
+           parts: Optional[int] = None, progress: Optional[bool] = None) -> Frame:
     """What the rows of a group come to in each month, quarter, year or week, by days.
 
     An amount is what a row comes to in each whole piece that it holds, as a pay by the month. Of a piece that it holds
@@ -71,6 +72,10 @@ def spread(frame: Frame, column: Any, *, each: str = MONTH, by: Names = None, wi
         Threads of the program, 1 to 64.
     parts : int, optional
         Of Dask, how many partitions the answer has, where not as many as the frame.
+    progress : bool, optional
+        Whether standard error has a line that says how far the call is, by tqdm where that is installed, from two
+        seconds on. Where it isn't given, a terminal has, but no call of Dask. True is for a notebook or a pipe too, and
+        of Dask says how many partitions are done, while they are computed by threads of this process.
 
     Returns
     -------
@@ -103,14 +108,19 @@ def spread(frame: Frame, column: Any, *, each: str = MONTH, by: Names = None, wi
     1    Ada 2024-07-01 2024-08-01   5400
     """
     options = options_of(
-        each=each, by=by, within=within, exact=exact, period=period, open_end=open_end, last_day=last_day,
-        decimals=decimals, points_as=points_as, workers=workers, parts=parts,
+        "spread", each=each, by=by, within=within, exact=exact, period=period, open_end=open_end, last_day=last_day,
+        decimals=decimals, points_as=points_as, workers=workers, parts=parts, progress=progress,
     )
     checks.name("column", column)
     if are_spread(frame=frame):
         intervals.refuse_spread(options.period)
         from ruzgalt.frames import partitions
         return partitions.grouped(spread_part, frame, (column,), options)
+    with OfCall(options.call, options.progress):
+        return spread_of(frame, column, options)
+
+
+def spread_of(frame: Any, column: Any, options: Options) -> Any:
     frame = with_levels(frame, options.by or ())
     side = side_of(frame, column, options)
     groups.tell(frame, side, options)

@@ -15,6 +15,7 @@ from ruzgalt.frames.options import (
     FLOAT, INNER, NO_DECIMALS, PERIOD, SUFFIXES, WORKERS, Functions, Names, OneSided, PairOfSuffixes, PeriodNames,
     options_of, options_of_pair,
 )
+from ruzgalt.frames.progress import OfCall
 
 if TYPE_CHECKING:
     import dask.dataframe as dd
@@ -26,7 +27,7 @@ def join(left: pd.DataFrame, right: pd.DataFrame, on: Names = ..., *, left_on: N
          right_period: Optional[PeriodNames] = ..., keep_periods: bool = ..., open_end: OneSided = ...,
          last_day: OneSided = ..., decimals: Mapping[Any, int] = ..., suffixes: PairOfSuffixes = ...,
          labels: bool = ..., points_as: Optional[str] = ..., workers: int = ...,
-         parts: Optional[int] = ...) -> pd.DataFrame: ...
+         parts: Optional[int] = ..., progress: Optional[bool] = ...) -> pd.DataFrame: ...
 
 
 @overload
@@ -35,7 +36,7 @@ def join(left: dd.DataFrame, right: Union[dd.DataFrame, pd.DataFrame], on: Names
          right_period: Optional[PeriodNames] = ..., keep_periods: bool = ..., open_end: OneSided = ...,
          last_day: OneSided = ..., decimals: Mapping[Any, int] = ..., suffixes: PairOfSuffixes = ...,
          labels: bool = ..., points_as: Optional[str] = ..., workers: int = ...,
-         parts: Optional[int] = ...) -> dd.DataFrame: ...
+         parts: Optional[int] = ..., progress: Optional[bool] = ...) -> dd.DataFrame: ...
 
 
 @overload
@@ -44,7 +45,7 @@ def join(left: pd.DataFrame, right: dd.DataFrame, on: Names = ..., *, left_on: N
          right_period: Optional[PeriodNames] = ..., keep_periods: bool = ..., open_end: OneSided = ...,
          last_day: OneSided = ..., decimals: Mapping[Any, int] = ..., suffixes: PairOfSuffixes = ...,
          labels: bool = ..., points_as: Optional[str] = ..., workers: int = ...,
-         parts: Optional[int] = ...) -> dd.DataFrame: ...
+         parts: Optional[int] = ..., progress: Optional[bool] = ...) -> dd.DataFrame: ...
 
 
 def join(left: Any, right: Any, on: Names = None, *, left_on: Names = None, right_on: Names = None, how: str = INNER,
@@ -52,7 +53,7 @@ def join(left: Any, right: Any, on: Names = None, *, left_on: Names = None, righ
          right_period: Optional[PeriodNames] = None, keep_periods: bool = False, open_end: OneSided = False,
          last_day: OneSided = False, decimals: Mapping[Any, int] = NO_DECIMALS, suffixes: PairOfSuffixes = SUFFIXES,
          labels: bool = False, points_as: Optional[str] = None, workers: int = WORKERS,
-         parts: Optional[int] = None) -> Any:
+         parts: Optional[int] = None, progress: Optional[bool] = None) -> Any:
     """The pairs of a left and a right row that are equal in the columns `on`, each for as long as both hold.
 
     Parameters
@@ -89,6 +90,10 @@ def join(left: Any, right: Any, on: Names = None, *, left_on: Names = None, righ
         Threads of the program, 1 to 64.
     parts : int, optional
         Of Dask, how many partitions the answer has, where not as many as the larger frame.
+    progress : bool, optional
+        Whether standard error has a line that says how far the call is, by tqdm where that is installed, from two
+        seconds on. Where it isn't given, a terminal has, but no call of Dask. True is for a notebook or a pipe too, and
+        of Dask says how many partitions are done, while they are computed by threads of this process.
 
     Returns
     -------
@@ -132,22 +137,24 @@ def join(left: Any, right: Any, on: Names = None, *, left_on: Names = None, righ
     ['from', 'to', 'from_left', 'to_left', 'from_right', 'to_right', 'person', 'cents', 'centre']
     """
     options = options_of_pair(
-        left_on=left_on, right_on=right_on, how=how, period=period, left_period=left_period, right_period=right_period,
-        keep_periods=keep_periods, open_end=open_end, last_day=last_day, decimals=decimals, suffixes=suffixes,
-        labels=labels, points_as=points_as, workers=workers, parts=parts,
+        "join", left_on=left_on, right_on=right_on, how=how, period=period, left_period=left_period,
+        right_period=right_period, keep_periods=keep_periods, open_end=open_end, last_day=last_day, decimals=decimals,
+        suffixes=suffixes, labels=labels, points_as=points_as, workers=workers, parts=parts, progress=progress,
     )
     if are_spread(left=left, right=right):
         intervals.refuse_spread(*options.periods)
         from ruzgalt.frames import partitions
         return partitions.paired(pairs.join_part, left, right, on, options)
-    return pairs.join(left, right, on, options)
+    with OfCall(options.call, options.progress):
+        return pairs.join(left, right, on, options)
 
 
 @overload
 def anti(left: pd.DataFrame, right: pd.DataFrame, on: Names = ..., *, left_on: Names = ..., right_on: Names = ...,
          period: PeriodNames = ..., left_period: Optional[PeriodNames] = ..., right_period: Optional[PeriodNames] = ...,
          open_end: OneSided = ..., last_day: OneSided = ..., decimals: Mapping[Any, int] = ...,
-         points_as: Optional[str] = ..., workers: int = ..., parts: Optional[int] = ...) -> pd.DataFrame: ...
+         points_as: Optional[str] = ..., workers: int = ..., parts: Optional[int] = ...,
+         progress: Optional[bool] = ...) -> pd.DataFrame: ...
 
 
 @overload
@@ -155,21 +162,22 @@ def anti(left: dd.DataFrame, right: Union[dd.DataFrame, pd.DataFrame], on: Names
          right_on: Names = ..., period: PeriodNames = ..., left_period: Optional[PeriodNames] = ...,
          right_period: Optional[PeriodNames] = ..., open_end: OneSided = ..., last_day: OneSided = ...,
          decimals: Mapping[Any, int] = ..., points_as: Optional[str] = ..., workers: int = ...,
-         parts: Optional[int] = ...) -> dd.DataFrame: ...
+         parts: Optional[int] = ..., progress: Optional[bool] = ...) -> dd.DataFrame: ...
 
 
 @overload
 def anti(left: pd.DataFrame, right: dd.DataFrame, on: Names = ..., *, left_on: Names = ..., right_on: Names = ...,
          period: PeriodNames = ..., left_period: Optional[PeriodNames] = ..., right_period: Optional[PeriodNames] = ...,
          open_end: OneSided = ..., last_day: OneSided = ..., decimals: Mapping[Any, int] = ...,
-         points_as: Optional[str] = ..., workers: int = ..., parts: Optional[int] = ...) -> dd.DataFrame: ...
+         points_as: Optional[str] = ..., workers: int = ..., parts: Optional[int] = ...,
+         progress: Optional[bool] = ...) -> dd.DataFrame: ...
 
 
 def anti(left: Any, right: Any, on: Names = None, *, left_on: Names = None, right_on: Names = None,
          period: PeriodNames = PERIOD, left_period: Optional[PeriodNames] = None,
          right_period: Optional[PeriodNames] = None, open_end: OneSided = False, last_day: OneSided = False,
          decimals: Mapping[Any, int] = NO_DECIMALS, points_as: Optional[str] = None, workers: int = WORKERS,
-         parts: Optional[int] = None) -> Any:
+         parts: Optional[int] = None, progress: Optional[bool] = None) -> Any:
     """The left rows, each for as long as no right row holds that is equal in the columns `on`.
 
     Parameters
@@ -197,6 +205,10 @@ def anti(left: Any, right: Any, on: Names = None, *, left_on: Names = None, righ
         Threads of the program, 1 to 64.
     parts : int, optional
         Of Dask, how many partitions the answer has, where not as many as the larger frame.
+    progress : bool, optional
+        Whether standard error has a line that says how far the call is, by tqdm where that is installed, from two
+        seconds on. Where it isn't given, a terminal has, but no call of Dask. True is for a notebook or a pipe too, and
+        of Dask says how many partitions are done, while they are computed by threads of this process.
 
     Returns
     -------
@@ -228,32 +240,36 @@ def anti(left: Any, right: Any, on: Names = None, *, left_on: Names = None, righ
     c1 2024-07-01        NaT    Ada
     """
     options = options_of_pair(
-        left_on=left_on, right_on=right_on, period=period, left_period=left_period, right_period=right_period,
+        "anti", left_on=left_on, right_on=right_on, period=period, left_period=left_period, right_period=right_period,
         open_end=open_end, last_day=last_day, decimals=decimals, points_as=points_as, workers=workers, parts=parts,
+        progress=progress,
     )
     if are_spread(left=left, right=right):
         intervals.refuse_spread(*options.periods)
         from ruzgalt.frames import partitions
         return partitions.paired(pairs.anti_part, left, right, on, options)
-    return pairs.anti(left, right, on, options)
+    with OfCall(options.call, options.progress):
+        return pairs.anti(left, right, on, options)
 
 
 @overload
 def agg(frame: pd.DataFrame, function: Functions, column: Any = ..., *, by: Names = ..., mean_as: str = ...,
         period: PeriodNames = ..., open_end: bool = ..., last_day: bool = ..., decimals: Mapping[Any, int] = ...,
-        points_as: Optional[str] = ..., workers: int = ..., parts: Optional[int] = ...) -> pd.DataFrame: ...
+        points_as: Optional[str] = ..., workers: int = ..., parts: Optional[int] = ...,
+        progress: Optional[bool] = ...) -> pd.DataFrame: ...
 
 
 @overload
 def agg(frame: dd.DataFrame, function: Functions, column: Any = ..., *, by: Names = ..., mean_as: str = ...,
         period: PeriodNames = ..., open_end: bool = ..., last_day: bool = ..., decimals: Mapping[Any, int] = ...,
-        points_as: Optional[str] = ..., workers: int = ..., parts: Optional[int] = ...) -> dd.DataFrame: ...
+        points_as: Optional[str] = ..., workers: int = ..., parts: Optional[int] = ...,
+        progress: Optional[bool] = ...) -> dd.DataFrame: ...
 
 
 def agg(frame: Any, function: Functions, column: Any = None, *, by: Names = None, mean_as: str = FLOAT,
         period: PeriodNames = PERIOD, open_end: bool = False, last_day: bool = False,
         decimals: Mapping[Any, int] = NO_DECIMALS, points_as: Optional[str] = None, workers: int = WORKERS,
-        parts: Optional[int] = None) -> Any:
+        parts: Optional[int] = None, progress: Optional[bool] = None) -> Any:
     """count, sum, min, max or mean of the rows that hold, for each period in which it stays the same, by groups.
 
     Parameters
@@ -283,6 +299,10 @@ def agg(frame: Any, function: Functions, column: Any = None, *, by: Names = None
         Threads of the program, 1 to 64.
     parts : int, optional
         Of Dask, how many partitions the answer has, where not as many as the frame.
+    progress : bool, optional
+        Whether standard error has a line that says how far the call is, by tqdm where that is installed, from two
+        seconds on. Where it isn't given, a terminal has, but no call of Dask. True is for a notebook or a pipe too, and
+        of Dask says how many partitions are done, while they are computed by threads of this process.
 
     Returns
     -------
@@ -326,8 +346,8 @@ def agg(frame: Any, function: Functions, column: Any = None, *, by: Names = None
     2 2024-07-01 2024-10-01             1       4800      4800.0
     """
     options = options_of(
-        by=by, mean_as=mean_as, period=period, open_end=open_end, last_day=last_day, decimals=decimals,
-        points_as=points_as, workers=workers, parts=parts,
+        "agg", by=by, mean_as=mean_as, period=period, open_end=open_end, last_day=last_day, decimals=decimals,
+        points_as=points_as, workers=workers, parts=parts, progress=progress,
     )
     told = measures.of_call(function, column)
     if are_spread(frame=frame):
@@ -335,12 +355,13 @@ def agg(frame: Any, function: Functions, column: Any = None, *, by: Names = None
         from ruzgalt.frames import partitions, slices
         asked = partitions.agg if options.by else slices.agg
         return asked(frame, told, options)
-    return groups.agg(frame, told, options)
+    with OfCall(options.call, options.progress):
+        return groups.agg(frame, told, options)
 
 
 def dip(frame: pd.DataFrame, by: Names = None, *, period: PeriodNames = PERIOD, open_end: bool = False,
         last_day: bool = False, decimals: Mapping[Any, int] = NO_DECIMALS,
-        workers: int = WORKERS) -> Division[pd.Series]:
+        workers: int = WORKERS, progress: Optional[bool] = None) -> Division[pd.Series]:
     """The fewest parts into which the rows can be divided so that no two of a part hold at one time.
 
     Parameters
@@ -359,6 +380,10 @@ def dip(frame: pd.DataFrame, by: Names = None, *, period: PeriodNames = PERIOD, 
         How many decimals are compared of a column of floats or Decimals, as `{"hours": 2}`.
     workers : int, default 4
         Threads of the program, 1 to 64.
+    progress : bool, optional
+        Whether standard error has a line that says how far the call is, by tqdm where that is installed, from two
+        seconds on. Where it isn't given, a terminal has, but no call of Dask. True is for a notebook or a pipe too, and
+        of Dask says how many partitions are done, while they are computed by threads of this process.
 
     Returns
     -------
@@ -399,8 +424,10 @@ def dip(frame: pd.DataFrame, by: Names = None, *, period: PeriodNames = PERIOD, 
     {'A': 2, 'B': 1}
     """
     options = options_of(
-        by=by, period=period, open_end=open_end, last_day=last_day, decimals=decimals, workers=workers,
+        "dip", by=by, period=period, open_end=open_end, last_day=last_day, decimals=decimals, workers=workers,
+        progress=progress,
     )
     if are_spread(frame=frame):
         raise Refused("BadCommand", f"dip of a frame of Dask: a division isn't that of its parts; {division.OTHERWISE}")
-    return division.dip_by(frame, options) if options.by else division.dip(frame, options)
+    with OfCall(options.call, options.progress):
+        return division.dip_by(frame, options) if options.by else division.dip(frame, options)

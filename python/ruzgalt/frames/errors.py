@@ -7,6 +7,7 @@ import warnings
 from pathlib import Path
 from typing import Any, Optional
 
+from ruzgalt.commands import progress
 from ruzgalt.frames.arrays import Marks
 
 # Files whose lines are never those that a warning is about: the package's, and what leaves a `with` of its.
@@ -85,7 +86,8 @@ class Doubt(UserWarning):
 
 
 def doubt(told: str) -> None:
-    """Warns of the line that called this package."""
+    """Warns of the line that called this package. A warning stands on the terminal where progress does."""
+    progress.take_away()
     level, frame = 1, inspect.currentframe()
     while frame is not None and frame.f_code.co_filename.startswith(OURS):
         level, frame = level + 1, frame.f_back

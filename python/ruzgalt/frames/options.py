@@ -50,8 +50,9 @@ OF_TABLE = ("period", "open_end", "last_day", "decimals", "missing")
 
 @dataclass(frozen=True)
 class Options:
-    """Options of a call, each of which was looked at. What each means stands with the calls."""
+    """Options of a call, by its name, each of which was looked at. What each means stands with the calls."""
 
+    call: str = ""
     left_on: Told = None
     right_on: Told = None
     by: Told = None
@@ -73,6 +74,7 @@ class Options:
     points_as: Optional[str] = None
     workers: int = WORKERS
     parts: Optional[int] = None
+    progress: Optional[bool] = None
 
     @property
     def form(self) -> Form:
@@ -138,28 +140,28 @@ def kind_named(option: str, given: Any) -> str:
 CHECKS: Dict[str, Callable[[str, Any], Any]] = {
     **dict.fromkeys(("left_on", "right_on", "by"), checks.names),
     **dict.fromkeys(("period", "left_period", "right_period"), checks.period),
-    **dict.fromkeys(("open_end", "last_day", "labels", "keep_periods", "exact"), checks.flag),
+    **dict.fromkeys(("open_end", "last_day", "labels", "keep_periods", "exact", "progress"), checks.flag),
     "decimals": checks.digits, "missing": checks.stand_ins, "suffixes": checks.suffixes, "points_as": kind_named,
     "within": checks.span, "workers": workers_of, "parts": parts_of, "how": how_named, "mean_as": mean_named,
     "each": piece_named,
 }
 # Those that may be None, as where they aren't given.
-OPTIONAL = ("left_on", "right_on", "by", "within", "left_period", "right_period", "points_as", "parts")
+OPTIONAL = ("left_on", "right_on", "by", "within", "left_period", "right_period", "points_as", "parts", "progress")
 
 
-def options_of(**given: Any) -> Options:
+def options_of(call: str = "", /, **given: Any) -> Options:
     """Raises Refused where a value is none of its option's. Which options there are, the calls' signatures say."""
-    return checked(given, CHECKS)
+    return checked(call, given, CHECKS)
 
 
-def options_of_pair(**given: Any) -> Options:
+def options_of_pair(call: str, /, **given: Any) -> Options:
     """The same of a call of two frames, where some options may be of one of them alone."""
-    return checked(given, {**CHECKS, **dict.fromkeys(("open_end", "last_day"), one_sided)})
+    return checked(call, given, {**CHECKS, **dict.fromkeys(("open_end", "last_day"), one_sided)})
 
 
-def checked(given: Mapping[str, Any], looks: Mapping[str, Callable[[str, Any], Any]]) -> Options:
+def checked(call: str, given: Mapping[str, Any], looks: Mapping[str, Callable[[str, Any], Any]]) -> Options:
     there = {name: value for name, value in given.items() if value is not None or name not in OPTIONAL}
-    options = Options(**{name: looks[name](name, value) for name, value in there.items()})
+    options = Options(call, **{name: looks[name](name, value) for name, value in there.items()})
     refuse_beside_intervals(options)
     return options
 

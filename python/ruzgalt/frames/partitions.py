@@ -16,6 +16,7 @@ import numpy as np
 import pandas as pd
 
 from ruzgalt.frames import doubts, groups, values
+from ruzgalt.frames.computed import counted
 from ruzgalt.frames.errors import Refused
 from ruzgalt.frames.measures import Measures
 from ruzgalt.frames.named import column_of, names_of, with_levels
@@ -72,7 +73,7 @@ def paired(asked: Pairs, left: Any, right: Any, on: Names, options: Options) -> 
         parts = options.parts or max(frame.npartitions for frame in spread)
         rows = [by_value(frame, own, options.decimals, parts) for frame, own in zip(spread, names)]
         words = {"meta": meta, "align_dataframes": False, "transform_divisions": False}
-        return dd.map_partitions(sent(asked, on, options), *rows, **words)
+        return dd.map_partitions(sent(counted(asked, options, parts), on, options), *rows, **words)
 
 
 def with_labels_flat(frame: Any) -> Any:
@@ -86,8 +87,10 @@ def agg(frame: Any, measures: Measures, options: Options) -> Any:
     doubts.of_decimals(options.decimals, frame)
     meta = groups.agg_part(frame._meta, measures, options)
     with keeping_objects(meta, frame._meta):
-        rows = by_value(frame, options.by or (), options.decimals, options.parts or frame.npartitions)
-        return rows.map_partitions(sent(groups.agg_part, measures, options), meta=meta, transform_divisions=False)
+        parts = options.parts or frame.npartitions
+        rows = by_value(frame, options.by or (), options.decimals, parts)
+        asked = sent(counted(groups.agg_part, options, parts), measures, options)
+        return rows.map_partitions(asked, meta=meta, transform_divisions=False)
 
 
 def parted(frame: Any, asked: Callable[..., Any], *given: Any) -> Any:
@@ -103,8 +106,10 @@ def grouped(asked: Callable[..., Any], frame: Any, told: Sequence[Any], options:
     doubts.of_decimals(options.decimals, frame)
     meta = asked(frame._meta, *told, options)
     with keeping_objects(meta, frame._meta):
-        rows = by_value(frame, options.by, options.decimals, options.parts or frame.npartitions)
-        return rows.map_partitions(sent(asked, *told, options), meta=meta, transform_divisions=False)
+        parts = options.parts or frame.npartitions
+        rows = by_value(frame, options.by, options.decimals, parts)
+        each = sent(counted(asked, options, parts), *told, options)
+        return rows.map_partitions(each, meta=meta, transform_divisions=False)
 
 
 def by_value(frame: Any, names: Sequence[Any], decimals: Mapping[Any, int], parts: int) -> Any:

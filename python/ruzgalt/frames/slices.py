@@ -14,6 +14,7 @@ from ruzgalt.frames import clipping, doubts, groups, kinds, pairs, split
 from ruzgalt.frames.answer import Columns
 from ruzgalt.frames.arrays import NO_INTS, Ints
 from ruzgalt.frames.ask import Found
+from ruzgalt.frames.computed import counted
 from ruzgalt.frames.kinds import Kind
 from ruzgalt.frames.measures import Ask, Measures, asks_of, columns_of, measured_by
 from ruzgalt.frames.options import Options
@@ -59,7 +60,8 @@ def agg(frame: Any, measures: Measures, options: Options) -> Any:
     with keeping_objects(frame._meta, meta):
         slim = pd.DataFrame({name: NO_INTS for name in asked.names})
         sliced = by_part(frame.map_partitions(sent(pieces, asked, cuts), meta=slim), len(cuts) + 1)
-        found = [delayed(answered, asked)(part) for part in sliced.to_delayed()]
+        answer = counted(answered, options, len(cuts) + 1)
+        found = [delayed(answer, asked)(part) for part in sliced.to_delayed()]
         plan = delayed(plan_of)([delayed(edges_of)(one) for one in found])
         made = [delayed(fitted, place, (asked, empty))(one, plan) for place, one in enumerate(found)]
         return dd.from_delayed(made, meta=meta, verify_meta=False)
@@ -72,7 +74,8 @@ def delayed(function: Callable[..., Any], *given: Any) -> Any:
 
 def cuts_of(frame: Any, asked: Question, parts: int) -> Tuple[Ints, Kind]:
     """Points that part the rows into slices of about as many starts and ends, and the kind of the frame's points."""
-    told = dask.compute(*[delayed(sample, asked)(part) for part in frame.to_delayed()])
+    look = counted(sample, asked.options, frame.npartitions)
+    told = dask.compute(*[delayed(look, asked)(part) for part in frame.to_delayed()])
     kind, times = kinds.joint_kind(*(one for _, one in told)), np.concatenate([times for times, _ in told])
     if not len(times) or parts < 2:
         return NO_INTS, kind

@@ -21,6 +21,7 @@ from ruzgalt.frames.named import with_levels
 from ruzgalt.frames.options import (
     NO_DECIMALS, PERIOD, SUFFIXES, WORKERS, Names, Options, PairOfSuffixes, PeriodNames, options_of,
 )
+from ruzgalt.frames.progress import OfCall
 from ruzgalt.frames.sides import Side
 
 if TYPE_CHECKING:
@@ -33,7 +34,7 @@ Span = Tuple[int, int]
 
 def coalesce(frame: Frame, by: Names = None, *, period: PeriodNames = PERIOD, open_end: bool = False,
              last_day: bool = False, decimals: Mapping[Any, int] = NO_DECIMALS, points_as: Optional[str] = None,
-             workers: int = WORKERS, parts: Optional[int] = None) -> Frame:
+             workers: int = WORKERS, parts: Optional[int] = None, progress: Optional[bool] = None) -> Frame:
     """The periods, as long as can be, in which some row of a group holds.
 
     Parameters
@@ -56,6 +57,10 @@ def coalesce(frame: Frame, by: Names = None, *, period: PeriodNames = PERIOD, op
         Threads of the program, 1 to 64.
     parts : int, optional
         Of Dask, how many partitions the answer has, where not as many as the frame.
+    progress : bool, optional
+        Whether standard error has a line that says how far the call is, by tqdm where that is installed, from two
+        seconds on. Where it isn't given, a terminal has, but no call of Dask. True is for a notebook or a pipe too, and
+        of Dask says how many partitions are done, while they are computed by threads of this process.
 
     Returns
     -------
@@ -86,20 +91,21 @@ def coalesce(frame: Frame, by: Names = None, *, period: PeriodNames = PERIOD, op
     1    Ada 2024-11-01 2025-01-01
     """
     options = options_of(
-        by=by, period=period, open_end=open_end, last_day=last_day, decimals=decimals, points_as=points_as,
-        workers=workers, parts=parts,
+        "coalesce", by=by, period=period, open_end=open_end, last_day=last_day, decimals=decimals, points_as=points_as,
+        workers=workers, parts=parts, progress=progress,
     )
     if are_spread(frame=frame):
         intervals.refuse_spread(options.period)
         from ruzgalt.frames import partitions, slices
         asked = partitions.agg if options.by else slices.agg
         return asked(frame, [measures.HELD], options)
-    return groups.agg(frame, [measures.HELD], options)
+    with OfCall(options.call, options.progress):
+        return groups.agg(frame, [measures.HELD], options)
 
 
 def gaps(frame: Frame, by: Names = None, *, within: Any = None, period: PeriodNames = PERIOD, open_end: bool = False,
          last_day: bool = False, decimals: Mapping[Any, int] = NO_DECIMALS, points_as: Optional[str] = None,
-         workers: int = WORKERS, parts: Optional[int] = None) -> Frame:
+         workers: int = WORKERS, parts: Optional[int] = None, progress: Optional[bool] = None) -> Frame:
     """The periods, as long as can be, in which no row of a group holds.
 
     Parameters
@@ -125,6 +131,10 @@ def gaps(frame: Frame, by: Names = None, *, within: Any = None, period: PeriodNa
         Threads of the program, 1 to 64.
     parts : int, optional
         Of Dask, how many partitions the answer has, where not as many as the frame.
+    progress : bool, optional
+        Whether standard error has a line that says how far the call is, by tqdm where that is installed, from two
+        seconds on. Where it isn't given, a terminal has, but no call of Dask. True is for a notebook or a pipe too, and
+        of Dask says how many partitions are done, while they are computed by threads of this process.
 
     Returns
     -------
@@ -158,14 +168,15 @@ def gaps(frame: Frame, by: Names = None, *, within: Any = None, period: PeriodNa
     1    Ada 2025-01-01 2025-02-01
     """
     options = options_of(
-        by=by, within=within, period=period, open_end=open_end, last_day=last_day, decimals=decimals,
-        points_as=points_as, workers=workers, parts=parts,
+        "gaps", by=by, within=within, period=period, open_end=open_end, last_day=last_day, decimals=decimals,
+        points_as=points_as, workers=workers, parts=parts, progress=progress,
     )
     if are_spread(frame=frame):
         intervals.refuse_spread(options.period)
         from ruzgalt.frames import partitions
         return partitions.grouped(gaps_part, frame, (span_of(frame._meta, options),), options)
-    return gaps_of(frame, span_of(frame, options), options)
+    with OfCall(options.call, options.progress):
+        return gaps_of(frame, span_of(frame, options), options)
 
 
 def span_of(frame: Any, options: Options) -> Optional[Span]:
@@ -218,7 +229,8 @@ def unheld(rows: Side, firsts: Ints, span: Optional[Span], options: Options) -> 
 def overlaps(frame: Frame, by: Names = None, *, keep_periods: bool = False, labels: bool = False,
              period: PeriodNames = PERIOD, open_end: bool = False, last_day: bool = False,
              decimals: Mapping[Any, int] = NO_DECIMALS, suffixes: PairOfSuffixes = SUFFIXES,
-             points_as: Optional[str] = None, workers: int = WORKERS, parts: Optional[int] = None) -> Frame:
+             points_as: Optional[str] = None, workers: int = WORKERS, parts: Optional[int] = None,
+             progress: Optional[bool] = None) -> Frame:
     """The pairs of different rows of a group, each for as long as both hold.
 
     Parameters
@@ -247,6 +259,10 @@ def overlaps(frame: Frame, by: Names = None, *, keep_periods: bool = False, labe
         Threads of the program, 1 to 64.
     parts : int, optional
         Of Dask, how many partitions the answer has, where not as many as the frame.
+    progress : bool, optional
+        Whether standard error has a line that says how far the call is, by tqdm where that is installed, from two
+        seconds on. Where it isn't given, a terminal has, but no call of Dask. True is for a notebook or a pipe too, and
+        of Dask says how many partitions are done, while they are computed by threads of this process.
 
     Returns
     -------
@@ -277,11 +293,13 @@ def overlaps(frame: Frame, by: Names = None, *, keep_periods: bool = False, labe
     1 2024-01-05 2024-01-06          b           c     7
     """
     options = options_of(
-        by=by, keep_periods=keep_periods, labels=labels, period=period, open_end=open_end, last_day=last_day,
-        decimals=decimals, suffixes=suffixes, points_as=points_as, workers=workers, parts=parts,
+        "overlaps", by=by, keep_periods=keep_periods, labels=labels, period=period, open_end=open_end,
+        last_day=last_day, decimals=decimals, suffixes=suffixes, points_as=points_as, workers=workers, parts=parts,
+        progress=progress,
     )
     if are_spread(frame=frame):
         intervals.refuse_spread(options.period)
         from ruzgalt.frames import partitions
         return partitions.grouped(pairs.overlaps_part, frame, (), options)
-    return pairs.overlaps(frame, options)
+    with OfCall(options.call, options.progress):
+        return pairs.overlaps(frame, options)

@@ -42,8 +42,9 @@ WRONG = {
     "points_as": ["W", "", 1, ["S"], True], "onn": ["id"], "how": ["", "Left", "cross", True, None, ["left"], 1],
     "mean_as": ["", "Float", float, None, True], "each": ["", "month", "m", "MQ", None, ["M"]], "exact": NO_FLAGS,
     "within": ["2024", 5, (FIRST,), {FIRST: FIRST}, (None, None), (FIRST, FIRST)],
+    "progress": [one for one in NO_FLAGS if one is not None],
 }
-OF_ALL = ["period", "open_end", "last_day", "workers", "onn"]
+OF_ALL = ["period", "open_end", "last_day", "workers", "progress", "onn"]
 OF_PAIRS = ["right_period", "left_period", "on", "left_on", "parts", "decimals", "points_as"]
 OF_CALL = {
     "join": [*OF_PAIRS, "labels", "suffixes", "how", "keep_periods"],

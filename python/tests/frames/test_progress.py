@@ -1,0 +1,166 @@
+"""How far a call is: where a line is shown, what it says, and that nothing of it stays."""
+import contextlib
+import importlib.util
+import io
+import os
+import re
+import sys
+import time
+import unittest
+import warnings
+from unittest import mock
+
+import pandas as pd
+
+import ruzgalt
+from ruzgalt.commands.progress import Progress
+from ruzgalt.frames import progress, running
+
+DAYS = pd.date_range("2024-01-02", periods=40)
+FRAME = pd.DataFrame({"from": DAYS, "to": DAYS + pd.Timedelta(days=9), "k": list("abcd") * 10, "x": range(40)})
+RUN = running.run
+
+
+class Watched(unittest.TestCase):
+    def setUp(self):
+        self.said = io.StringIO()
+        stack = contextlib.ExitStack()
+        self.addCleanup(stack.close)
+        stack.enter_context(contextlib.redirect_stderr(self.said))
+        stack.enter_context(mock.patch.multiple(Progress, PATIENCE=0.001, PAUSE=0.001))
+        self.show_tqdm(False)
+        self.addCleanup(self.show_tqdm)
+
+    def show_tqdm(self, is_there=True):
+        """Whether it can be imported. No other module is forgotten, as by patch.dict those that come meanwhile."""
+        for name in ("tqdm", "tqdm.auto"):
+            sys.modules.pop(name, None)
+            if not is_there:
+                sys.modules[name] = None
+
+    @contextlib.contextmanager
+    def slow(self, is_shown=True):
+        """Runs of the program that take until a line is shown, or some time where none is to be."""
+        def run(*given):
+            begun = time.monotonic()
+            while time.monotonic() < begun + (20 if is_shown else 0.05) and not (is_shown and self.said.getvalue()):
+                time.sleep(0.001)
+            return RUN(*given)
+
+        with mock.patch.object(running, "run", run):
+            yield
+
+    def forget(self):
+        self.said.seek(0)
+        self.said.truncate()
+
+    def is_gone(self, form):
+        """That lines of this form were shown, and blanks over the last one of each run."""
+        *shown, last = re.findall("[^\r]+", self.said.getvalue())
+        lines = [one for one in shown if one.strip()]
+        self.assertTrue(lines and all(re.fullmatch(form, one) for one in lines), lines)
+        self.assertEqual((last.strip(), self.said.getvalue()[-1]), ("", "\r"))
+
+
+class Calls(Watched):
+    def test_each_call_shows_its_seconds_where_it_is_asked_for(self):
+        calls = {
+            **dict.fromkeys(("join", "anti"), (FRAME, FRAME, "k")), "agg": (FRAME, "count"), "spread": (FRAME, "x"),
+            **dict.fromkeys(("dip", "gaps", "coalesce", "overlaps"), (FRAME,)),
+        }
+        for name, given in calls.items():
+            with self.subTest(name), self.slow():
+                self.forget()
+                getattr(ruzgalt, name)(*given, progress=True)
+                self.is_gone(rf"ruzgalt\.{name}: \d+ s")
+
+    def test_nothing_is_shown_unasked_but_on_a_terminal(self):
+        with self.slow(is_shown=False):
+            ruzgalt.agg(FRAME, "count")
+            with mock.patch.object(progress, "is_terminal", return_value=True):
+                ruzgalt.agg(FRAME, "count", progress=False)
+        self.assertEqual(self.said.getvalue(), "")
+        with self.slow(), mock.patch.object(progress, "is_terminal", return_value=True):
+            ruzgalt.agg(FRAME, "count")
+        self.assertRegex(self.said.getvalue(), "^(\rruzgalt.agg: \\d+ s\033\\[K)+\r\033\\[K$")
+
+    def test_a_refused_call_leaves_nothing(self):
+        with self.assertRaises(ruzgalt.Refused), mock.patch.object(progress, "is_terminal", return_value=True):
+            ruzgalt.agg(FRAME.assign(to=None), "count")
+        self.assertEqual((self.said.getvalue()[-4:], Progress.begun), ("\r\033[K" * bool(self.said.getvalue()), []))
+
+    def test_a_doubt_stands_on_a_line_of_its_own(self):
+        others = FRAME.assign(k=FRAME["k"].str.upper())
+        with warnings.catch_warnings(), mock.patch.object(progress, "is_terminal", return_value=True):
+            warnings.simplefilter("always", ruzgalt.Doubt)
+            with mock.patch.object(warnings, "warn", lambda *_, **__: self.said.write("a doubt")):
+                ruzgalt.join(FRAME, others, "k")
+        self.assertRegex(self.said.getvalue(), "(^|\033\\[K)a doubt")
+
+    def test_a_stream_that_nobody_reads_any_more_stops_no_call(self):
+        self.said.close()
+        with mock.patch.object(running, "run", lambda *given: time.sleep(0.05) or RUN(*given)):
+            self.assertEqual(len(ruzgalt.coalesce(FRAME, progress=True)), 1)
+
+    @unittest.skipUnless(importlib.util.find_spec("tqdm"), "tqdm isn't here: apt-get install python3-tqdm")
+    def test_tqdm_shows_it_where_it_is(self):
+        self.show_tqdm()
+        with self.slow():
+            ruzgalt.agg(FRAME, "count", progress=True)
+        self.is_gone(r"ruzgalt\.agg(: \d+ s)?")
+
+
+class Terminals(unittest.TestCase):
+    def test_one_is_known_by_its_number_too(self):
+        """What says so of itself alone is IDLE's; a closed stream is none, nor is one that isn't there."""
+        said, closed = io.StringIO(), io.StringIO()
+        closed.close()
+        ours, theirs = os.openpty()
+        with mock.patch.object(said, "isatty", return_value=True, create=True), open(theirs, "w") as terminal:
+            for stream, wanted in ((said, False), (closed, False), (None, False), (terminal, True)):
+                with mock.patch.object(sys, "stderr", stream):
+                    self.assertEqual(progress.is_terminal(), wanted, stream)
+        os.close(ours)
+
+
+@unittest.skipUnless(importlib.util.find_spec("dask"), "Dask isn't here: apt-get install python3-dask")
+class Partitions(Watched):
+    def test_partitions_are_counted_as_they_are_computed(self):
+        import dask.dataframe as dd
+        from ruzgalt.frames.computed import COMPUTES
+        spread = dd.from_pandas(FRAME, npartitions=4)
+        asks = {
+            "join": ruzgalt.join(spread, FRAME, "k", progress=True), "agg": ruzgalt.agg(spread, "count", progress=True),
+            "spread": ruzgalt.spread(spread, "x", by="k", progress=True),
+            "anti": ruzgalt.anti(spread, FRAME[:3], "k", progress=True, parts=3),
+        }
+        for name, asked in asks.items():
+            for scheduler in ("threads", "sync"):
+                self.forget()
+                with self.subTest(name, scheduler=scheduler), self.slow():
+                    asked.compute(scheduler=scheduler)
+                    shown = set(re.findall(r"ruzgalt\.\w+: \d of \d partitions", self.said.getvalue()))
+                    parts = {"agg": asked.npartitions, "anti": 3}.get(name, 4)
+                    wanted = {f"ruzgalt.{name}: {one} of {parts} partitions" for one in range(parts + 1)}
+                    self.assertTrue(shown and shown <= wanted, shown)
+                    self.assertEqual((self.said.getvalue()[-1], COMPUTES.begun, COMPUTES.going_on), ("\r", {}, 0))
+
+    def test_partitions_that_are_not_asked_for_leave_nothing(self):
+        import dask.dataframe as dd
+        from ruzgalt.frames.computed import COMPUTES
+        spread = dd.from_pandas(FRAME, npartitions=4)
+        with self.slow():
+            ruzgalt.coalesce(spread, "k", progress=True).head()
+        self.assertEqual((self.said.getvalue()[-1], COMPUTES.begun, Progress.begun), ("\r", {}, []))
+        with mock.patch.object(running, "run", side_effect=ruzgalt.Stopped("the end")):
+            with self.assertRaises(ruzgalt.Stopped):
+                ruzgalt.coalesce(spread, "k", progress=True).compute(scheduler="sync")
+        self.assertEqual((COMPUTES.begun, COMPUTES.going_on, Progress.begun), ({}, 0, []))
+        said = self.said.getvalue()
+        with self.slow(is_shown=False), mock.patch.object(progress, "is_terminal", return_value=True):
+            ruzgalt.coalesce(spread, "k").compute(scheduler="sync")
+        self.assertEqual(self.said.getvalue(), said)
+
+
+if __name__ == "__main__":
+    unittest.main()
