@@ -12,6 +12,7 @@ from ruzgalt.frames.changes import Change, Changed
 from ruzgalt.frames.diaries import Diary
 from ruzgalt.frames.errors import Refused, Stopped
 from ruzgalt.frames.output import Output
+from ruzgalt.frames.progress import OfCall
 from ruzgalt.frames.script import Command, Script
 from ruzgalt.frames.standing import Standing
 from ruzgalt.frames.tables import Table
@@ -30,6 +31,7 @@ class Book:
     counts  of each commit that was accepted, how many versions it added, and how many it closed
     rows    of tables by their names the rows that they have now, where these are known
     diary   the labels and days of the commits
+    progress    whether it is shown how far a run is
     """
 
     workers: int = 4
@@ -39,6 +41,7 @@ class Book:
     counts: Ints = field(default_factory=lambda: NO_COUNTS)
     rows: Mapping[str, Standing] = field(default_factory=dict)
     diary: Diary = field(default_factory=Diary)
+    progress: Optional[bool] = None
 
     @property
     def script(self) -> Script:
@@ -66,7 +69,8 @@ class Book:
 
         Raises Stopped where a commit that was accepted is refused, or did other than was answered of it.
         """
-        output = ask.output_of([*self.commands, LOG, *question], self.workers)
+        with OfCall("Store", self.progress):
+            output = ask.output_of([*self.commands, LOG, *question], self.workers)
         found = ask.first_refused(output, self.commands)
         if found is not None:
             raise self.refusal(*found)

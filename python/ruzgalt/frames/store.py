@@ -24,6 +24,7 @@ from ruzgalt.frames.opening import Given
 from ruzgalt.frames.options import (
     NO_DECIMALS, NO_STAND_INS, PERIOD, WORKERS, Names, PeriodNames, options_of, workers_of,
 )
+from ruzgalt.frames.progress import OfCall
 from ruzgalt.frames.raising import Raising
 from ruzgalt.frames.tables import Table
 from ruzgalt.frames.written import Written
@@ -40,6 +41,8 @@ class Store(Asking, Raising, Written):
     ----------
     workers : int, default 4
         Threads of the program, 1 to 64.
+    progress : bool, optional
+        As of ruzgalt.join, while the program runs.
 
     Raises
     ------
@@ -70,15 +73,15 @@ class Store(Asking, Raising, Written):
     <Store of 3 commits, tables: pay>
     """
 
-    def __init__(self, *script: Any, workers: int = WORKERS) -> None:
+    def __init__(self, *script: Any, workers: int = WORKERS, progress: Optional[bool] = None) -> None:
         if script:
             raise checks.wrong("script", script[0], "a store begins empty; Store.from_script(..) opens a script")
-        self.book = Book(workers_of("workers", workers))
+        self.book = Book(workers_of("workers", workers), progress=options_of(progress=progress).progress)
         self.lock = RLock()
         self.draft: Optional[Draft] = None
 
     @classmethod
-    def from_script(cls, script: Given, *, workers: int = WORKERS,
+    def from_script(cls, script: Given, *, workers: int = WORKERS, progress: Optional[bool] = None,
                     options: Optional[Mapping[str, Mapping[str, Any]]] = None,
                     diary: Optional[str] = None) -> Store:
         """A store of a script's accepted changes; its questions and refused changes are left out.
@@ -89,6 +92,8 @@ class Store(Asking, Raising, Written):
             The script, as ./dipq and Store.script() have it; or the file that has it.
         workers : int, default 4
             Threads of the program, 1 to 64.
+        progress : bool, optional
+            As of ruzgalt.join, while the program runs.
         options : dict, optional
             Of tables by their names, a dict of what `table` takes: period, open_end, last_day, decimals, missing.
             Numbers become Decimals by decimals. `names` are as a Script has them of a table, for one from a file.
@@ -118,8 +123,10 @@ class Store(Asking, Raising, Written):
         >>> ruzgalt.Store.from_script(store.script(), options={"pay": {"open_end": True}})
         <Store of 3 commits, tables: pay>
         """
-        store = cls(workers=workers)
-        store.book = opening.book_of(script, {} if options is None else options, diary, store.book)
+        store = cls(workers=workers, progress=progress)
+        with OfCall("Store", store.book.progress):
+            book = opening.book_of(script, {} if options is None else options, diary, store.book)
+        store.book = replace(book, progress=store.book.progress)
         return store
 
     def __repr__(self) -> str:

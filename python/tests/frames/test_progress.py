@@ -74,6 +74,19 @@ class Calls(Watched):
                 getattr(ruzgalt, name)(*given, progress=True)
                 self.is_gone(rf"ruzgalt\.{name}: \d+ s")
 
+    def test_a_store_shows_its_runs(self):
+        store = ruzgalt.Store(progress=True)
+        store.table("t", FRAME)
+        opened = lambda: ruzgalt.Store.from_script(store.script(), progress=True)  # noqa: E731
+        for asked in (lambda: store.dip("t"), lambda: opened().dip("t")):
+            self.forget()
+            with self.slow():
+                asked()
+            self.is_gone(r"ruzgalt\.Store: \d+ s")
+        with self.assertRaises(ruzgalt.Refused) as caught:
+            ruzgalt.Store(progress="yes")
+        self.assertEqual(caught.exception.name, "BadCommand")
+
     def test_nothing_is_shown_unasked_but_on_a_terminal(self):
         with self.slow(is_shown=False):
             ruzgalt.agg(FRAME, "count")
