@@ -29,7 +29,7 @@ A module stands on those above it:
     ask, split              a question's run; rows past the limits in parts
     options, answer         what may be given to a call; the columns of an answer, and their names
     progress, computed      how far a call is; partitions of Dask that are done
-    measures                what an aggregate tells: one function of rows, or several
+    measures                what an aggregate answers: one function of rows, or several
     doubts                  what may not be meant
     classes                 a number in place of a row's compared values
     pairs, groups, division join and anti; agg; dip

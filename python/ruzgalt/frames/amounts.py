@@ -123,7 +123,7 @@ def spread(frame: Frame, column: Any, *, each: str = MONTH, by: Names = None, wi
 def spread_of(frame: Any, column: Any, options: Options) -> Any:
     frame = with_levels(frame, options.by or ())
     side = side_of(frame, column, options)
-    groups.tell(frame, side, options)
+    groups.warn(frame, side, options)
     return spread_in(frame, side, options)
 
 
@@ -159,7 +159,7 @@ def counted(side: Side, options: Options) -> Side:
         side = side.clipped(*instants.span(start, end, options.form, side.kind.zone))
     is_endless = side.end >= NO_END
     if is_endless.any():
-        told = "no end is known; within=(START, END) tells up to where it counts"
+        told = "no end is known; within=(START, END) says up to where it counts"
         raise Refused("BadPoint", told, options.period[-1], label_at(is_endless, side.labels[side.places]))
     return side
 

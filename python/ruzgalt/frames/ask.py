@@ -12,7 +12,7 @@ from ruzgalt.frames.script import Command
 from ruzgalt.frames.sides import Side
 from ruzgalt.script import records
 
-# The columns of an answer: start, end, and what tells its rows apart.
+# The columns of an answer: start, end, and what its rows differ in.
 Found = Tuple[Cells, ...]
 
 REMEDIES = {
@@ -53,7 +53,7 @@ def refusal(command: Command, told: Sequence[str]) -> Exception:
     """Of an answer that is neither ok nor what was asked for."""
     if told[0] != "error" or len(told) < 3:
         return Stopped(f"the program answered {records.visible(records.to_record(told))} to {command.word}")
-    return Refused(told[2], REMEDIES.get(told[2], f"docs/LANGUAGE.md tells it of {command.word}"), label=command.label)
+    return Refused(told[2], REMEDIES.get(told[2], f"docs/LANGUAGE.md has it with {command.word}"), label=command.label)
 
 
 def loads(sides: Sequence[Side]) -> List[Command]:

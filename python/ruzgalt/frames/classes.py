@@ -1,6 +1,6 @@
 """Classes: a number for each row in place of its compared values, equal for rows of both sides exactly where these are.
 
-The program is to tell which rows match, and for that a class is as good as the values that it stands for. It is read,
+The program finds which rows match, and for that a class is as good as the values that it stands for. It is read,
 compared and written in less time than texts, or several columns; and all classes of a run have as many digits.
 """
 from __future__ import annotations

@@ -19,7 +19,7 @@ from ruzgalt.script import forms
 
 # So many tables a run has, and of so many groups each is shown.
 TABLES, SHOWN = 64, 10
-OTHERWISE = "agg(frame, 'count') tells how many parts it has, the greatest count, and the instant, where that begins"
+OTHERWISE = "agg(frame, 'count') has how many parts it needs, the greatest count, and the instant, where that begins"
 # A Series of a frame's division, a DataFrame of a store's.
 Parts = TypeVar("Parts")
 
@@ -124,7 +124,7 @@ def dip_by(frame: Any, options: Options) -> Division[Any]:
     """Of each group by itself: a run divides as many groups as it may have tables."""
     frame = with_levels(frame, options.by or ())
     side = groups.side_of(frame, [], options)
-    groups.tell(frame, side, options)
+    groups.warn(frame, side, options)
     codes, firsts = groups.group_codes(side, len(options.by or ()))
     order = np.argsort(codes.codes, kind="stable")
     rows = np.split(order, np.flatnonzero(np.diff(codes.codes[order])) + 1) if len(order) else []

@@ -1,4 +1,4 @@
-"""What may not be meant in frames: each is told as a warning, ruzgalt.Doubt, and the answer is that of what is given.
+"""What may not be meant in frames: each is a warning, ruzgalt.Doubt, and the answer is that of what is given.
 
 Texts and ends are looked at by the classes that look at files which are loaded. Of texts those that differ are, of many
 rows some, with all of a key; so of a million rows it takes less than a tenth of a second.
@@ -91,7 +91,7 @@ def of_groups(columns: Iterable[Values]) -> None:
 
 
 class RowEnds(Ends):
-    """Ends of a frame's rows, which are told by their labels, with remedies of a call."""
+    """Ends of a frame's rows, which are named by their labels, with remedies of a call."""
 
     def example_of(self, ends: Any) -> str:
         starts = dict(zip(self.starts, self.lines[0]))

@@ -22,11 +22,11 @@ from ruzgalt.frames.values import Values, no_value
 def agg(frame: Any, asked: Measures, options: Options) -> Any:
     frame = with_levels(frame, options.by or ())
     side = side_of(frame, asked, options)
-    tell(frame, side, options)
+    warn(frame, side, options)
     return counted(frame, side, asked, options)
 
 
-def tell(frame: Any, side: Side, options: Options) -> None:
+def warn(frame: Any, side: Side, options: Options) -> None:
     """Warns of what may not be meant."""
     by = side.columns[:len(options.by or ())]
     doubts.of_decimals(options.decimals, frame)

@@ -1,4 +1,4 @@
-"""The kinds of points that a column of a frame has; docs/FRAMES.md tells what each may hold:
+"""The kinds of points that a column of a frame has; docs/FRAMES.md says what each may hold:
 
     ns, us, ms, s   datetime64 of that unit. datetime64[ns], the only one of pandas 1.5, ends in 2262
     D, S            period[D], period[S]

@@ -1,4 +1,4 @@
-"""What an aggregate tells of the rows that hold: one measure, or several at once.
+"""What an aggregate answers of the rows that hold: one measure, or several at once.
 
 A mean is a sum by a count, in lowest terms until it is given back. Several measures are cut at the edges of all, so
 that all have one value in each period, and periods that follow one another with the same values are one.
@@ -56,7 +56,7 @@ class Measure:
 Measures = Sequence[Measure]
 # Floats hold each whole number up to this one.
 EXACT = 2**53
-# That some row holds, whichever: the greatest of a column that has 1 in each row. No column of an answer tells it.
+# That some row holds, whichever: the greatest of a column that has 1 in each row. No column of an answer has it.
 HELD = Measure("held", None, False)
 
 

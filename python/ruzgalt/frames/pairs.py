@@ -28,7 +28,7 @@ LABELS = ("left_label", "right_label")
 def join(left: Any, right: Any, on: Names, options: Options) -> Any:
     frames = with_keys(left, right, on, options)
     both = sides_of(frames, on, options)
-    tell(frames, both, on, options)
+    warn(frames, both, on, options)
     return joined(frames, both, on, options)
 
 
@@ -136,7 +136,7 @@ def overlapping(frame: Any, side: Side, options: Options) -> Any:
 def anti(left: Any, right: Any, on: Names, options: Options) -> Any:
     frames = keyed((left, right), on, options)
     both = sides_of(frames, on, options)
-    tell(frames, both, on, options)
+    warn(frames, both, on, options)
     return left_over(left, both, options)
 
 
@@ -153,7 +153,7 @@ def left_over(left: Any, both: Sequence[Side], options: Options) -> Any:
     return made
 
 
-def tell(frames: Sequence[Any], both: Sequence[Side], on: Names, options: Options) -> None:
+def warn(frames: Sequence[Any], both: Sequence[Side], on: Names, options: Options) -> None:
     """Warns of what may not be meant."""
     if on is None and options.left_on is None:
         doubts.of_no_columns(*(

@@ -1,6 +1,6 @@
 """Questions to frames of Dask: rows go to partitions by their values, and each is answered as one of pandas.
 
-Which partition a value goes to is told by values.hashes, and not by Dask's own hash: by that, -1 of an int32 and -1 of
+Which partition a value goes to, values.hashes says, and not Dask's own hash: by that, -1 of an int32 and -1 of
 an int64 go to different ones, and never meet. A row goes there as set_index brings it to the place that its partition's
 number has among divisions that are given.
 """

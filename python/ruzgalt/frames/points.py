@@ -231,7 +231,7 @@ def has_all(kind: Kind, seconds: Ints) -> bool:
 def series_of(seconds: Ints, kind: Kind, index: Any = None, is_open: bool = False) -> Any:
     """The points as a Series. Raises Refused (BadPoint) where the kind hasn't one of them.
 
-    The dtype is told: of objects pandas makes datetime64[ns], where all of them fit.
+    The dtype is given: of objects pandas makes datetime64[ns], where all of them fit.
     """
     name, missing = kind.name, seconds == NO_END if is_open else np.zeros(len(seconds), bool)
     if name in DAYS and (seconds % DAY).any():

@@ -194,7 +194,7 @@ def span_of(frame: Any, options: Options) -> Optional[Span]:
 def gaps_of(frame: Any, span: Optional[Span], options: Options) -> Any:
     frame = with_levels(frame, options.by or ())
     side = groups.side_of(frame, [], options)
-    groups.tell(frame, side, options)
+    groups.warn(frame, side, options)
     return gaps_in(frame, side, span, options)
 
 

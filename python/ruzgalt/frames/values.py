@@ -5,7 +5,7 @@
     objects of str, string                   text
     types of pyarrow                         as pandas' own
     category                                 as its categories
-    floats, objects of Decimal               int, of smaller units, where decimals={COLUMN: DIGITS} tells how many
+    floats, objects of Decimal               int, of smaller units, where decimals={COLUMN: DIGITS} says how many
     all else                                 refused
 """
 from __future__ import annotations
@@ -87,7 +87,7 @@ class Values:
         return replace(self, codes=self.codes[places])
 
     def restored(self, cells: Cells) -> Any:
-        """What the program told of this column, in the dtype that it came from, or a wider one that has all of it."""
+        """What the program answered of this column, in the dtype that it came from, or a wider one that has all."""
         if self.digits is not None:
             return unscaled(cells, self)
         if isinstance(self.dtype, pd.CategoricalDtype):
@@ -165,7 +165,7 @@ def number_kind(dtype: Any) -> str:
 
 
 def no_value(name: Any) -> str:
-    """What is told of a missing cell: in place of it nothing can be put that would match nothing."""
+    """What is said of a missing cell: in place of it nothing can be put that would match nothing."""
     return f"no value, and rows without one match nothing; .dropna(subset=[{name!r}]) leaves them out"
 
 
@@ -212,7 +212,7 @@ def texts_of(column: Any) -> Values:
 
 
 def no_text(cell: Any, name: Any) -> str:
-    """What is told of a cell that is none."""
+    """What is said of a cell that is none."""
     if is_missing(cell):
         return no_value(name)
     hundredths = f"decimals={{{name!r}: 2}} takes Decimals"
@@ -319,7 +319,7 @@ def widest(values: Values) -> int:
 def hashes(columns: Sequence[Values]) -> Any:
     """A number for each row, equal for equal values whatever their dtypes are: of int64, and of the UTF-8 of texts.
 
-    pandas.util.hash_array tells a column's; columns are mixed by exclusive or and a product. The same on each machine.
+    pandas.util.hash_array has a column's; columns are mixed by exclusive or and a product. The same on each machine.
     """
     mixed = np.full(len(columns[0].codes), 0x345678, np.uint64)
     for column in columns:

@@ -28,7 +28,7 @@ class Cluster:
         self.count, self.processes, self.workers = workers, [], []
 
     def __enter__(self):
-        # An address file tells the port that the system chose.
+        # An address file has the port that the system chose.
         file = Path(self.folder.name) / "scheduler.json"
         self.start("dask_scheduler", "--host", "127.0.0.1", "--port", "0", "--scheduler-file", str(file))
         if not wait_for(lambda: file.exists() and file.stat().st_size, 60):

@@ -263,7 +263,7 @@ def one_sided(flag, told):
 
 
 def one_or_all(draw, names, several):
-    """One name by itself, where it can be told so."""
+    """One name by itself, where it can be given so."""
     is_alone = len(names) == 1 and isinstance(names[0], (str, int, float))
     return names[0] if is_alone and draw(st.booleans()) else several(names)
 

@@ -37,7 +37,7 @@ class Doubts(unittest.TestCase):
             self.assertEqual((one.category, one.filename), (ruzgalt.Doubt, __file__))
         return [str(one.message) for one in found]
 
-    def tells(self, asked, *parts):
+    def warns(self, asked, *parts):
         told = self.told(asked)
         self.assertEqual(len(told), 1, told)
         for part in parts:
@@ -50,15 +50,15 @@ class Doubts(unittest.TestCase):
         pairs = [("Hill ", "HILL"), ("Hill", "hill"), ("001", "1"), (" Hill", "Hill"), ("Gro\u0308ße", "Größe")]
         for one, other in pairs:
             left, right = pay([one, "Byron"]), pay([other, "Byron"])
-            self.tells(lambda: ruzgalt.join(left, right, on="person"), repr(one), repr(other), "'person'", "don't meet")
-            self.tells(lambda: ruzgalt.anti(left, right, on="person"), repr(one), repr(other))
+            self.warns(lambda: ruzgalt.join(left, right, on="person"), repr(one), repr(other), "'person'", "don't meet")
+            self.warns(lambda: ruzgalt.anti(left, right, on="person"), repr(one), repr(other))
             both = pd.concat([left, right])
-            self.tells(lambda: ruzgalt.agg(both, "count", by="person"), repr(one), repr(other), "two groups")
+            self.warns(lambda: ruzgalt.agg(both, "count", by="person"), repr(one), repr(other), "two groups")
 
     def test_texts_of_floats_that_look_like_those_of_whole_numbers(self):
         floats, whole = (pay(pd.Series([1, 20], dtype=dtype).astype(str)) for dtype in ("float64", "int64"))
-        self.tells(lambda: ruzgalt.anti(floats, whole, on="person"), "'1.0' and '1'", ".str.removesuffix('.0')")
-        self.tells(lambda: ruzgalt.join(whole, floats, on="person"), "'1' and '1.0'")
+        self.warns(lambda: ruzgalt.anti(floats, whole, on="person"), "'1.0' and '1'", ".str.removesuffix('.0')")
+        self.warns(lambda: ruzgalt.join(whole, floats, on="person"), "'1' and '1.0'")
         halves = pay(["1.5", "2.50"])
         self.assertEqual(self.told(lambda: ruzgalt.join(halves, whole, on="person")), [])
 
@@ -67,32 +67,32 @@ class Doubts(unittest.TestCase):
         for missing in (None, np.nan, pd.NA, pd.NaT):
             rows = pay(pd.Series(["Hill", missing], dtype=object).astype(str))
             word = rows["person"].iloc[1]
-            self.tells(lambda: ruzgalt.join(rows, rows, on="person"), repr(word), "'person'", "no value", "are equal")
-            self.tells(lambda: ruzgalt.agg(rows, "count", by="person"), repr(word), ".dropna(subset=['person'])")
+            self.warns(lambda: ruzgalt.join(rows, rows, on="person"), repr(word), "'person'", "no value", "are equal")
+            self.warns(lambda: ruzgalt.agg(rows, "count", by="person"), repr(word), ".dropna(subset=['person'])")
             self.assertEqual(self.told(lambda: ruzgalt.join(rows, rows.iloc[:1], on="person")), [])
             store = ruzgalt.Store()
             store.table("t", rows)
-            self.tells(lambda: store.anti("t", "t", on="person"), repr(word), "are equal")
-            self.tells(lambda: store.agg("t", "count", by="person"), repr(word))
+            self.warns(lambda: store.anti("t", "t", on="person"), repr(word), "are equal")
+            self.warns(lambda: store.agg("t", "count", by="person"), repr(word))
 
     def test_keys_that_meet_are_not_told_though_they_look_like_others(self):
         both = pay(["Hill", "HILL"])
         self.assertEqual(self.told(lambda: ruzgalt.join(both, both, on="person")), [])
         categories = pay(pd.Categorical(["Hill", "Byron"]))
-        self.tells(lambda: ruzgalt.join(categories, pay(["hill"]), on="person"), "'Hill'", "'hill'")
+        self.warns(lambda: ruzgalt.join(categories, pay(["hill"]), on="person"), "'Hill'", "'hill'")
 
     def test_how_many_keys_are_alike(self):
         left, right = pay(["a", "b", "c"]), pay(["A", "B", "c"])
-        self.tells(lambda: ruzgalt.join(left, right, on="person"), "and so of 1 more")
+        self.warns(lambda: ruzgalt.join(left, right, on="person"), "and so of 1 more")
 
     def test_ends_that_look_like_last_days(self):
         wrong, right = years(last=True), years(last=False)
         on = {"on": "person"}
-        self.tells(lambda: ruzgalt.join(wrong, right, **on), "to: ", "row 1 after row 0", "last_day=True takes it")
-        self.tells(lambda: ruzgalt.anti(right, wrong, **on), "to: ", "start on the day behind it")
+        self.warns(lambda: ruzgalt.join(wrong, right, **on), "to: ", "row 1 after row 0", "last_day=True takes it")
+        self.warns(lambda: ruzgalt.anti(right, wrong, **on), "to: ", "start on the day behind it")
         two = pd.concat([wrong, wrong])
         for asked in (lambda: ruzgalt.agg(two, "count"), lambda: ruzgalt.dip(two)):
-            self.tells(asked, "to is 2023-12-31", "last days of a month", "last_day=True takes it")
+            self.warns(asked, "to is 2023-12-31", "last days of a month", "last_day=True takes it")
         self.assertEqual(self.told(lambda: ruzgalt.join(wrong, wrong, last_day=True, **on)), [])
         self.assertEqual(self.told(lambda: ruzgalt.join(right, right, **on)), [])
 
@@ -104,10 +104,10 @@ class Doubts(unittest.TestCase):
         right = wrong.assign(to=ends + pd.Timedelta(days=1))
         made = lambda rows: ruzgalt.Store().table("t", rows)  # noqa: E731
         for call in (lambda rows: ruzgalt.agg(rows, "count"), ruzgalt.dip, made):
-            self.tells(lambda: call(wrong), "follow another one, 2 start on the day behind it", "row 1 after row 0")
+            self.warns(lambda: call(wrong), "follow another one, 2 start on the day behind it", "row 1 after row 0")
             self.assertEqual(self.told(lambda: call(right)), [])
         two = pd.concat([wrong, wrong.assign(person="Byron")])
-        self.tells(lambda: ruzgalt.agg(two, "count", by="person"), "one of the same person, 4 start on the day behind")
+        self.warns(lambda: ruzgalt.agg(two, "count", by="person"), "one of the same person, 4 start on the day behind")
         self.assertEqual(self.told(lambda: ruzgalt.agg(two, "count")), [])
 
     def test_ends_that_are_the_last_second_of_a_day(self):
@@ -115,9 +115,9 @@ class Doubts(unittest.TestCase):
         store = ruzgalt.Store()
         store.table("t", pay())
         for call in (ruzgalt.dip, lambda rows: ruzgalt.agg(rows, "count"), lambda rows: store.load("t", rows)):
-            self.tells(lambda: call(late), "to is 2024-06-30T23:59:59", "doesn't hold at its end", ".dt.ceil('D')")
+            self.warns(lambda: call(late), "to is 2024-06-30T23:59:59", "doesn't hold at its end", ".dt.ceil('D')")
         minute = pay(to=pd.to_datetime(["2024-06-30T23:59", "2024-06-30T23:58"]))
-        self.tells(lambda: ruzgalt.anti(pay(), minute, on="person"), "to is 2024-06-30T23:59:00")
+        self.warns(lambda: ruzgalt.anti(pay(), minute, on="person"), "to is 2024-06-30T23:59:00")
         last = pay(to=np.array([datetime.datetime(9999, 12, 31, 23, 59, 59)] * 2, object))
         self.assertEqual(self.told(lambda: ruzgalt.dip(last)), [])
 
@@ -126,13 +126,13 @@ class Doubts(unittest.TestCase):
         far = pay(to=DAYS(["2024-07-01", "2199-12-31"]))
         made = lambda rows: ruzgalt.Store().table("t", rows)  # noqa: E731
         for call in (ruzgalt.dip, lambda rows: ruzgalt.anti(pay(), rows, on="person"), made):
-            self.tells(lambda: call(far), "to is 2199-12-31", "a row ends there", "open_end=True")
+            self.warns(lambda: call(far), "to is 2199-12-31", "a row ends there", "open_end=True")
         last = pay(to=np.array([datetime.date(9999, 12, 31), datetime.date(2098, 12, 30)], object))
         self.assertEqual(self.told(lambda: ruzgalt.dip(last)), [])
 
     def test_last_days_that_look_like_ends(self):
         wrong = years(last=False)
-        self.tells(lambda: ruzgalt.anti(wrong, pay(["x"], to=DAYS(["2024-06-30"])), on="person", last_day=True), "to: ",
+        self.warns(lambda: ruzgalt.anti(wrong, pay(["x"], to=DAYS(["2024-06-30"])), on="person", last_day=True), "to: ",
                    "without it, the day before is the last")
 
     def test_rows_that_share_days_follow_none(self):
@@ -145,27 +145,27 @@ class Doubts(unittest.TestCase):
         count = 20_000
         wrong = pd.concat([years(last=True).assign(person=f"p{place}") for place in range(2)] * (count // 4))
         wrong["person"] = [f"p{place // 2}" for place in range(count)]
-        self.tells(lambda: ruzgalt.join(wrong, wrong.iloc[:0], on="person"), "start on the day behind it")
+        self.warns(lambda: ruzgalt.join(wrong, wrong.iloc[:0], on="person"), "start on the day behind it")
 
     def test_decimals_of_no_column(self):
         asked = lambda: ruzgalt.agg(pay(), "sum", "cents", decimals={"eur": 2})  # noqa: E731
-        self.tells(asked, "'eur', which is no column", "'cents'")
+        self.warns(asked, "'eur', which is no column", "'cents'")
         other = pay(eur=[0.5, 1.5])
         words = {"on": "person", "decimals": {"eur": 2}}
         self.assertEqual(self.told(lambda: ruzgalt.join(pay(), other, **words)), [])
-        self.tells(lambda: ruzgalt.anti(pay(), pay(), **words), "'eur'")
+        self.warns(lambda: ruzgalt.anti(pay(), pay(), **words), "'eur'")
 
     def test_frames_that_are_not_compared_in_their_only_common_column(self):
         left, right = pay(), pay().drop(columns="cents")
         for call in (ruzgalt.join, ruzgalt.anti):
-            self.tells(lambda: call(left, right), "both frames have 'person'", "on='person'", "on=[] says")
+            self.warns(lambda: call(left, right), "both frames have 'person'", "on='person'", "on=[] says")
             self.assertEqual(self.told(lambda: call(left, right, on=[])), [])
             self.assertEqual(self.told(lambda: call(left, pay())), [])
 
     def test_a_common_column_of_a_name_that_on_takes_in_a_list(self):
         for name in (None, ("person", "name")):
             left, right = (pay().rename(columns={"person": name, "cents": other}) for other in ("cents", "euros"))
-            self.tells(lambda: ruzgalt.anti(left, right), f"on=[{name!r}] does it")
+            self.warns(lambda: ruzgalt.anti(left, right), f"on=[{name!r}] does it")
             self.assertEqual(len(ruzgalt.join(left, right, on=[name])), 2)
 
     def test_a_million_keys_are_looked_at_no_longer_than_a_run_takes(self):

@@ -1,4 +1,4 @@
-"""What may be told to a call: each option is taken in its types, and in others refused by its name."""
+"""What may be given to a call: each option is taken in its types, and in others refused by its name."""
 import functools
 import inspect
 import unittest

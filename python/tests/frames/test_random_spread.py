@@ -225,7 +225,7 @@ class Spread(unittest.TestCase):
             self.assertEqual((caught.exception.name, caught.exception.label), ("BadPeriod", 70))
 
     def test_overlaps_are_those_of_the_whole(self):
-        """Which of two rows stands first is told by their places in a partition."""
+        """Which of two rows stands first, their places in a partition say."""
         cells = pd.concat([day_of(column(NUMBERS, "int64")).assign(x=number) for number in range(3)], ignore_index=True)
         got = ruzgalt.overlaps(dd.from_pandas(cells, npartitions=4), "k").compute(scheduler="sync")
         self.assertEqual(list(got.columns), ["from", "to", "k", "x_left", "x_right"])
