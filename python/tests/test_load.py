@@ -492,7 +492,7 @@ class Deletes(Case):
         lines = [f"{name},{place},2024-01-01,2024-03-05" for place, name in enumerate("ABCDEFGH")]
         text = "person,euros,Start,End\n" + "".join(f"{line}\n" for line in lines)
         words = [*self.WORDS, "person", "euros", "--part", "1/2"]
-        deleted, loaded = (load(text, *words, *more)[0] for more in (["--delete"], []))
+        (deleted, _), (loaded, _) = load(text, *words, "--delete"), load(text, *words)
         self.assertEqual(re.findall("person,([A-H])", deleted), re.findall(",([A-H]),", loaded))
         words = [*self.WORDS, "euros", *self.RECORD, "--part", "1/2", "--delete"]
         self.refused("--part: rows are parted by person", text, *words)
