@@ -334,11 +334,12 @@ class Times(BrowserCase):
         told = f"ok,1\nok,2\nend,0\nrow,1,{TIME}\nend,1\n"
         parts = "[...document.querySelectorAll('#pairs h3, #pairs h4, #pairs article > p')]"
         then, now = "Then: commit 1 ({}line 5)", "Now: commit 2 ({}line 6)"
-        for words, wanted in [
+        cases: List[Tuple[List[str], List[str]]] = [
             ([], ["rows,t", then.format(""), now.format("")]),
             (["4=what it is"], ["what it is", "rows,t", then.format(""), now.format("what it is, ")]),
             (["3=as it was"], ["as it was", "rows,t", then.format("as it was, "), now.format("")]),
-        ]:
+        ]
+        for words, wanted in cases:
             self.open(page_of(script, told, *words))
             found = self.value(f"{parts}.map((one) => one.textContent)")
             self.assertEqual([one for one in found if "said both" not in one], wanted)

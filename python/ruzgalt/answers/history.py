@@ -32,10 +32,10 @@ def of_table(
     lines = {one.commits: one.place for one in found if not one.refusal and one.command.word in CHANGES}
     entered = [] if days is None else [Column("entered", Kind.POINT)]
     columns = unique([*ints("commit"), Column("place", Kind.TEXT), *entered, *CHANGE, *schema.columns])
-    found = list(changes_of(schema, replay.versions[name], wanted))
-    day_of_commit = entered_on(days or [], (commit for commit, _ in found))
+    changes = list(changes_of(schema, replay.versions[name], wanted))
+    day_of_commit = entered_on(days or [], (commit for commit, _ in changes))
     records: List[List[Optional[str]]] = []
-    for commit, change in found:
+    for commit, change in changes:
         day = [] if days is None else [day_of_commit[commit]]
         records.append([str(commit), lines[commit], *day, *change])
     return Table(columns, records)

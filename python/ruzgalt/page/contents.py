@@ -104,7 +104,8 @@ class Parts:
                 "word": answer.command.word, "commit": answer.commit,
                 "columns": columns_of(answer.table, self.sources.look),
                 "count": len(answer.table.records), "hasAll": has_all, "shown": shown,
-                "name": self.sources.names.get(answer.number, ""), "sentence": sentence_of(answer), "parts": parts_of(answer),
+                "name": self.sources.names.get(answer.number, ""),
+                "sentence": sentence_of(answer), "parts": parts_of(answer),
                 "picture": drawing.tree, "noPicture": drawing.why,
             }
 

@@ -154,8 +154,8 @@ def refuse_others(found: Found, replay: Replay) -> None:
     for answer in found.answers:
         difference = None if answer.refusal else fitting.fault(found.answers, replay, answer)
         if difference:
-            text = short(answer.command.text)
-            raise Misfit(f"{answer.place}: {text}: {difference}: the program answers otherwise than the changes, done again")
+            text = f"{answer.place}: {short(answer.command.text)}: {difference}"
+            raise Misfit(f"{text}: the program answers otherwise than the changes, done again")
 
 
 def done_again(replay: Replay, schema: Schema) -> Table:
