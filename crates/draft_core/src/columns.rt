@@ -1,6 +1,6 @@
 //! Rows of the same kinds of values, which lie by columns.
 
-ghost use Rattle.std.specs.Prelude.{◌≡◌, ◌↔◌, ◌==◌, ◌<◌, ◌≤◌, ◌+◌, ◌++◌, ◌∷◌, [], ℕ, Some, get_or, length, map, option_map, slice_get, IfErr, IfOk, IsTrue, List, OnErr, OnOk, Ok, Err};
+ghost use Rattle.std.specs.Prelude.{◌≡◌, ◌↔◌, ◌==◌, ◌<◌, ◌≤◌, ◌+◌, ◌++◌, ◌∷◌, [], ℕ, Some, drop, get_or, length, map, option_map, slice_get, IfErr, IfOk, IsTrue, List, OnErr, OnOk, Ok, Err};
 ghost use Rattle.std.specs.List.{list_all};
 ghost use Rattle.std.specs.Option.{option_copied};
 ghost use Rattle.row_core.specs.Schema.{fits};
@@ -18,10 +18,9 @@ use crate::column_values::ColumnValues;
 use list_core::DeepCopy;
 use period_core::Period;
 use row_core::{
-    Column, Draft, Failure, Kind, RowRefused, Schema, Value, ValueRef, Values, read_period,
+    Column, Draft, Failure, Fields, Kind, RowRefused, Schema, Value, ValueRef, Values, read_period,
 };
 use std::alloc::Global;
-use std::convert::AsSlice;
 use std::marker::Model;
 
 /// Rows whose values lie by columns: each row has a value of the same kind in each. What a column has
@@ -192,17 +191,17 @@ impl Columns {
     }
 
     /// Adds the row of the fields: two points, and one field for each column, which are of the kinds.
-    pub(crate) fn read<F: AsSlice<u8>>(
+    pub(crate) fn read<L: Fields>(
         &mut self,
         columns: &[Column],
-        fields: &[F],
+        fields: L,
     ) -> Result<(), Failure<RowRefused>>
         requires { map (λ column. column.kind) columns.now ≡ self.old.kinds }
         ensures ok { OnOk result ((row : AnyDraft)
-            × (row_of columns.now (map F.items fields.now) ≡ Ok row)
+            × (row_of columns.now (L.fields fields) ≡ Ok row)
             × (self.new ≡ record self.old { rows = self.old.rows ++ row ∷ [] })) }
         ensures err { IfErr result (λ failure. Reads {T = AnyDraft} (λ row. row)
-            (row_of columns.now (map F.items fields.now)) (Err failure)) }
+            (row_of columns.now (L.fields fields)) (Err failure)) }
     {
         let count = self.periods.len();
         let period = read_onto(&mut self.values, count, columns, fields)?;
@@ -369,51 +368,51 @@ fn append_values(
 
 /// The period of the row of the fields, whose values are added in their columns behind the first `count`, up
 /// to the first that is refused anything.
-fn read_onto<F: AsSlice<u8>>(
+fn read_onto<L: Fields>(
     values: &mut Vec<ColumnValues>,
     count: usize,
     columns: &[Column],
-    fields: &[F],
+    fields: L,
 ) -> Result<Period, Failure<RowRefused>>
     requires kinds { map (λ column. column.kind) columns.now ≡ map kind_of_column values.old.items }
     requires long { AreLong count values.old.items }
     ensures kept { OnOk result (Keep count values.old.items values.new.items) }
     ensures long { AreLong count values.new.items }
     ensures ok { OnOk result (AreLong (count + 1) values.new.items) }
-    ensures row { IfOk result (λ period. row_of columns.now (map F.items fields.now)
+    ensures row { IfOk result (λ period. row_of columns.now (L.fields fields)
         ≡ Ok (draft_of period (values_at (map values_of_column values.new.items) count))) }
     ensures err { IfErr result (λ failure. Reads {T = AnyDraft} (λ row. row)
-        (row_of columns.now (map F.items fields.now)) (Err failure)) }
+        (row_of columns.now (L.fields fields)) (Err failure)) }
 {
-    if fields.len() != columns.len() + 2 {
+    if fields.count() != columns.len() + 2 {
         return Err(Failure::Refused(RowRefused::WrongWidth));
     }
-    let period = read_period(fields[0].as_slice(), fields[1].as_slice()).map_err(Failure::Refused)?;
-    read_values(values, count, columns, &fields[2..])?;
+    let period = read_period(fields.field(0), fields.field(1)).map_err(Failure::Refused)?;
+    read_values(values, count, columns, fields)?;
     Ok(period)
 }
 
-/// Adds the value of each field in its column behind the first `count`, up to the first field that is
-/// refused anything.
-fn read_values<F: AsSlice<u8>>(
+/// Adds the value of each field behind the two points in its column behind the first `count`, up to the
+/// first field that is refused anything.
+fn read_values<L: Fields>(
     values: &mut Vec<ColumnValues>,
     count: usize,
     columns: &[Column],
-    fields: &[F],
+    fields: L,
 ) -> Result<(), Failure<RowRefused>>
     requires kinds { map (λ column. column.kind) columns.now ≡ map kind_of_column values.old.items }
-    requires fields { length columns.now ≤ length fields.now }
+    requires fields { length columns.now + 2 ≤ length (L.fields fields) }
     requires long { AreLong count values.old.items }
     ensures kept { Keep count values.old.items values.new.items }
     ensures long { AreLong count values.new.items }
     ensures ok { OnOk result (AreLong (count + 1) values.new.items) }
-    ensures values { OnOk result (values_of columns.now (map F.items fields.now)
+    ensures values { OnOk result (values_of columns.now (drop 2 (L.fields fields))
         ≡ Ok (values_at (map values_of_column values.new.items) count)) }
     ensures err { IfErr result (λ failure. Reads {T = List AnyValue} (λ read. read)
-        (values_of columns.now (map F.items fields.now)) (Err failure)) }
+        (values_of columns.now (drop 2 (L.fields fields))) (Err failure)) }
 {
     for i in 0..columns.len() {
-        values[i].read(count, fields[i].as_slice())?;
+        values[i].read(count, fields.field(i + 2))?;
     }
     Ok(())
 }

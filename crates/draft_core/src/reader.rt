@@ -7,9 +7,8 @@ ghost use Rattle.row_core.specs.declared.draft.Draft.{Draft as AnyDraft};
 
 use crate::columns::Columns;
 use crate::drafts::Drafts;
-use row_core::{Failure, RowRefused, Schema};
+use row_core::{Failure, Fields, RowRefused, Schema};
 use std::alloc::Global;
-use std::convert::AsSlice;
 use std::marker::Model;
 
 /// Reads rows of a table's columns, one after another. Contracts see the columns, and the rows so far.
@@ -48,10 +47,10 @@ impl<'a> RowReader<'a> {
     /// Reads one more row: two points, and one field for each column. Want of memory is answered
     /// only where no field is refused; so are texts of a column that would have 2^32 bytes or more, which those
     /// of 1,000,000 rows never have.
-    pub fn read<F: AsSlice<u8>>(self, fields: &[F]) -> Result<Self, Failure<RowRefused>>
+    pub fn read<L: Fields>(self, fields: L) -> Result<Self, Failure<RowRefused>>
         ensures { IsAnswer
             (map_ok (λ row. record self.entry { rows = self.entry.rows ++ row ∷ [] })
-            (row_of self.entry.columns (map F.items fields.now))) result }
+            (row_of self.entry.columns (L.fields fields))) result }
     {
         let RowReader {
             alloc,
@@ -81,19 +80,19 @@ impl<'a> RowReader<'a> {
 }
 
 /// Adds the row of the fields, up to the first that is refused anything.
-fn add_row<F: AsSlice<u8>>(
+fn add_row<L: Fields>(
     alloc: Global,
     schema: &Schema,
     rows: &mut Columns,
-    fields: &[F],
+    fields: L,
 ) -> Result<(), Failure<RowRefused>>
     requires { 0 < length rows.old.rows → map (λ column. column.kind) schema.now ≡ rows.old.kinds }
     ensures kinds { OnOk result (map (λ column. column.kind) schema.now ≡ rows.new.kinds) }
     ensures ok { OnOk result ((row : AnyDraft)
-        × (row_of schema.now (map F.items fields.now) ≡ Ok row)
+        × (row_of schema.now (L.fields fields) ≡ Ok row)
         × (rows.new.rows ≡ rows.old.rows ++ row ∷ [])) }
     ensures err { IfErr result (λ failure. Reads {T = AnyDraft} (λ row. row)
-        (row_of schema.now (map F.items fields.now)) (Err failure)) }
+        (row_of schema.now (L.fields fields)) (Err failure)) }
 {
     if rows.is_empty() {
         *rows = Columns::new(alloc, &schema.kinds(alloc)?)?;

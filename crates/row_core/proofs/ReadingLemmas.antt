@@ -1,8 +1,8 @@
 -- Values that are read one column after another.
-use Rattle.std.proofs.Common.{◌≡◌, ℕ, ◌+◌, ◌<◌, ◌≤◌, List, [], ◌∷◌, ◌++◌, length, drop, get_or, refl, sym, ◌∙◌, ap, append_assoc, append-nil}
+use Rattle.std.proofs.Common.{◌≡◌, ℕ, ◌+◌, ◌<◌, ◌≤◌, List, [], ◌∷◌, ◌++◌, length, drop, get_or, refl, sym, ◌∙◌, ap, append_assoc, append-nil, arith}
 use Rattle.std.specs.Prelude.{Result, Ok, Err, Some, None}
 use Rattle.std.specs.Result.{result_err}
-use Rattle.std.proofs.lemmas.List.{drop_all, drop_more}
+use Rattle.std.proofs.lemmas.List.{drop_all, drop_more, get_or-drop, length-drop}
 use Rattle.row_core.specs.Refusals.{IsAnswer, Reads, and_then, map_err, map_ok, map_refused}
 use Rattle.row_core.specs.Reading.{field_of, refusal_of_value, values_of}
 use Rattle.row_core.specs.Value.{value_of}
@@ -13,6 +13,16 @@ use Rattle.row_core.specs.declared.schema.Column.{Column}
 use Rattle.row_core.specs.declared.value.Kind.{Kind}
 use Rattle.row_core.specs.declared.value.Value.{Value}
 use Rattle.row_core.specs.declared.value.ValueRefused.{ValueRefused}
+
+-- the field of a column lies behind the two points, and is there
+pub field-at : (fs : List (List ℕ)) (i : ℕ) (field : List ℕ) → field ≡ get_or fs (i + 2) []
+    → get_or (drop 2 fs) i [] ≡ field
+field-at fs i field e =
+    let place : 2 + i ≡ i + 2 = omega arith in
+    get_or-drop 2 fs i [] ∙ ap (λ n. get_or fs n []) place ∙ sym e
+
+pub field-there : (fs : List (List ℕ)) (i count : ℕ) → i < count → count + 2 ≤ length fs → i < length (drop 2 fs)
+field-there fs i count h k = omega (arith, length-drop 2 fs, h, k)
 
 -- one column on
 values_of-drop : (cs : List Column) (fs : List (List ℕ)) (i : ℕ) (c : Column) (f : List ℕ) → i < length cs

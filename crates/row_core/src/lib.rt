@@ -4,6 +4,7 @@
 
 mod draft;
 mod failure;
+mod fields;
 mod name;
 mod number;
 mod reading;
@@ -15,6 +16,7 @@ mod value_ref;
 
 pub use draft::Draft;
 pub use failure::Failure;
+pub use fields::Fields;
 pub use list_core::{DeepCopy, List, copy_each};
 pub use name::{BadName, Name};
 pub use number::{BadNumber, read_number};

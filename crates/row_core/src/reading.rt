@@ -1,6 +1,6 @@
 //! Rows and values, read from a record's fields.
 
-ghost use Rattle.std.specs.Prelude.{◌≡◌, ◌≤◌, List, length, map, Err, IfErr, IfOk, Ok};
+ghost use Rattle.std.specs.Prelude.{◌≡◌, ◌≤◌, ◌+◌, List, drop, length, Err, IfErr, IfOk, Ok};
 ghost use Rattle.std.specs.Result.{result_err};
 ghost use Rattle.row_core.specs.Refusals.{IsAnswer, Reads};
 ghost use Rattle.row_core.specs.declared.draft.Draft.{Draft as AnyDraft};
@@ -10,6 +10,7 @@ ghost use Rattle.row_core.specs.Reading.{period_of, row_of, values_of};
 use crate::NoMemory;
 use crate::draft::Draft;
 use crate::failure::Failure;
+use crate::fields::Fields;
 use crate::schema::{Column, Schema};
 use crate::value::{Value, ValueRefused, Values};
 use period_core::{BadPeriod, BadPoint, Period, Point};
@@ -142,12 +143,12 @@ impl From<Failure<ValueRefused>> for Failure<RowRefused> {
 impl Schema {
     /// The row of the fields: two points, and one field for each column. Want of memory is
     /// answered only where no field is refused.
-    pub fn read_row<F: AsSlice<u8>>(
+    pub fn read_row<L: Fields>(
         &self,
         alloc: Global,
-        fields: &[F],
+        fields: L,
     ) -> Result<Draft, Failure<RowRefused>>
-        ensures { IsAnswer (row_of self.now (map F.items fields.now)) result }
+        ensures { IsAnswer (row_of self.now (L.fields fields)) result }
     {
         match read_row(alloc, self.as_slice(), fields) {
             Err(Failure::NoMemory) => {
@@ -159,40 +160,39 @@ impl Schema {
     }
 
     /// Whether the fields are a row's of these columns, which takes no memory.
-    pub fn check_row<F: AsSlice<u8>>(&self, fields: &[F]) -> Result<(), RowRefused>
-        ensures { result_err result ≡ result_err (row_of self.now (map F.items fields.now)) }
+    pub fn check_row<L: Fields>(&self, fields: L) -> Result<(), RowRefused>
+        ensures { result_err result ≡ result_err (row_of self.now (L.fields fields)) }
     {
         check_row(self.as_slice(), fields)
     }
 }
 
 /// The row of the fields, up to the first that is refused anything.
-fn read_row<F: AsSlice<u8>>(
+fn read_row<L: Fields>(
     alloc: Global,
     columns: &[Column],
-    fields: &[F],
+    fields: L,
 ) -> Result<Draft, Failure<RowRefused>>
-    ensures { Reads {T = AnyDraft} (λ row. row)
-        (row_of columns.now (map F.items fields.now)) result }
+    ensures { Reads {T = AnyDraft} (λ row. row) (row_of columns.now (L.fields fields)) result }
 {
-    if fields.len() != columns.len() + 2 {
+    if fields.count() != columns.len() + 2 {
         return Err(Failure::Refused(RowRefused::WrongWidth));
     }
-    let period = read_period(fields[0].as_slice(), fields[1].as_slice()).map_err(Failure::Refused)?;
-    let values = read_values(alloc, columns, &fields[2..])?;
+    let period = read_period(fields.field(0), fields.field(1)).map_err(Failure::Refused)?;
+    let values = read_values(alloc, columns, fields)?;
     let values = Values::of(alloc, values)?;
     Ok(Draft { period, values })
 }
 
 /// Whether the fields are a row's of these columns.
-fn check_row<F: AsSlice<u8>>(columns: &[Column], fields: &[F]) -> Result<(), RowRefused>
-    ensures { result_err result ≡ result_err (row_of columns.now (map F.items fields.now)) }
+fn check_row<L: Fields>(columns: &[Column], fields: L) -> Result<(), RowRefused>
+    ensures { result_err result ≡ result_err (row_of columns.now (L.fields fields)) }
 {
-    if fields.len() != columns.len() + 2 {
+    if fields.count() != columns.len() + 2 {
         return Err(RowRefused::WrongWidth);
     }
-    read_period(fields[0].as_slice(), fields[1].as_slice())?;
-    check_values(columns, &fields[2..])
+    read_period(fields.field(0), fields.field(1))?;
+    check_values(columns, fields)
 }
 
 /// The period of two points.
@@ -204,32 +204,32 @@ pub fn read_period(from: &[u8], to: &[u8]) -> Result<Period, RowRefused>
     Ok(Period::new(from, to)?)
 }
 
-/// Whether each field is a value of its column.
-fn check_values<F: AsSlice<u8>>(columns: &[Column], fields: &[F]) -> Result<(), RowRefused>
-    requires { length columns.now ≤ length fields.now }
-    ensures { result_err result ≡ result_err (values_of columns.now (map F.items fields.now)) }
+/// Whether each field behind the two points is a value of its column.
+fn check_values<L: Fields>(columns: &[Column], fields: L) -> Result<(), RowRefused>
+    requires { length columns.now + 2 ≤ length (L.fields fields) }
+    ensures { result_err result ≡ result_err (values_of columns.now (drop 2 (L.fields fields))) }
 {
     for i in 0..columns.len() {
-        Value::check(columns[i].kind, fields[i].as_slice())?;
+        Value::check(columns[i].kind, fields.field(i + 2))?;
     }
     Ok(())
 }
 
-/// The value of each field in its column.
-fn read_values<F: AsSlice<u8>>(
+/// The value of each field behind the two points in its column.
+fn read_values<L: Fields>(
     alloc: Global,
     columns: &[Column],
-    fields: &[F],
+    fields: L,
 ) -> Result<Vec<Value>, Failure<RowRefused>>
-    requires { length columns.now ≤ length fields.now }
+    requires { length columns.now + 2 ≤ length (L.fields fields) }
     ensures ok { IfOk result
-        (λ values. values_of columns.now (map F.items fields.now) ≡ Ok values.items) }
+        (λ values. values_of columns.now (drop 2 (L.fields fields)) ≡ Ok values.items) }
     ensures err { IfErr result (λ failure. Reads {T = List AnyValue} (λ read. read)
-        (values_of columns.now (map F.items fields.now)) (Err failure)) }
+        (values_of columns.now (drop 2 (L.fields fields))) (Err failure)) }
 {
     let mut values = Vec::with_capacity(alloc, columns.len())?;
     for i in 0..columns.len() {
-        values.push(Value::read(alloc, columns[i].kind, fields[i].as_slice())?)?;
+        values.push(Value::read(alloc, columns[i].kind, fields.field(i + 2))?)?;
     }
     Ok(values)
 }

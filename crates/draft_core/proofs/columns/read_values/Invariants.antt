@@ -10,7 +10,7 @@ invariant-loop-i g l = record {
   kept : Keep l.count l.initial.values.items l.values.items;
   long : AreLong l.count l.values.items;
   longer : AreLong (l.count + 1) (take l.i l.values.items);
-  meant : values_of l.columns (map g.F.AsSlice.items l.fields)
+  meant : values_of l.columns (drop 2 (g.L.Fields.fields l.fields))
       ≡ map_ok (λ rest. values_at (map values_of_column (take l.i l.values.items)) l.count ++ rest)
-      (values_of (drop l.i l.columns) (drop l.i (map g.F.AsSlice.items l.fields)));
+      (values_of (drop l.i l.columns) (drop l.i (drop 2 (g.L.Fields.fields l.fields))));
 }

@@ -1,4 +1,4 @@
-use Rattle.std.proofs.Common.{◌≡◌, ◌∙◌, ◌++◌, ◌∷◌, [], ap, length, map, sym, true}
+use Rattle.std.proofs.Common.{◌≡◌, ◌∙◌, ◌++◌, ◌∷◌, [], ap, length, sym, true}
 use Rattle.std.proofs.lemmas.Bool.{eqb-true}
 use Rattle.std.proofs.lemmas.List.{nil_from_length}
 use Rattle.std.proofs.lemmas.Result.{on_ok_weaker}
@@ -8,7 +8,7 @@ use Rattle.draft_core.proofs.reader.add_row.Goals.{then-is_empty+in_ok-kinds+in_
 
 pub returns-clause-ok : goal.returns-clause-ok
 returns-clause-ok g c =
-    let fields = map g.F.AsSlice.items c.args.fields.now in
+    let fields = g.L.Fields.fields c.args.fields in
     let columns = c.as_slice.ensures.columns in
     let none : c.is_empty.result ≡ true → length c.args.rows.now.rows ≡ 0 = λ yes.
     eqb-true (length c.args.rows.now.rows) 0 (sym c.is_empty.ensures ∙ yes) in

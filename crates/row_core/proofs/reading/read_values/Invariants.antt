@@ -1,4 +1,4 @@
-use Rattle.std.proofs.Common.{◌≡◌, drop, map, ◌++◌}
+use Rattle.std.proofs.Common.{◌≡◌, drop, ◌++◌}
 use Rattle.row_core.specs.Reading.{values_of}
 use Rattle.row_core.specs.Refusals.{map_ok}
 use Rattle.row_core.proofs.reading.read_values.Given as goal
@@ -6,5 +6,6 @@ use Rattle.row_core.proofs.reading.read_values.Given as goal
 -- the values so far stand before those that are left
 abbrev pub invariant-loop-i : goal.invariant-loop-i
 invariant-loop-i g l =
-    values_of l.columns (map g.F.AsSlice.items l.fields) ≡ map_ok (λ rest. l.values.items ++ rest)
-    (values_of (drop l.i l.columns) (drop l.i (map g.F.AsSlice.items l.fields)))
+    let fields = drop 2 (g.L.Fields.fields l.fields) in
+    values_of l.columns fields ≡ map_ok (λ rest. l.values.items ++ rest)
+    (values_of (drop l.i l.columns) (drop l.i fields))
