@@ -10,7 +10,6 @@ use Rattle.std.proofs.lemmas.List.Quantifiers.{position-Some}
 use Rattle.row_core.specs.Schema.{fits}
 use Rattle.row_core.specs.Value.{kind_of, same_kind}
 use Rattle.row_core.specs.declared.value.Kind.{Kind}
-use Rattle.row_core.specs.declared.value.Kind.TheVariants as kind
 use Rattle.std.proofs.lemmas.Cmp.{tied_itself}
 use Rattle.std.proofs.lemmas.Int.{ints}
 use Rattle.std.proofs.lemmas.List.{length-map}
@@ -30,6 +29,7 @@ use Rattle.merge_core.specs.declared.tally.Tally.{Tally}
 use Rattle.merge_core.specs.Gaps.{IsMaximal}
 use Rattle.merge_core.specs.Tallies.{IsTally, IsTallyAt, amounts, holding}
 use Rattle.match_core.proofs.SentLemmas.{kept_in, kept_passes}
+use Rattle.match_core.proofs.SplitClasses.{kind_is}
 use Rattle.merge_core.proofs.SharedLemmas.{first_held}
 use Rattle.merge_core.proofs.SweepLemmas.{IsMaximal-same}
 use Rattle.round_core.specs.declared.measure.Measure.{Measure}
@@ -282,13 +282,6 @@ group-there columns None (Some place) e = cc
 group-there [] (Some name) (Some place) e = absurd (search rules)
 group-there (first ∷ columns) (Some name) (Some place) e =
     (position-Some (λ (c : Column). bytes_eq c.name name) (first ∷ columns) place first (sym e)).0
-
--- kinds that the test finds to be one are
-kind_is : (k l : Kind) → same_kind k l ≡ true → k ≡ l
-kind_is kind.Int kind.Int h = refl
-kind_is kind.Int kind.Text h = cc
-kind_is kind.Text kind.Int h = cc
-kind_is kind.Text kind.Text h = refl
 
 -- values that fit columns are of their kinds
 kind_there : (columns : List Column) (values : List Value) (place : ℕ) (k : Kind) → fits columns values ≡ true

@@ -2,7 +2,7 @@
 
 ghost use Rattle.agg_core.specs.Agg.{AggHasOneList, AggHasSomeList};
 ghost use Rattle.agg_core.specs.AggLots.{LotAggIsOfWhole, LotAggsAreApart, ValuesSendGroupsTogether, WholeAggIsOfLots};
-ghost use Rattle.agg_core.specs.AggStandIns.{AggIsOfStandIns};
+ghost use Rattle.agg_core.specs.AggStandIns.{AggIsOfRanks, AggIsOfStandIns};
 ghost use Rattle.agg_core.specs.Slices.{SliceAggIsOfWhole, SliceComesToTheSame, WholeAggIsOfSlices};
 
 /// What rows come to is determined by the rows, the function and the column that they are grouped by: there is such a
@@ -40,4 +40,11 @@ pub fn agg_is_that_of_its_slices()
 /// aggregate. Ids don't count, nor do other columns.
 pub fn agg_is_that_of_stand_ins()
     ensures { AggIsOfStandIns }
+{}
+
+/// Rows can be aggregated as others with numbers in place of what they are grouped by, where of two rows' numbers the
+/// lesser stands for the lesser group. They have the periods and the amounts of those that they stand for. The aggregate of
+/// those, with the groups given back, is the aggregate of these. Whether a program outside ranks groups so is not said here.
+pub fn agg_is_that_of_ranks()
+    ensures { AggIsOfRanks }
 {}

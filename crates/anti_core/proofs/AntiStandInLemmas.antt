@@ -9,20 +9,21 @@ use Rattle.row_core.specs.declared.row.Row.{Row}
 use Rattle.row_core.specs.declared.schema.Column.{Column}
 use Rattle.list_core.proofs.MadeLemmas.{Contains-map, Contains-map_source}
 use Rattle.match_core.specs.Columns.{MatchesOn}
-use Rattle.match_core.specs.Lots.{left_values, right_values}
-use Rattle.match_core.specs.StandIns.{StandFor}
-use Rattle.match_core.proofs.StandInLemmas.{answers_there, match_here, match_there, risen_cmp}
+use Rattle.match_core.specs.StandIns.{MatchAlike, StandFor}
+use Rattle.match_core.proofs.StandInLemmas.{answers_there, ids_alike, stand_ins_of_codes}
 use Rattle.merge_core.specs.Gaps.{IsMaximal}
 use Rattle.merge_core.proofs.SweepLemmas.{IsMaximal-same}
 use Rattle.anti_core.specs.declared.rows.AntiRow.{AntiRow}
 use Rattle.anti_core.specs.Anti.{AntiRowBefore, IsAntiRow, IsMet, IsUnmet, anti_cmp}
-use Rattle.anti_core.specs.AntiStandIns.{AntiIsOfStandIns, anti_row_of}
+use Rattle.anti_core.specs.AntiStandIns.{AntiIsOfCodes, AntiIsOfStandIns, anti_row_of}
 use Rattle.anti_core.proofs.OrderLemmas.{AntiRow-same_fields}
 
 module _ (left_here right_here left_there right_there : List Column) (on_here on_there : List NamePair)
     (left right : List Row) (left_of right_of : Row → Row) (left_id right_id : ℕ → ℕ)
-    (lefts : StandFor (left_values left_here on_here) (left_values left_there on_there) left_of left_id left)
-    (rights : StandFor (right_values right_here on_here) (right_values right_there on_there) right_of right_id right) where
+    (lefts : StandFor left_of left_id left)
+    (rights : StandFor right_of right_id right)
+    (alike : MatchAlike (MatchesOn left_here right_here on_here) (MatchesOn left_there right_there on_there) left_of right_of
+    left right) where
   -- a row of the anti-join of those that stand for others
   abbrev IsRowHere : AntiRow → Type 0
   IsRowHere = IsAntiRow (MatchesOn left_here right_here on_here) left right
@@ -46,8 +47,7 @@ module _ (left_here right_here left_there right_there : List Column) (on_here on
     met_there t m = record {
       by = right_of m.by;
       by_in = Contains-map right_of right m.by m.by_in;
-      matches = match_there left_here right_here left_there right_there on_here on_there left right left_of right_of
-          left_id right_id lefts rights x m.by x_in m.by_in m.matches;
+      matches = (alike x m.by x_in m.by_in).0 m.matches;
       holds = subst (λ (p : Period). Holds p t) (sym (rights.period_is m.by m.by_in)) m.holds;
     }
 
@@ -60,8 +60,8 @@ module _ (left_here right_here left_there right_there : List Column) (on_here on
         record {
           by = y;
           by_in = y_in;
-          matches = match_here left_here right_here left_there right_there on_here on_there left right left_of right_of
-              left_id right_id lefts rights x y (left_of x) m.by x_in y_in refl y_is m.matches;
+          matches = (alike x y x_in y_in).1
+              (subst (λ (v : Row). MatchesOn left_there right_there on_there (left_of x) v) (sym y_is) m.matches);
           holds = subst (λ (p : Period). Holds p t) (rights.period_is y y_in) held;
         }
 
@@ -112,19 +112,23 @@ module _ (left_here right_here left_there right_there : List Column) (on_here on
   -- both are ordered alike
   rows_alike : (a b : AntiRow) → anti_cmp (anti_row_of left_id a) (anti_row_of left_id b) ≡ anti_cmp a b
   rows_alike a b =
-      λ i. ordering_then (risen_cmp left_id lefts.rises a.id b.id i)
+      λ i. ordering_then (ids_alike left_of left_id left lefts a.id b.id i)
       (ordering_then (int_cmp a.period.from b.period.from) (int_cmp a.period.to b.period.to))
 
 -- whatever the columns
-pub anti_is_of_stand_ins : AntiIsOfStandIns
-anti_is_of_stand_ins left_here right_here left_there right_there on_here on_there left right left_of right_of left_id
-    right_id rows lefts rights =
+pub anti_is_of_codes : AntiIsOfCodes
+anti_is_of_codes left_here right_here left_there right_there on_here on_there left right left_of right_of left_id
+    right_id rows lefts rights alike =
     answers_there AntiRowBefore (IsAntiRow (MatchesOn left_here right_here on_here) left right)
     (IsAntiRow (MatchesOn left_there right_there on_there) (map left_of left) (map right_of right))
     (anti_row_of left_id) rows
     (λ a b before. rows_alike left_here right_here left_there right_there on_here on_there left right left_of right_of
-    left_id right_id lefts rights a b ∙ before)
+    left_id right_id lefts rights alike a b ∙ before)
     (row_there left_here right_here left_there right_there on_here on_there left right left_of right_of left_id right_id
-    lefts rights)
+    lefts rights alike)
     (row_here left_here right_here left_there right_there on_here on_there left right left_of right_of left_id right_id
-    lefts rights)
+    lefts rights alike)
+
+pub anti_is_of_stand_ins : AntiIsOfStandIns
+anti_is_of_stand_ins =
+    stand_ins_of_codes AntiRowBefore IsAntiRow (λ (left_id right_id : ℕ → ℕ). anti_row_of left_id) anti_is_of_codes

@@ -10,7 +10,7 @@ ghost use Rattle.merge_core.specs.Gaps.{IsMaximal};
 ghost use Rattle.anti_core.specs.declared.rows.AntiRow.{AntiRow};
 ghost use Rattle.anti_core.specs.Anti.{IsAnti, IsBordered, IsUnmet};
 ghost use Rattle.anti_core.specs.AntiLots.{LotAntiIsOfWhole, LotAntisAreApart, WholeAntiIsOfLots};
-ghost use Rattle.anti_core.specs.AntiStandIns.{AntiIsOfStandIns};
+ghost use Rattle.anti_core.specs.AntiStandIns.{AntiIsOfCodes, AntiIsOfStandIns};
 
 /// Any rows of two tables have exactly one anti-join by the same columns.
 pub fn anti_has_one_list()
@@ -50,4 +50,11 @@ pub fn anti_is_that_of_its_lots()
 /// the anti-join of these. So a run that numbers the rows of a lot anew, by their order, answers the lot's anti-join.
 pub fn anti_is_that_of_stand_ins()
     ensures { AntiIsOfStandIns }
+{}
+
+/// Rows can be anti-joined as others with numbers in place of what is compared, where a left and a right row match exactly
+/// where those do that they stand for. They have the periods of these, and ids that rise with theirs. The anti-join of
+/// those, with the ids given back, is the anti-join of these. Whether a program outside numbers values so is not said here.
+pub fn anti_is_that_of_codes()
+    ensures { AntiIsOfCodes }
 {}

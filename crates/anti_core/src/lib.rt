@@ -21,7 +21,7 @@ mod united;
 pub use anti_joins::anti;
 pub use gap_pairs::{GapPairs, GapWork};
 pub use laws::{
-    anti_has_one_list, anti_is_that_of_its_lots, anti_is_that_of_stand_ins,
+    anti_has_one_list, anti_is_that_of_codes, anti_is_that_of_its_lots, anti_is_that_of_stand_ins,
     unmet_periods_are_bordered,
 };
 pub use rows::{AntiRow, AntiRows};

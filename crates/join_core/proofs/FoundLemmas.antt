@@ -33,7 +33,7 @@ use Rattle.join_core.specs.PairValues.{AddsFirstPairs}
 use Rattle.join_core.proofs.ItemLemmas.{AreItemsRows-append, AreItemsRows-none}
 use Rattle.join_core.proofs.JoinedLemmas.{AreItemsRows-of_pairs}
 use Rattle.join_core.proofs.LeastLemmas.{crowded}
-use Rattle.join_core.proofs.TurnLemmas.{all_turns-within}
+use Rattle.join_core.proofs.TurnLemmas.{all_turns-within, mul-add}
 
 -- ---- parts
 
@@ -113,10 +113,6 @@ least-upto items parts k divided most =
     omega (arith, held, all)
 
 -- ---- advances
-
--- a product with a sum
-mul-add : (a b c : ℕ) → a * (b + c) ≡ a * b + a * c
-mul-add a b c = grind arith
 
 -- bounds by some items and by others
 bound-more : (k m a b c d u v turns more : ℕ) → u ≡ a + c → v ≡ b + d → turns ≤ m * a + k * b

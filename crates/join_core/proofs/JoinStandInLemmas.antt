@@ -7,13 +7,12 @@ use Rattle.row_core.specs.declared.row.Row.{Row}
 use Rattle.row_core.specs.declared.schema.Column.{Column}
 use Rattle.list_core.proofs.MadeLemmas.{Contains-map, Contains-map_source}
 use Rattle.match_core.specs.Columns.{MatchesOn}
-use Rattle.match_core.specs.Lots.{left_values, right_values}
-use Rattle.match_core.specs.StandIns.{StandFor}
-use Rattle.match_core.proofs.StandInLemmas.{answers_there, match_here, match_there, risen_cmp}
+use Rattle.match_core.specs.StandIns.{MatchAlike, StandFor}
+use Rattle.match_core.proofs.StandInLemmas.{answers_there, ids_alike, stand_ins_of_codes}
 use Rattle.merge_core.specs.Hits.{IsShared}
 use Rattle.join_core.specs.declared.rows.JoinRow.{JoinRow}
 use Rattle.join_core.specs.Join.{IsJoinRow, RowBefore, join_cmp}
-use Rattle.join_core.specs.JoinStandIns.{JoinIsOfStandIns, join_row_of}
+use Rattle.join_core.specs.JoinStandIns.{JoinIsOfCodes, JoinIsOfStandIns, join_row_of}
 use Rattle.join_core.proofs.OrderLemmas.{JoinRow-same_fields}
 
 -- what two periods share, equal periods do
@@ -23,8 +22,10 @@ shared_alike a b c d p e f shared =
 
 module _ (left_here right_here left_there right_there : List Column) (on_here on_there : List NamePair)
     (left right : List Row) (left_of right_of : Row → Row) (left_id right_id : ℕ → ℕ)
-    (lefts : StandFor (left_values left_here on_here) (left_values left_there on_there) left_of left_id left)
-    (rights : StandFor (right_values right_here on_here) (right_values right_there on_there) right_of right_id right) where
+    (lefts : StandFor left_of left_id left)
+    (rights : StandFor right_of right_id right)
+    (alike : MatchAlike (MatchesOn left_here right_here on_here) (MatchesOn left_there right_there on_there) left_of right_of
+    left right) where
   -- a row of the join of those that stand for others
   abbrev IsRowHere : JoinRow → Type 0
   IsRowHere = IsJoinRow (MatchesOn left_here right_here on_here) left right
@@ -42,8 +43,7 @@ module _ (left_here right_here left_there right_there : List Column) (on_here on
     y_in = Contains-map right_of right is.y is.y_in;
     left_id = ap left_id is.left_id ∙ sym (lefts.id_is is.x is.x_in);
     right_id = ap right_id is.right_id ∙ sym (rights.id_is is.y is.y_in);
-    matches = match_there left_here right_here left_there right_there on_here on_there left right left_of right_of
-        left_id right_id lefts rights is.x is.y is.x_in is.y_in is.matches;
+    matches = (alike is.x is.y is.x_in is.y_in).0 is.matches;
     shared = shared_alike is.x.period is.y.period (left_of is.x).period (right_of is.y).period row.period
         (sym (lefts.period_is is.x is.x_in)) (sym (rights.period_is is.y is.y_in)) is.shared;
   }
@@ -63,8 +63,9 @@ module _ (left_here right_here left_there right_there : List Column) (on_here on
           y_in = y_in;
           left_id = refl;
           right_id = refl;
-          matches = match_here left_here right_here left_there right_there on_here on_there left right left_of right_of
-              left_id right_id lefts rights x y is.x is.y x_in y_in x_is y_is is.matches;
+          matches = (alike x y x_in y_in).1
+              (subst (λ (v : Row). MatchesOn left_there right_there on_there v (right_of y)) (sym x_is)
+              (subst (λ (v : Row). MatchesOn left_there right_there on_there is.x v) (sym y_is) is.matches));
           shared = shared_alike is.x.period is.y.period x.period y.period row.period
               (ap (λ (v : Row). v.period) (sym x_is) ∙ lefts.period_is x x_in)
               (ap (λ (v : Row). v.period) (sym y_is) ∙ rights.period_is y y_in) is.shared;
@@ -78,18 +79,21 @@ module _ (left_here right_here left_there right_there : List Column) (on_here on
   rows_alike : (a b : JoinRow) → join_cmp (join_row_of left_id right_id a) (join_row_of left_id right_id b) ≡ join_cmp a b
   rows_alike a b =
       λ i. ordering_then (ordering_then (int_cmp a.period.from b.period.from) (int_cmp a.period.to b.period.to))
-      (ordering_then (risen_cmp left_id lefts.rises a.left b.left i) (risen_cmp right_id rights.rises a.right b.right i))
+      (ordering_then (ids_alike left_of left_id left lefts a.left b.left i) (ids_alike right_of right_id right rights a.right b.right i))
 
 -- whatever the columns
-pub join_is_of_stand_ins : JoinIsOfStandIns
-join_is_of_stand_ins left_here right_here left_there right_there on_here on_there left right left_of right_of left_id
-    right_id rows lefts rights =
+pub join_is_of_codes : JoinIsOfCodes
+join_is_of_codes left_here right_here left_there right_there on_here on_there left right left_of right_of left_id
+    right_id rows lefts rights alike =
     answers_there RowBefore (IsJoinRow (MatchesOn left_here right_here on_here) left right)
     (IsJoinRow (MatchesOn left_there right_there on_there) (map left_of left) (map right_of right))
     (join_row_of left_id right_id) rows
     (λ a b before. rows_alike left_here right_here left_there right_there on_here on_there left right left_of right_of
-    left_id right_id lefts rights a b ∙ before)
+    left_id right_id lefts rights alike a b ∙ before)
     (row_there left_here right_here left_there right_there on_here on_there left right left_of right_of left_id right_id
-    lefts rights)
+    lefts rights alike)
     (row_here left_here right_here left_there right_there on_here on_there left right left_of right_of left_id right_id
-    lefts rights)
+    lefts rights alike)
+
+pub join_is_of_stand_ins : JoinIsOfStandIns
+join_is_of_stand_ins = stand_ins_of_codes RowBefore IsJoinRow join_row_of join_is_of_codes

@@ -49,7 +49,7 @@ none-turns [] e = refl
 none-turns (o ∷ outs) e = absurd (omega arith)
 
 -- a product with a sum
-mul-add : (a b c : ℕ) → a * (b + c) ≡ a * b + a * c
+pub mul-add : (a b c : ℕ) → a * (b + c) ≡ a * b + a * c
 mul-add a b c = grind arith
 
 -- the advances of all pairs, by the numbers of their parts

@@ -1,6 +1,6 @@
 -- The join of rows that stand for others, beside the join of those.
 use Rattle.std.specs.Prelude.{ℕ}
-use Rattle.match_core.specs.StandIns.{AnswersAreOfStandIns}
+use Rattle.match_core.specs.StandIns.{AnswersAreOfCodes, AnswersAreOfStandIns}
 use Rattle.join_core.specs.Join.{IsJoinRow, RowBefore}
 use Rattle.join_core.specs.declared.rows.JoinRow.{JoinRow}
 
@@ -12,3 +12,7 @@ join_row_of left_id right_id row =
 -- the join of rows that stand for others is, with the ids of these, the join of these
 abbrev pub JoinIsOfStandIns : Type 0
 JoinIsOfStandIns = AnswersAreOfStandIns RowBefore IsJoinRow join_row_of
+
+-- so is that of rows that match exactly where these do
+abbrev pub JoinIsOfCodes : Type 0
+JoinIsOfCodes = AnswersAreOfCodes RowBefore IsJoinRow join_row_of

@@ -8,7 +8,7 @@ ghost use Rattle.match_core.specs.Columns.{MatchesOn};
 ghost use Rattle.join_core.specs.declared.rows.JoinRow.{JoinRow};
 ghost use Rattle.join_core.specs.Join.{IsJoin};
 ghost use Rattle.join_core.specs.JoinLots.{LotJoinIsOfWhole, LotJoinsAreApart, WholeJoinIsOfLots};
-ghost use Rattle.join_core.specs.JoinStandIns.{JoinIsOfStandIns};
+ghost use Rattle.join_core.specs.JoinStandIns.{JoinIsOfCodes, JoinIsOfStandIns};
 
 /// The rows of two tables have exactly one join by given columns.
 pub fn join_has_one_list()
@@ -38,4 +38,11 @@ pub fn join_is_that_of_its_lots()
 /// these. So a run that numbers the rows of a lot anew, by their order, answers the lot's join.
 pub fn join_is_that_of_stand_ins()
     ensures { JoinIsOfStandIns }
+{}
+
+/// Rows can be joined as others with numbers in place of what is compared, where a left and a right row match exactly
+/// where those do that they stand for. They have the periods of these, and ids that rise with theirs. The join of those,
+/// with the ids given back, is the join of these. Whether a program outside numbers values so is not said here.
+pub fn join_is_that_of_codes()
+    ensures { JoinIsOfCodes }
 {}

@@ -18,5 +18,7 @@ mod tiles;
 pub use item_join::JoinAnswer;
 pub use join_pairs::{JoinOut, JoinPairs, JoinWork};
 pub use joins::join;
-pub use laws::{join_has_one_list, join_is_that_of_its_lots, join_is_that_of_stand_ins};
+pub use laws::{
+    join_has_one_list, join_is_that_of_codes, join_is_that_of_its_lots, join_is_that_of_stand_ins,
+};
 pub use rows::{JoinRow, JoinRows};

@@ -3,8 +3,9 @@ use Rattle.std.proofs.Common.{◌≡◌, ℕ, zero, suc, List, [], ◌∷◌, Op
 use Rattle.std.specs.Prelude.{All, slice_get}
 use Rattle.std.specs.Ordering.{nat_cmp, ordering_then}
 use Rattle.std.specs.declared.cmp.Ordering.{Ordering}
-use Rattle.std.specs.declared.cmp.Ordering.TheVariants.{Less, Equal, Greater}
+use Rattle.std.specs.declared.cmp.Ordering.TheVariants.{Equal}
 use Rattle.std.proofs.lemmas.Cmp.{nat_cmp_total, ranked, tied_itself}
+use Rattle.list_core.proofs.OrderedLemmas.{both_tie}
 use Rattle.row_core.specs.Value.{kind_of}
 use Rattle.row_core.specs.declared.value.Kind.{Kind}
 use Rattle.row_core.specs.declared.value.Value.{Value}
@@ -17,12 +18,6 @@ use Rattle.match_core.proofs.CellOrder.{SameCell}
 pub one_value : (column : List (Option Value)) (i : ℕ) (v w : Value) → slice_get column i ≡ Some (Some v)
     → slice_get column i ≡ Some (Some w) → v ≡ w
 one_value column i v w h k = let e : ◌≡◌ {A = Option (Option Value)} (Some (Some v)) (Some (Some w)) = sym h ∙ k in cc
-
--- where one order behind another ties, each ties
-both_tie : (r s : Ordering) → ordering_then r s ≡ Equal → (r ≡ Equal) × (s ≡ Equal)
-both_tie Less s tied = absurd (cc)
-both_tie Greater s tied = absurd (cc)
-both_tie Equal s tied = (refl, tied)
 
 -- classes that are one tie
 one_class : (c d : ℕ) → c ≡ d → nat_cmp c d ≡ Equal

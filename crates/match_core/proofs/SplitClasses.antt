@@ -86,7 +86,7 @@ same_kinds kind.Text kind.Int h = absurd (cc)
 same_kinds kind.Text kind.Text h = refl
 
 -- kinds that are the same are one
-kind_is : (k l : Kind) → same_kind k l ≡ true → k ≡ l
+pub kind_is : (k l : Kind) → same_kind k l ≡ true → k ≡ l
 kind_is kind.Int kind.Int h = refl
 kind_is kind.Int kind.Text h = absurd (cc)
 kind_is kind.Text kind.Int h = absurd (cc)

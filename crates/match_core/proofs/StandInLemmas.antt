@@ -11,7 +11,7 @@ use Rattle.row_core.specs.declared.row.Row.{Row}
 use Rattle.row_core.specs.declared.schema.Column.{Column}
 use Rattle.match_core.specs.Columns.{MatchesOn}
 use Rattle.match_core.specs.Lots.{left_values, right_values}
-use Rattle.match_core.specs.StandIns.{StandFor}
+use Rattle.match_core.specs.StandIns.{AnswersAreOfCodes, AnswersAreOfStandIns, KeepValues, MatchAlike, StandFor}
 use Rattle.match_core.proofs.SentLemmas.{rows_match_by_values}
 
 -- numbers as they are compared
@@ -25,13 +25,14 @@ nat_more m n h = grind (arith, nat_tests)
 nat_order : (m n : ℕ) → (m < n) ⊎ ((m ≡ n) ⊎ (n < m))
 nat_order m n = grind arith
 
--- a function that rises keeps the order of numbers
-pub risen_cmp : (f : ℕ → ℕ) → ((m n : ℕ) → m < n → f m < f n) → (m n : ℕ) → nat_cmp (f m) (f n) ≡ nat_cmp m n
-risen_cmp f rises m n = elim (nat_order m n) [
-  | inl less ↦ nat_less (f m) (f n) (rises m n less) ∙ sym (nat_less m n less)
+-- ids of rows that stand for others are ordered as those of these
+pub ids_alike : (row_of : Row → Row) (f : ℕ → ℕ) (rows : List Row) → StandFor row_of f rows → (m n : ℕ)
+    → nat_cmp (f m) (f n) ≡ nat_cmp m n
+ids_alike row_of f rows stand m n = elim (nat_order m n) [
+  | inl less ↦ nat_less (f m) (f n) (stand.rises m n less) ∙ sym (nat_less m n less)
   | inr other ↦ elim other [
     | inl same ↦ same_cmp m n same
-    | inr more ↦ nat_more (f m) (f n) (rises n m more) ∙ sym (nat_more m n more)
+    | inr more ↦ nat_more (f m) (f n) (stand.rises n m more) ∙ sym (nat_more m n more)
   ]
 ]
   where
@@ -56,24 +57,31 @@ answers_there Before Here There f xs alike there here is = record {
   );
 }
 
-module _ (left_here right_here left_there right_there : List Column) (on_here on_there : List NamePair)
-    (left right : List Row) (left_of right_of : Row → Row) (left_id right_id : ℕ → ℕ)
-    (lefts : StandFor (left_values left_here on_here) (left_values left_there on_there) left_of left_id left)
-    (rights : StandFor (right_values right_here on_here) (right_values right_there on_there) right_of right_id right) where
-  -- rows match where those that they stand for do
-  pub match_here : (x y v w : Row) → Contains left x → Contains right y → left_of x ≡ v → right_of y ≡ w
-      → MatchesOn left_there right_there on_there v w → MatchesOn left_here right_here on_here x y
-  match_here x y v w x_in y_in x_is y_is matches =
-      (rows_match_by_values left_here right_here on_here x y).1
-      (sym (lefts.values_are x x_in) ∙ ap (left_values left_there on_there) x_is
-      ∙ (rows_match_by_values left_there right_there on_there v w).0 matches
-      ∙ sym (ap (right_values right_there on_there) y_is) ∙ rights.values_are y y_in)
+-- rows with the compared values of those that they stand for match as these do
+match_alike : (left_here right_here left_there right_there : List Column) (on_here on_there : List NamePair)
+    (left right : List Row) (left_of right_of : Row → Row)
+    → KeepValues (left_values left_here on_here) (left_values left_there on_there) left_of left
+    → KeepValues (right_values right_here on_here) (right_values right_there on_there) right_of right
+    → MatchAlike (MatchesOn left_here right_here on_here) (MatchesOn left_there right_there on_there) left_of right_of
+    left right
+match_alike left_here right_here left_there right_there on_here on_there left right left_of right_of lefts rights x y x_in
+    y_in =
+    (λ matches.
+        ((rows_match_by_values left_there right_there on_there (left_of x) (right_of y)).1
+        (lefts x x_in ∙ (rows_match_by_values left_here right_here on_here x y).0 matches ∙ sym (rights y y_in))),
+    λ matches.
+        ((rows_match_by_values left_here right_here on_here x y).1
+        (sym (lefts x x_in)
+        ∙ (rows_match_by_values left_there right_there on_there (left_of x) (right_of y)).0 matches
+        ∙ rights y y_in)))
 
-  -- and the other way round
-  pub match_there : (x y : Row) → Contains left x → Contains right y → MatchesOn left_here right_here on_here x y
-      → MatchesOn left_there right_there on_there (left_of x) (right_of y)
-  match_there x y x_in y_in matches =
-      (rows_match_by_values left_there right_there on_there (left_of x) (right_of y)).1
-      (lefts.values_are x x_in
-      ∙ (rows_match_by_values left_here right_here on_here x y).0 matches
-      ∙ sym (rights.values_are y y_in))
+-- so what holds of rows that match as those do that they stand for holds of rows with the compared values of these
+pub stand_ins_of_codes : {X : Type 0} (Before : X → X → Type 0)
+    (Wanted : (Row → Row → Type 0) → List Row → List Row → X → Type 0) (with_ids : (ℕ → ℕ) → (ℕ → ℕ) → X → X)
+    → AnswersAreOfCodes Before Wanted with_ids → AnswersAreOfStandIns Before Wanted with_ids
+stand_ins_of_codes Before Wanted with_ids law left_here right_here left_there right_there on_here on_there left right
+    left_of right_of left_id right_id answers lefts rights left_values_are right_values_are =
+    law left_here right_here left_there right_there on_here on_there left right left_of right_of left_id right_id answers
+    lefts rights
+    (match_alike left_here right_here left_there right_there on_here on_there left right left_of right_of left_values_are
+    right_values_are)

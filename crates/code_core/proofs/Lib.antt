@@ -1,2 +1,0 @@
-pub mod AntiCodeLemmas
-pub mod JoinCodeLemmas

@@ -1,5 +1,0 @@
-use Rattle.code_core.proofs.AntiCodeLemmas.{anti_is_of_codes}
-use Rattle.code_core.proofs.laws.anti_is_that_of_codes.Goals as goal
-
-pub returns : goal.returns
-returns c = anti_is_of_codes
