@@ -38,7 +38,7 @@ use Rattle.round_core.specs.declared.plateau.Plateau.{Plateau}
 use Rattle.round_core.specs.Plateaus.{HasValue, IsPlateau, PlateauBefore, measured, of_class}
 use Rattle.round_core.proofs.PlateauExistence.{some_tally}
 use Rattle.agg_core.specs.declared.rows.AggRow.{AggRow}
-use Rattle.agg_core.specs.declared.func.Func.{Func}
+use Rattle.row_core.specs.declared.func.Func.{Func}
 use Rattle.agg_core.specs.Agg.{AreAggRows, ComeTo, HoldAndComeTo, IsAgg, IsAggRow, amount_in, measure_of, number_column, amount_of_value, rows_on, value_in}
 use Rattle.agg_core.specs.Entries.{HaveValues, amount_at, place_in, value_at_place}
 use Rattle.agg_core.specs.Groups.{AggRowBefore, rows_of_group}

@@ -17,8 +17,8 @@ use Rattle.match_core.specs.declared.columns.QueryRefused.TheVariants.{NoColumn,
 use Rattle.round_core.specs.declared.measure.Measure.{Measure}
 use Rattle.round_core.specs.declared.measure.Measure.TheVariants as measure
 use Rattle.agg_core.specs.Groups.{AggRowBefore, rows_of_group}
-use Rattle.agg_core.specs.declared.func.Func.{Func}
-use Rattle.agg_core.specs.declared.func.Func.TheVariants.{Count, Sum, Min, Max}
+use Rattle.row_core.specs.declared.func.Func.{Func}
+use Rattle.row_core.specs.declared.func.Func.TheVariants.{Count, Sum, Min, Max}
 use Rattle.agg_core.specs.declared.rows.AggRow.{AggRow}
 
 -- what is asked of numbers

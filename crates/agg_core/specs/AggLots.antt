@@ -9,7 +9,7 @@ use Rattle.list_core.specs.Wanted.{IsListOf}
 use Rattle.match_core.specs.Lots.{IsInSome, rows_sent}
 use Rattle.agg_core.specs.Agg.{IsAgg, value_in}
 use Rattle.agg_core.specs.Groups.{AggRowBefore}
-use Rattle.agg_core.specs.declared.func.Func.{Func}
+use Rattle.row_core.specs.declared.func.Func.{Func}
 use Rattle.agg_core.specs.declared.rows.AggRow.{AggRow}
 
 -- rows of one group are sent to one lot

@@ -6,7 +6,7 @@ use Rattle.row_core.specs.declared.row.Row.{Row}
 use Rattle.row_core.specs.declared.schema.Column.{Column}
 use Rattle.row_core.specs.declared.value.Value.{Value}
 use Rattle.agg_core.specs.Agg.{IsAgg, amount_in, measure_of, value_in}
-use Rattle.agg_core.specs.declared.func.Func.{Func}
+use Rattle.row_core.specs.declared.func.Func.{Func}
 use Rattle.agg_core.specs.declared.rows.AggRow.{AggRow}
 
 -- each of some rows has the period, the amount and the group of the row that a function gives

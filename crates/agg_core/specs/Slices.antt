@@ -10,7 +10,7 @@ use Rattle.list_core.specs.Wanted.{IsListOf}
 use Rattle.merge_core.specs.Gaps.{IsMaximal}
 use Rattle.agg_core.specs.Agg.{HoldAndComeTo, IsAgg, amount_in, measure_of, value_in}
 use Rattle.agg_core.specs.Groups.{AggRowBefore, rows_of_group}
-use Rattle.agg_core.specs.declared.func.Func.{Func}
+use Rattle.row_core.specs.declared.func.Func.{Func}
 use Rattle.agg_core.specs.declared.rows.AggRow.{AggRow}
 
 -- the row with another period

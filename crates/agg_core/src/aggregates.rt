@@ -6,14 +6,14 @@ ghost use Rattle.work_core.specs.Limits.{worker_limit};
 ghost use Rattle.agg_core.specs.Agg.{AreAggRows, IsAgg, agg_refusal};
 ghost use Rattle.agg_core.specs.Entries.{amount_at, place_in, value_at_place};
 
-use crate::func::{Asked, Func, agg_refusal, measure_of, number_column};
+use crate::func::{Asked, agg_refusal, measure_of, number_column};
 use crate::group_rows::rows_by_group;
 use crate::keys::{Numbers, Texts};
 use crate::one_group::rows_of_one_group;
 use crate::rows::AggRows;
 use match_core::{QueryRefused, Side};
 use period_core::NoMemory;
-use row_core::{Failure, Kind, Name, Schema};
+use row_core::{Failure, Func, Kind, Name, Schema};
 use std::alloc::Global;
 use std::thread::Threads;
 use work_core::{Crew, Gate};

@@ -1,4 +1,4 @@
-//! What an aggregate asks of the rows that hold, and why it can't be asked.
+//! What an aggregate asks of a tally and of which column, and why it can't be asked.
 
 ghost use Rattle.std.specs.Prelude.{◌≡◌};
 ghost use Rattle.row_core.specs.Refusals.{first_of};
@@ -6,20 +6,7 @@ ghost use Rattle.agg_core.specs.Agg.{agg_refusal, group_tests, measure_of, numbe
 
 use match_core::QueryRefused;
 use round_core::Measure;
-use row_core::{Kind, Name, Schema};
-
-/// What an aggregate asks of the rows that hold an instant.
-#[derive(Clone, Copy, Debug)]
-pub enum Func {
-    /// How many they are.
-    Count,
-    /// The sum of their numbers in that column.
-    Sum(Name),
-    /// The least of their numbers in that column.
-    Min(Name),
-    /// The greatest of their numbers in that column.
-    Max(Name),
-}
+use row_core::{Func, Kind, Name, Schema};
 
 /// What is asked of rows: what the numbers that they have at a place come to, where one is given.
 #[derive(Clone, Copy)]

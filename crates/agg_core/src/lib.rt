@@ -14,10 +14,10 @@ mod one_group;
 mod rows;
 
 pub use aggregates::agg;
-pub use func::Func;
 pub use laws::{
     agg_has_one_list, agg_is_that_of_its_lots, agg_is_that_of_its_slices, agg_is_that_of_ranks,
     agg_is_that_of_stand_ins,
 };
 pub use round_core::{Plateau, Plateaus};
+pub use row_core::Func;
 pub use rows::{AggRow, AggRowRef, AggRows, AggShare};

@@ -5,8 +5,8 @@ use Rattle.row_core.specs.Refusals.{and_then, map_ok}
 use Rattle.command_core.specs.Fields.{both_ok, name_in}
 use Rattle.command_core.specs.Records.{Record}
 use Rattle.command_core.specs.declared.aggregate.Aggregate.{Aggregate}
-use Rattle.command_core.specs.declared.aggregate.Func.{Func}
-use Rattle.command_core.specs.declared.aggregate.Func.TheVariants.{Count, Sum, Min, Max}
+use Rattle.row_core.specs.declared.func.Func.{Func}
+use Rattle.row_core.specs.declared.func.Func.TheVariants.{Count, Sum, Min, Max}
 use Rattle.command_core.specs.declared.refusal.Refusal.{Refusal}
 use Rattle.command_core.specs.declared.refusal.Refusal.TheVariants.{BadCommand}
 

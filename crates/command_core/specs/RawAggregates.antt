@@ -1,8 +1,8 @@
 -- An aggregate whose names have not been tested, as fields in memory name it.
 use Rattle.std.specs.Prelude.{option_map}
 use Rattle.command_core.specs.declared.aggregate.Aggregate.{Aggregate}
-use Rattle.command_core.specs.declared.aggregate.Func.{Func}
-use Rattle.command_core.specs.declared.aggregate.Func.TheVariants.{Count, Sum, Min, Max}
+use Rattle.row_core.specs.declared.func.Func.{Func}
+use Rattle.row_core.specs.declared.func.Func.TheVariants.{Count, Sum, Min, Max}
 use Rattle.command_core.specs.declared.aggregate.RawAggregate.{RawAggregate}
 use Rattle.command_core.specs.declared.aggregate.RawFunc.{RawFunc}
 use Rattle.command_core.specs.declared.aggregate.RawFunc.TheVariants as raw

@@ -18,20 +18,7 @@ use crate::fields::name_in;
 use crate::line::Line;
 use crate::refusal::Refusal;
 use crate::words::begins;
-use row_core::Name;
-
-/// What is asked of the rows that hold an instant.
-#[derive(Clone, Copy, Debug)]
-pub enum Func {
-    /// How many they are.
-    Count,
-    /// The sum of their numbers in that column.
-    Sum(Name),
-    /// The least of their numbers in that column.
-    Min(Name),
-    /// The greatest of their numbers in that column.
-    Max(Name),
-}
+use row_core::{Func, Name};
 
 /// A function of the rows of a table, group by group.
 #[derive(Clone, Copy, Debug)]

@@ -21,7 +21,7 @@ mod statement;
 mod table_command;
 mod words;
 
-pub use aggregate::{Aggregate, Func};
+pub use aggregate::Aggregate;
 pub use command::Command;
 pub use fields::natural_in;
 pub use flat_fields::FlatFields;

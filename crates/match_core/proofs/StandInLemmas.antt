@@ -65,15 +65,16 @@ match_alike : (left_here right_here left_there right_there : List Column) (on_he
     → MatchAlike (MatchesOn left_here right_here on_here) (MatchesOn left_there right_there on_there) left_of right_of
     left right
 match_alike left_here right_here left_there right_there on_here on_there left right left_of right_of lefts rights x y x_in
-    y_in =
-    (λ matches.
-        ((rows_match_by_values left_there right_there on_there (left_of x) (right_of y)).1
-        (lefts x x_in ∙ (rows_match_by_values left_here right_here on_here x y).0 matches ∙ sym (rights y y_in))),
-    λ matches.
-        ((rows_match_by_values left_here right_here on_here x y).1
-        (sym (lefts x x_in)
-        ∙ (rows_match_by_values left_there right_there on_there (left_of x) (right_of y)).0 matches
-        ∙ rights y y_in)))
+    y_in = (
+      λ matches.
+          ((rows_match_by_values left_there right_there on_there (left_of x) (right_of y)).1
+          (lefts x x_in ∙ (rows_match_by_values left_here right_here on_here x y).0 matches ∙ sym (rights y y_in))),
+      λ matches.
+          ((rows_match_by_values left_here right_here on_here x y).1
+          (sym (lefts x x_in)
+          ∙ (rows_match_by_values left_there right_there on_there (left_of x) (right_of y)).0 matches
+          ∙ rights y y_in)),
+    )
 
 -- so what holds of rows that match as those do that they stand for holds of rows with the compared values of these
 pub stand_ins_of_codes : {X : Type 0} (Before : X → X → Type 0)

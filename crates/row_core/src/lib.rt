@@ -5,6 +5,7 @@
 mod draft;
 mod failure;
 mod fields;
+mod func;
 mod name;
 mod number;
 mod reading;
@@ -17,6 +18,7 @@ mod value_ref;
 pub use draft::Draft;
 pub use failure::Failure;
 pub use fields::Fields;
+pub use func::Func;
 pub use list_core::{DeepCopy, List, copy_each};
 pub use name::{BadName, Name};
 pub use number::{BadNumber, read_number};

@@ -39,7 +39,7 @@ use Rattle.answer_core.specs.declared.answer.Answer.TheVariants as answer
 use Rattle.script_core.specs.Answer.{AnswersOne, AnswersChange, AnswersQuery, IsAggOf, IsAnswerTo, IsAntiOf, IsDipOf, IsJoinOf, IsVerdictOn, IsVersions, Refuses}
 use Rattle.script_core.specs.Refusal.{book_refusal}
 use Rattle.agg_core.specs.Agg.{rows_on}
-use Rattle.script_core.specs.Effects.{TableRows, aggregated_told, change_in, claim_of, columns_told, delete_in, agg_func, load_in, load_told, make_in, pairs_told, rows_told, sides_told, update_in, versions_told}
+use Rattle.script_core.specs.Effects.{TableRows, aggregated_told, change_in, claim_of, columns_told, delete_in, load_in, load_told, make_in, pairs_told, rows_told, sides_told, update_in, versions_told}
 use Rattle.script_core.proofs.AnswerUniqueness.{both_ok-first, not_Ok, rise-told}
 
 -- ---- a change that is made keeps the history legal
@@ -149,7 +149,7 @@ some_anti_answer left right on =
 
 some_agg_answer : (table : TableRows) (asked : Aggregate) → Told (IsAggOf table asked)
 some_agg_answer table asked =
-    let (rows, aggregated) = some_aggregate table.0 (agg_func asked.func) asked.by table.1 in
+    let (rows, aggregated) = some_aggregate table.0 asked.func asked.by table.1 in
     record {
       given = answer.Agg rows;
       is = record { rows = rows; aggregated = aggregated; is = refl };

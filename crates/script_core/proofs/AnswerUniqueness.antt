@@ -32,7 +32,7 @@ use Rattle.answer_core.specs.declared.answer.Answer.{Answer}
 use Rattle.answer_core.specs.declared.answer.Answer.TheVariants as answer
 use Rattle.script_core.specs.Answer.{AnswersOne, AnswersChange, AnswersQuery, IsAggOf, IsAnswerTo, IsAntiOf, IsDipOf, IsJoinOf, IsVerdictOn, IsVersions, Refuses}
 use Rattle.agg_core.specs.Agg.{rows_on}
-use Rattle.script_core.specs.Effects.{TableRows, aggregated_told, claim_of, delete_in, agg_func, load_in, make_in, rows_told, sides_told, update_in, versions_told}
+use Rattle.script_core.specs.Effects.{TableRows, aggregated_told, claim_of, delete_in, load_in, make_in, rows_told, sides_told, update_in, versions_told}
 
 -- ---- what queries are answered
 
@@ -66,7 +66,7 @@ one_agg_of : (table : TableRows) (asked : Aggregate) (one other : Answer) → Is
 one_agg_of table asked one other p q =
     p.is
     ∙ (ap answer.Agg
-    (one_aggregate table.0 (agg_func asked.func) asked.by table.1 p.rows q.rows p.aggregated q.aggregated)
+    (one_aggregate table.0 asked.func asked.by table.1 p.rows q.rows p.aggregated q.aggregated)
     ∙ sym q.is)
 
 one_verdict_on : (items : List Item) (claim : List (List ℕ)) (certificate : Certificate) (one other : Answer)

@@ -14,7 +14,7 @@ use Rattle.row_core.specs.declared.row.Row.{Row}
 use Rattle.row_core.specs.declared.schema.Column.{Column}
 use Rattle.script_core.specs.Failure.{Failure, IsFailureOf}
 use Rattle.script_core.specs.Performing.{IsShown}
-use Rattle.script_core.specs.Effects.{TableRows, aggregated_told, columns_told, agg_func, rows_told, sides_told, table_told}
+use Rattle.script_core.specs.Effects.{TableRows, aggregated_told, columns_told, rows_told, sides_told, table_told}
 
 -- its rows and its columns
 pub table-read : (number : ℕ) (h : History) (asof : Option ℕ) (name : List ℕ) (columns : List Column) (rows : List Row)
@@ -49,7 +49,7 @@ compared-read number h asof tables left right one other allowed =
 
 -- one, whose rows come to what is asked
 pub aggregated-read : (number : ℕ) (h : History) (asof : Option ℕ) (asked : Aggregate) (table : TableRows)
-    → table_told number h asof asked.table ≡ Ok table → agg_refusal table.0 (agg_func asked.func) asked.by ≡ None
+    → table_told number h asof asked.table ≡ Ok table → agg_refusal table.0 asked.func asked.by ≡ None
     → aggregated_told number h asof asked ≡ Ok table
 aggregated-read number h asof asked table read allowed = rw (read, allowed) refl
 

@@ -26,7 +26,7 @@ use Rattle.command_core.specs.declared.refusal.Fault.{Fault}
 use Rattle.answer_core.specs.PrintedRecords.{IsPrintedAs, together_record}
 use Rattle.answer_core.specs.declared.answer.Answer.{Answer}
 use Rattle.answer_core.specs.declared.answer.Answer.TheVariants as answer
-use Rattle.script_core.specs.Effects.{TableRows, aggregated_told, claim_of, delete_in, agg_func, load_in, make_in, rows_told, sides_told, update_in, versions_told}
+use Rattle.script_core.specs.Effects.{TableRows, aggregated_told, claim_of, delete_in, load_in, make_in, rows_told, sides_told, update_in, versions_told}
 
 -- the answer is the dip of the items
 pub record IsDipOf (items : List Item) (given : Answer) : Type 0 where
@@ -50,7 +50,7 @@ pub record IsAntiOf (left right : TableRows) (on : List NamePair) (given : Answe
 -- the answer is what the rows of a table come to, group by group
 pub record IsAggOf (table : TableRows) (asked : Aggregate) (given : Answer) : Type 0 where
   pub rows : List AggRow
-  pub aggregated : IsAgg table.0 (agg_func asked.func) asked.by table.1 rows
+  pub aggregated : IsAgg table.0 asked.func asked.by table.1 rows
   pub is : given ≡ answer.Agg rows
 
 -- the answer is the versions that are asked for

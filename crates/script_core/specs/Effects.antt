@@ -24,11 +24,7 @@ use Rattle.command_core.specs.Records.{Record}
 use Rattle.command_core.specs.Refusal.{fault}
 use Rattle.command_core.specs.Words.{begins}
 use Rattle.command_core.specs.declared.aggregate.Aggregate.{Aggregate}
-use Rattle.command_core.specs.declared.aggregate.Func.{Func}
-use Rattle.command_core.specs.declared.aggregate.Func.TheVariants.{Count, Sum, Min, Max}
 use Rattle.agg_core.specs.Agg.{agg_refusal}
-use Rattle.agg_core.specs.declared.func.Func as agg
-use Rattle.agg_core.specs.declared.func.Func.TheVariants as func
 use Rattle.command_core.specs.declared.refusal.Fault.{Fault}
 use Rattle.command_core.specs.declared.refusal.Refusal.{Refusal}
 use Rattle.command_core.specs.declared.refusal.Refusal.TheVariants.{BadCommand, NoColumn, NoTable}
@@ -139,20 +135,13 @@ sides_told number h asof tables =
     (option_map (λ refused. fault number (query_refusal refused)) (columns_refusal left.0 right.0 tables.on))
     (left, right)))
 
--- what is asked of the rows that hold, as a command says it
-abbrev pub agg_func : Func → agg.Func
-agg_func Count = func.Count
-agg_func (Sum column) = func.Sum column
-agg_func (Min column) = func.Min column
-agg_func (Max column) = func.Max column
-
 -- a table whose rows come to what is asked, or the fault of the command of this number: of the table, or of the
 -- columns
 abbrev pub aggregated_told : ℕ → History → Option ℕ → Aggregate → Result TableRows Fault
 aggregated_told number h asof asked =
     and_then (table_told number h asof asked.table) (λ table.
     refused_or
-    (option_map (λ refused. fault number (query_refusal refused)) (agg_refusal table.0 (agg_func asked.func) asked.by))
+    (option_map (λ refused. fault number (query_refusal refused)) (agg_refusal table.0 asked.func asked.by))
     table)
 
 -- whether the versions of a table may be read, between two commits that are in order, or the fault of

@@ -14,7 +14,7 @@ ghost use Rattle.script_core.specs.Ledgers.{commit_shown, ShowsAll};
 ghost use Rattle.script_core.specs.Performing.{FailsToCompare, Gives, IsShown};
 ghost use Rattle.store_core.specs.Snapshots.{history};
 ghost use Rattle.agg_core.specs.Agg.{rows_on};
-ghost use Rattle.script_core.specs.Effects.{agg_func, aggregated_told, claim_of, columns_told, rows_told, sides_told, versions_told};
+ghost use Rattle.script_core.specs.Effects.{aggregated_told, claim_of, columns_told, rows_told, sides_told, versions_told};
 ghost use Rattle.answer_core.specs.declared.answer.Answer.TheVariants.{Rows};
 
 use crate::claims::read_claim;
@@ -25,7 +25,7 @@ use answer_core::{Answer, Joined, Unmatched};
 use anti_core::anti;
 use book_core::SharedRows;
 use cert_core::{Certificate, Claim, check_division};
-use command_core::{Aggregate, Func, Lines, Refusal, TwoTables};
+use command_core::{Aggregate, Lines, Refusal, TwoTables};
 use join_core::join;
 use period_core::{NoMemory, Point};
 use query_core::{Side, dip, items};
@@ -237,7 +237,6 @@ pub(crate) fn agg_table<T: Threads + Sync>(
         (aggregated_told number (history snapshot.now) (commit_shown snapshot.now) aggregate)
         (λ table. IsAggOf table aggregate) result }
 {
-    let func = agg_func(&aggregate.func);
     let (schema, rows) = shown_table(snapshot, number, aggregate.table)?;
     let side = Side {
         schema,
@@ -249,21 +248,9 @@ pub(crate) fn agg_table<T: Threads + Sync>(
         workers,
         gate,
     } = crew_for(crew, rows.len());
-    match agg(rt, alloc, side, func, aggregate.by, workers, gate) {
+    match agg(rt, alloc, side, aggregate.func, aggregate.by, workers, gate) {
         Ok(rows) => Ok(Answer::Agg(rows)),
         Err(why) => Err(failure_at(number, why)),
-    }
-}
-
-/// What is asked of the rows that hold, as a command says it.
-fn agg_func(func: &Func) -> agg_core::Func
-    ensures { result ≡ agg_func func.now }
-{
-    match func {
-        Func::Count => agg_core::Func::Count,
-        Func::Sum(column) => agg_core::Func::Sum(*column),
-        Func::Min(column) => agg_core::Func::Min(*column),
-        Func::Max(column) => agg_core::Func::Max(*column),
     }
 }
 

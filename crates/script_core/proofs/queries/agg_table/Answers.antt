@@ -15,7 +15,7 @@ returns-in-Ok g c =
     let (_, told, is) = c.in_ok-schema.ensures.gives in
     let read = table-read number h asof asked.table table.0 table.1 (told ∙ ap Ok (sym is))
     c.in_ok-schema.ensures.columns in
-    let answered = rw c.agg_func-func.ensures at c.in-Ok.ensures in (
+    let answered = c.in-Ok.ensures in (
       table,
       aggregated-read number h asof asked table read answered.0,
       record { rows = c.in-Ok.rows; aggregated = answered.1; is = refl },
