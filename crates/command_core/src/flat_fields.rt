@@ -60,10 +60,19 @@ impl FlatFields {
         ensures { option_map (λ s. s.now) result ≡ slice_get self.now place }
     {
         if place < self.ends.len() {
-            Some(part_at(&self.bytes, &self.ends, place))
+            Some(self.at(place))
         } else {
             None
         }
+    }
+
+    /// The field at that place, from 0, which is there.
+    #[inline(always)]
+    pub(crate) fn at(&self, place: usize) -> &[u8]
+        requires { place < length self.now }
+        ensures { slice_get self.now place ≡ Some result.now }
+    {
+        part_at(&self.bytes, &self.ends, place)
     }
 
     /// The last one, if there are any.

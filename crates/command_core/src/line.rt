@@ -2,6 +2,7 @@
 ghost use Rattle.std.specs.Prelude.{◌≡◌, ◌-◌, ◌≤◌, length, take, drop, slice_get, option_map};
 
 use crate::flat_fields::FlatFields;
+use row_core::Fields;
 
 /// One record of a script.
 #[derive(Clone, Copy)]
@@ -57,5 +58,22 @@ impl<'a> Line<'a> {
             from: self.from + from,
             to: self.from + to,
         }
+    }
+}
+
+/// A row is read from a record as it lies among others.
+impl Fields for Line<'_> {
+    ghost use Rattle.command_core.specs.Lines.{fields_in};
+
+    ghost fields = { fields_in };
+
+    #[inline(always)]
+    fn count(&self) -> usize {
+        self.len()
+    }
+
+    #[inline(always)]
+    fn field(&self, place: usize) -> &[u8] {
+        self.fields.at(self.from + place)
     }
 }

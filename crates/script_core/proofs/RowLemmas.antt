@@ -1,5 +1,5 @@
 -- One more row of a load, read behind others.
-use Rattle.std.proofs.Common.{◌≡◌, ◌∙◌, ℕ, [], ◌∷◌, ◌++◌, Result, Ok, Err, true, ap, drop, refl, sym}
+use Rattle.std.proofs.Common.{◌≡◌, ◌∙◌, ◌≤◌, ℕ, List, [], ◌∷◌, ◌++◌, Result, Ok, Err, true, ap, arith, drop, length, refl, sym}
 use Rattle.std.specs.Prelude.{codes}
 use Rattle.row_core.specs.Reading.{row_of}
 use Rattle.row_core.specs.Refusals.{IsAnswer, map_err, map_ok}
@@ -17,6 +17,11 @@ use Rattle.script_core.specs.Refusal.{row_refusal}
 -- those that were read, and one more
 abbrev with_row : RowsRead → Draft → RowsRead
 with_row before row = record before { rows = before.rows ++ row ∷ [] }
+
+-- a record that begins with a word has a field
+pub begun : (word : List ℕ) (line : Record) → begins word line ≡ true → 1 ≤ length line
+begun word [] e = absurd (cc)
+begun word (first ∷ rest) e = omega arith
 
 -- a record of a load that begins with its word is what its other fields give
 row_told : (before : RowsRead) (line fields : Record) (read : Result Draft RowRefused)

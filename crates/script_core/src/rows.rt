@@ -1,5 +1,5 @@
 //! The rows of a load.
-ghost use Rattle.std.specs.Prelude.{◌≡◌, ◌+◌, ◌<◌, ◌^◌, ◌++◌, ◌∷◌, [], IfOk, OnOk, Ok, MatchResult, drop, length, map};
+ghost use Rattle.std.specs.Prelude.{◌≡◌, ◌+◌, ◌<◌, ◌^◌, ◌++◌, ◌∷◌, [], IfOk, Ok, MatchResult, length};
 ghost use Rattle.std.specs.List.{enumerate_from};
 ghost use Rattle.share_core.specs.Pieces.{piece};
 ghost use Rattle.row_core.specs.declared.draft.Draft.{Draft as AnyDraft};
@@ -18,25 +18,11 @@ use std::alloc::{AllocError, Global};
 use std::thread::Threads;
 use work_core::{Crew, OpenGate};
 
-/// Puts the fields behind a record's word in place of those that are there.
-fn take_fields<'a>(fields: &mut Vec<&'a [u8]>, line: Line<'a>) -> Result<(), AllocError>
-    ensures { OnOk result (map (λ f. f.now) fields.new.items ≡ drop 1 (fields_in line.entry)) }
-{
-    fields.clear();
-    for place in 1..line.len() {
-        if let Some(field) = line.get(place) {
-            fields.push(field)?;
-        }
-    }
-    Ok(())
-}
-
-/// The rows so far, and that of one more record of a load, whose number is this one. The record's
-/// fields are kept in `fields`, whose room serves one record after another.
-fn read_next<'a, 's>(
+/// The rows so far, and that of one more record of a load, whose number is this one. The fields behind its
+/// word are read where they lie.
+fn read_next<'s>(
     reader: RowReader<'s>,
-    fields: &mut Vec<&'a [u8]>,
-    line: Line<'a>,
+    line: Line<'_>,
     number: u64,
 ) -> Result<RowReader<'s>, Failure>
     ensures { MatchResult result
@@ -47,8 +33,7 @@ fn read_next<'a, 's>(
     if !begins(line, b"row") {
         return Err(refused(number, Refusal::BadCommand));
     }
-    take_fields(fields, line)?;
-    match reader.read(fields) {
+    match reader.read(line.range(1, line.len())) {
         Ok(more) => Ok(more),
         Err(why) => Err(failure_at(number, why)),
     }
@@ -67,10 +52,9 @@ fn rows_of_records(
         (IsFailureOf (loaded_rows schema.now number (lines_in lines.entry))) }
 {
     let mut reader = RowReader::new(alloc, schema);
-    let mut fields = Vec::new(alloc);
     for place in 0..lines.len() {
         let line = lines.get(place);
-        reader = read_next(reader, &mut fields, line, number + place as u64)?;
+        reader = read_next(reader, line, number + place as u64)?;
     }
     Ok(reader.into_rows())
 }

@@ -88,13 +88,16 @@ fn fields(alloc: Global, texts: &[&[u8]]) -> Result<Vec<Field>, Ended> {
 fn read_rows(alloc: Global) -> Result<(), Ended> {
     let schema = columns(alloc)?;
     let right = fields(alloc, &[b"2024-01-01", b"2024-01-02", b"-7", b"y"])?;
-    let draft = schema.read_row(alloc, &right)?;
+    let draft = schema.read_row(alloc, right.as_slice())?;
     let want = [Value::Int(-7), text(alloc, b"y")?];
     holds(draft.period == day()? && draft.values.as_slice() == want.as_slice())?;
     let backwards = fields(alloc, &[b"2024-01-02", b"2024-01-01", b"x", b"y"])?;
     let narrow = backwards.get(..3).ok_or(Ended::Wrong)?;
     refuses(schema.read_row(alloc, narrow), RowRefused::WrongWidth)?;
-    refuses(schema.read_row(alloc, &backwards), RowRefused::BadPeriod)
+    refuses(
+        schema.read_row(alloc, backwards.as_slice()),
+        RowRefused::BadPeriod,
+    )
 }
 
 // Reads a row behind another, and refuses a third.
@@ -103,12 +106,14 @@ fn read_more_rows(alloc: Global) -> Result<(), Ended> {
     let long = b"a text of more than fourteen bytes";
     let first = fields(alloc, &[b"2024-01-01", b"2024-01-02", b"7", long])?;
     let second = fields(alloc, &[b"2024-01-02", b"2024-01-03", b"8", b"y"])?;
-    let reader = RowReader::new(alloc, &schema).read(&first)?.read(&second)?;
+    let reader = RowReader::new(alloc, &schema)
+        .read(first.as_slice())?
+        .read(second.as_slice())?;
     let rows = reader.into_rows();
     let values = rows.get(1).ok_or(Ended::Wrong)?.values(alloc)?;
     let want = [Value::Int(8), text(alloc, b"y")?];
     holds(rows.len() == 2 && values.as_slice() == want.as_slice())?;
-    let reader = RowReader::new(alloc, &schema).read(&first)?;
+    let reader = RowReader::new(alloc, &schema).read(first.as_slice())?;
     let narrow = first.get(..3).ok_or(Ended::Wrong)?;
     refuses(reader.read(narrow), RowRefused::WrongWidth)
 }

@@ -129,7 +129,7 @@ fn reads_rows(rt: HostRuntime) {
         field(&rt, b"-7"),
         field(&rt, b"y"),
     ];
-    let draft = schema.read_row(rt.alloc(), &fields).expect(&rt, "a row");
+    let draft = schema.read_row(rt.alloc(), &fields[..]).expect(&rt, "a row");
     assert!(rt; draft.period == day(&rt));
     assert!(rt; are_both(draft.values.as_slice(), -7, b"y"));
     assert!(rt; schema.fits(&draft.values));
@@ -156,13 +156,13 @@ fn reads_rows_one_after_another(rt: HostRuntime) {
     let mut reader = RowReader::new(rt.alloc(), &schema);
     for number in 0..2_100 {
         let fields = fields_of(&rt, number, number % 20);
-        reader = reader.read(&fields).expect(&rt, "a row");
+        reader = reader.read(&fields[..]).expect(&rt, "a row");
     }
     let rows = reader.into_rows();
     assert!(rt; rows.len() == 2_100);
     for number in [0, 14, 15, 2_047, 2_048, 2_099] {
         let fields = fields_of(&rt, number, number % 20);
-        let alone = schema.read_row(rt.alloc(), &fields).expect(&rt, "a row");
+        let alone = schema.read_row(rt.alloc(), &fields[..]).expect(&rt, "a row");
         let row = rows.get(number).expect(&rt, "the row");
         let values = row.values(rt.alloc()).expect(&rt, "memory");
         assert!(rt; row.period() == alone.period);
@@ -176,7 +176,7 @@ fn refuses_rows(rt: HostRuntime) {
     let fields = [&b"2024-01-02"[..], b"2024-01-01", b"x", b"y"];
     let narrow = schema.read_row(rt.alloc(), &fields[..3]).err();
     assert!(rt; narrow == Some(Failure::Refused(RowRefused::WrongWidth)));
-    let backwards = schema.read_row(rt.alloc(), &fields).err();
+    let backwards = schema.read_row(rt.alloc(), &fields[..]).err();
     assert!(rt; backwards == Some(Failure::Refused(RowRefused::BadPeriod)));
 }
 
