@@ -1,3 +1,4 @@
 pub mod ColumnLemmas
 pub mod KindLemmas
+pub mod ReachedLemmas
 pub mod TextsLemmas

@@ -1,4 +1,5 @@
 pub mod Columns
 pub mod Drafts
 pub mod Lent
+pub mod Reached
 pub mod RowsRead

@@ -1,11 +1,12 @@
 //! Rows of the same kinds of values, which lie by columns.
 
-ghost use Rattle.std.specs.Prelude.{◌≡◌, ◌↔◌, ◌==◌, ◌<◌, ◌≤◌, ◌+◌, ◌++◌, ◌∷◌, [], ℕ, Some, drop, get_or, length, map, option_map, slice_get, IfErr, IfOk, IsTrue, List, OnErr, OnOk, Ok, Err};
-ghost use Rattle.std.specs.List.{list_all};
+ghost use Rattle.std.specs.Prelude.{◌≡◌, ◌↔◌, ◌==◌, ◌<◌, ◌≤◌, ◌+◌, ◌++◌, ◌∷◌, [], ℕ, Some, drop, get_or, length, map, option_map, slice_get, All, IfErr, IfOk, IsTrue, List, OnErr, OnOk, Ok, Err};
+ghost use Rattle.std.specs.List.{list_all, list_any};
 ghost use Rattle.std.specs.Option.{option_copied};
 ghost use Rattle.row_core.specs.Schema.{fits};
 ghost use Rattle.draft_core.specs.Columns.{AreLong, Keep, draft_of, kind_of_column, kinds_fit, values_at, values_of_column};
 ghost use Rattle.draft_core.specs.Lent.{no_draft};
+ghost use Rattle.draft_core.specs.Reached.{is_met, is_reached};
 ghost use Rattle.row_core.specs.Lent.{lent_value};
 ghost use Rattle.row_core.specs.Reading.{row_of, values_of};
 ghost use Rattle.row_core.specs.Refusals.{Reads};
@@ -122,6 +123,14 @@ impl Columns {
         self.periods[place]
     }
 
+    /// Whether the portion shares an instant with a row at one of the places.
+    pub(crate) fn any_reached(&self, portion: &Period, places: &[u32]) -> bool
+        requires { All (λ place. place < length self.now.rows) places.now }
+        ensures { result ≡ list_any (is_reached portion.now self.now.rows) places.now }
+    {
+        any_met(&self.periods, portion, places)
+    }
+
     /// The value of the row at that place in a column; none past the last.
     #[inline(always)]
     pub(crate) fn value_at(&self, place: usize, column: usize) -> Option<ValueRef<'_>>
@@ -233,6 +242,19 @@ impl DeepCopy for Columns {
             values: copy_columns(alloc, &self.values)?,
         })
     }
+}
+
+/// Whether the portion shares an instant with a period at one of the places. This writes nothing and doesn't
+/// branch at a period, so that it takes the same short time wherever they lie.
+fn any_met(periods: &[Period], portion: &Period, places: &[u32]) -> bool
+    requires { All (λ place. place < length periods.now) places.now }
+    ensures { result ≡ list_any (is_met portion.now periods.now) places.now }
+{
+    let mut any = false;
+    for place in places {
+        any |= periods[*place as usize].overlaps(*portion);
+    }
+    any
 }
 
 /// Whether the values are of the columns' kinds.

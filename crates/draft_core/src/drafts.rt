@@ -1,10 +1,11 @@
 //! Rows that are to be loaded.
 
-ghost use Rattle.std.specs.Prelude.{◌≡◌, ◌↔◌, ◌⊎◌, ◌<◌, ◌==◌, ◌++◌, ◌∷◌, [], get_or, length, map, option_map, slice_get, IfOk, IsNone, MatchOption, OnErr, OnOk, Some};
-ghost use Rattle.std.specs.List.{list_all};
+ghost use Rattle.std.specs.Prelude.{◌≡◌, ◌↔◌, ◌⊎◌, ◌<◌, ◌==◌, ◌++◌, ◌∷◌, [], get_or, length, map, option_map, slice_get, All, IfOk, IsNone, MatchOption, OnErr, OnOk, Some};
+ghost use Rattle.std.specs.List.{list_all, list_any};
 ghost use Rattle.draft_core.specs.Columns.{Takes};
 ghost use Rattle.draft_core.specs.Drafts.{AreAlike, CanFollow, TakesRow, TakesRows, drafts_in};
 ghost use Rattle.draft_core.specs.Lent.{lent_draft, no_draft};
+ghost use Rattle.draft_core.specs.Reached.{is_reached};
 ghost use Rattle.row_core.specs.Lent.{lent_value};
 ghost use Rattle.row_core.specs.Schema.{fits};
 ghost use Rattle.row_core.specs.Value.{kind_of};
@@ -150,6 +151,18 @@ impl Drafts {
         }
     }
 
+    /// Whether the portion shares an instant with a draft at one of the places. Of drafts that lie by
+    /// columns it reads the periods alone.
+    pub fn any_reached(&self, portion: &Period, places: &[u32]) -> bool
+        requires { All (λ place. place < length self.now) places.now }
+        ensures { result ≡ list_any (is_reached portion.now self.now) places.now }
+    {
+        match &self.form {
+            Form::Alike(columns) => columns.any_reached(portion, places),
+            Form::Apart(drafts) => any_reached(drafts, portion, places),
+        }
+    }
+
     /// When the draft at that place holds.
     #[inline(always)]
     pub(crate) fn period_at(&self, place: usize) -> Period
@@ -231,6 +244,18 @@ fn copy_form(alloc: Global, form: &Form) -> Result<Form, NoMemory>
         Form::Alike(columns) => Ok(Form::Alike(columns.copy(alloc)?)),
         Form::Apart(drafts) => Ok(Form::Apart(copy_each(alloc, drafts)?)),
     }
+}
+
+/// Whether the portion shares an instant with a draft at one of the places.
+fn any_reached(drafts: &[Draft], portion: &Period, places: &[u32]) -> bool
+    requires { All (λ place. place < length drafts.now) places.now }
+    ensures { result ≡ list_any (is_reached portion.now drafts.now) places.now }
+{
+    let mut any = false;
+    for place in places {
+        any |= drafts[*place as usize].period.overlaps(*portion);
+    }
+    any
 }
 
 /// The value of the draft at that place in a column; none past the last.

@@ -12,7 +12,8 @@ use Rattle.list_core.proofs.PlaceLemmas.{slice_get-before, slice_get-seam}
 use Rattle.key_core.proofs.Replaced.{append-parts}
 use Rattle.row_core.specs.declared.row.Row.{Row}
 use Rattle.row_core.specs.declared.schema.Column.{Column}
-use Rattle.version_core.specs.Finding.{AreCandidates, ListsOpen, any_row, is_reached, passes, portion_of}
+use Rattle.draft_core.specs.Reached.{is_reached}
+use Rattle.version_core.specs.Finding.{AreCandidates, ListsOpen, any_row, passes, portion_of}
 use Rattle.version_core.specs.OpenVersions.{closed, current, is_open, is_taken, places_from, versions_after}
 use Rattle.version_core.specs.Made.{made}
 use Rattle.table_core.specs.Numbered.{numbered, row_of}

@@ -3,7 +3,6 @@ use Rattle.std.specs.Prelude.{◌≡◌, ℕ, ◌+◌, ◌<◌, List, [], length
 use Rattle.period_core.specs.Period.{meet}
 use Rattle.period_core.specs.declared.period.Period.{Period}
 use Rattle.row_core.specs.Schema.{column_of}
-use Rattle.row_core.specs.declared.draft.Draft.{Draft}
 use Rattle.row_core.specs.declared.row.Row.{Row}
 use Rattle.row_core.specs.declared.schema.Column.{Column}
 use Rattle.row_core.specs.declared.value.Value.{Value}
@@ -111,11 +110,6 @@ portion_of (Make table schema) = None
 portion_of (Load table rows) = None
 portion_of (Update table portion sets conds) = Some portion
 portion_of (Delete table portion conds) = Some portion
-
--- the row at a place shares an instant with the portion
-abbrev pub is_reached : Period → List Draft → ℕ → Bool
-is_reached portion rows place =
-    unwrap_or (option_map (λ (row : Draft). is_some (meet row.period portion)) (slice_get rows place)) false
 
 -- the values of all rows that the change takes out fall into the bucket
 abbrev pub IsLookupOf : Change → List Column → Lookup → Type 0

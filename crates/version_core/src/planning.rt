@@ -1,8 +1,7 @@
 //! What a change of a portion does to versions, worked out before it is done.
 
 ghost use Rattle.std.specs.Prelude.{◌≡◌, ◌≤◌, ◌<◌, ◌++◌, [], length, filter, All, IfOk, OnOk};
-ghost use Rattle.std.specs.List.{list_any};
-ghost use Rattle.version_core.specs.Finding.{AreCandidates, is_reached, passes};
+ghost use Rattle.version_core.specs.Finding.{AreCandidates, passes};
 ghost use Rattle.version_core.specs.Limits.{version_limit};
 ghost use Rattle.version_core.specs.OpenVersions.{current, is_taken};
 ghost use Rattle.version_core.specs.Plans.{IsPlanOf, parts_at};
@@ -12,7 +11,6 @@ use crate::change::Change;
 use crate::seeker::Seeker;
 use crate::stored::StoredVersions;
 use draft_core::Drafts;
-use period_core::Period;
 use row_core::NoMemory;
 use std::alloc::Global;
 use table_core::RowRef;
@@ -81,7 +79,7 @@ pub(crate) fn plan_change(
     };
     let (rows, _) = versions.rows_and_spans();
     for block in places.chunks(BLOCK) {
-        if any_reached(rows, &portion, block) {
+        if rows.any_reached(&portion, block) {
             plan_block(alloc, &mut plan, seeker, versions, block)?;
         }
     }
@@ -99,19 +97,6 @@ impl Plan {
             taken: Vec::new(alloc),
         }
     }
-}
-
-/// Whether the portion shares an instant with a row at one of the places. This writes nothing and doesn't
-/// branch at a row, so that it takes the same short time wherever the periods lie.
-fn any_reached(rows: &Drafts, portion: &Period, places: &[u32]) -> bool
-    requires { All (λ place. place < length rows.now) places.now }
-    ensures { result ≡ list_any (is_reached portion.now rows.now) places.now }
-{
-    let mut any = false;
-    for place in places {
-        any |= rows.at(*place as usize).period().overlaps(*portion);
-    }
-    any
 }
 
 /// Adds to the plan what the change does at those places.

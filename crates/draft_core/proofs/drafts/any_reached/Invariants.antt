@@ -1,0 +1,8 @@
+use Rattle.std.proofs.Common.{◌≡◌, take}
+use Rattle.std.specs.List.{list_any}
+use Rattle.draft_core.specs.Reached.{is_reached}
+use Rattle.draft_core.proofs.drafts.any_reached.Given as goal
+
+-- whether one of the places so far is reached
+abbrev pub invariant-loop-place : goal.invariant-loop-place
+invariant-loop-place l = l.any ≡ list_any (is_reached l.portion l.drafts) (take l.place-index l.places)

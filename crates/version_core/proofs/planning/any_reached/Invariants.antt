@@ -1,8 +1,0 @@
-use Rattle.std.proofs.Common.{◌≡◌, take}
-use Rattle.std.specs.List.{list_any}
-use Rattle.version_core.specs.Finding.{is_reached}
-use Rattle.version_core.proofs.planning.any_reached.Given as goal
-
--- whether one of the places so far is reached
-abbrev pub invariant-loop-place : goal.invariant-loop-place
-invariant-loop-place l = l.any ≡ list_any (is_reached l.portion l.rows) (take l.place-index l.places)
