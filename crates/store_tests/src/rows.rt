@@ -129,7 +129,9 @@ fn reads_rows(rt: HostRuntime) {
         field(&rt, b"-7"),
         field(&rt, b"y"),
     ];
-    let draft = schema.read_row(rt.alloc(), &fields[..]).expect(&rt, "a row");
+    let draft = schema
+        .read_row(rt.alloc(), &fields[..])
+        .expect(&rt, "a row");
     assert!(rt; draft.period == day(&rt));
     assert!(rt; are_both(draft.values.as_slice(), -7, b"y"));
     assert!(rt; schema.fits(&draft.values));
@@ -162,7 +164,9 @@ fn reads_rows_one_after_another(rt: HostRuntime) {
     assert!(rt; rows.len() == 2_100);
     for number in [0, 14, 15, 2_047, 2_048, 2_099] {
         let fields = fields_of(&rt, number, number % 20);
-        let alone = schema.read_row(rt.alloc(), &fields[..]).expect(&rt, "a row");
+        let alone = schema
+            .read_row(rt.alloc(), &fields[..])
+            .expect(&rt, "a row");
         let row = rows.get(number).expect(&rt, "the row");
         let values = row.values(rt.alloc()).expect(&rt, "memory");
         assert!(rt; row.period() == alone.period);
