@@ -84,7 +84,7 @@ class Verdicts(unittest.TestCase):
             ("-", "no,Overlap,3,4", "No: rows 3 and 4 are in one part, and overlap."),
         ]:
             found = answers.of(script.format(instant).encode(), f"ok,1\nok,2\n{printed}\n".encode())
-            self.assertEqual(verdicts.told(found[-1]), sentence)
+            self.assertEqual(verdicts.sentence_of(found[-1]), sentence)
 
 
 if __name__ == "__main__":

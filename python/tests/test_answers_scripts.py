@@ -69,7 +69,7 @@ class Scripts(unittest.TestCase):
             for answer in found:
                 if answer.refusal:
                     with self.subTest(script.name, line=answer.line):
-                        told = refusals.told(answer)
+                        told = refusals.described(answer)
                         self.assertIn(f": {answer.refusal.name}: ", told)
                         self.assertNotIn("\n", told)
                         if answer.refusal.name == "KeyOverlap":

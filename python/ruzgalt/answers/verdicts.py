@@ -16,7 +16,7 @@ YES = "Yes: no two rows of a part overlap, and fewer parts than {parts} can't do
 NOT_CROWDED = "No: {parts} parts are enough, but {which}: it doesn't show that fewer can't do."
 
 
-def told(answer: Answer) -> str:
+def sentence_of(answer: Answer) -> str:
     """The sentence of a check's answer."""
     _, reason, *numbers = next(answer.table.texts())
     parts, instant = answer.command.front[2:4]

@@ -38,7 +38,7 @@ class Notes:
             if doubt:
                 self.found.setdefault((name, doubt.kind), Counted(line, value, doubt.why)).count += 1
 
-    def told(self) -> Iterator[str]:
+    def notes(self) -> Iterator[str]:
         for (name, _), one in self.found.items():
             more = f", and {one.count - 1} more rows" if one.count > 1 else ""
             yield f"{name} is '{visible(one.value)}', and is loaded so: {one.why} (line {one.line}{more})"
@@ -84,7 +84,7 @@ class Ends:
             numbers.extend(map(hash, zip(keys, points)))
         self.counts.update(written)
 
-    def told(self) -> Iterator[str]:
+    def notes(self) -> Iterator[str]:
         starts = set(self.starts)
         # How many rows another one of their key meets.
         on_end, on_next = (sum(map(starts.__contains__, ends)) for ends in (self.same, self.behind))
@@ -149,7 +149,7 @@ class Overwrites:
             elif latest < start:
                 self.latest[key] = start, line
 
-    def told(self) -> Iterator[str]:
+    def notes(self) -> Iterator[str]:
         if self.found:
             line, other = self.found[0]
             more = f"; {len(self.found) - 1} more do so" if len(self.found) > 1 else ""
@@ -177,7 +177,7 @@ class Repeats:
         self.ends.append(ends)
         self.values.extend(map(hash, zip(*values)))
 
-    def told(self) -> Iterator[str]:
+    def notes(self) -> Iterator[str]:
         """Where more than half of such rows overlap they are meant so, as of bookings that are counted."""
         rows = self.repeated()
         if not rows:
@@ -237,7 +237,7 @@ class Twins:
         self.lines.append(lines)
         self.rows.extend(map(hash, rows))
 
-    def told(self) -> Iterator[str]:
+    def notes(self) -> Iterator[str]:
         pair = first_pair(self.rows, self.lines)
         if pair:
             yield of_twins(f"line {pair[0]}", f"line {pair[1]}", len(self.rows) - len(set(self.rows)), self.made)

@@ -51,9 +51,9 @@ class Loads:
                 if other is not None:
                     self.pairs[other] = value
 
-    def told(self) -> Iterator[str]:
+    def notes(self) -> Iterator[str]:
         if not self.are_few:
             return
-        yield from self.ends.told()
+        yield from self.ends.notes()
         if self.pairs:
-            yield looks.told_of(list(self.pairs.items()))
+            yield looks.described(list(self.pairs.items()))

@@ -116,7 +116,7 @@ def fold(value: str) -> str:
     return whole.lstrip("0") or "0" if whole.isdigit() else value
 
 
-def told_of(pairs: Sequence[Tuple[str, str]]) -> str:
+def described(pairs: Sequence[Tuple[str, str]]) -> str:
     """Pairs of texts that look alike, for a person: the first, and how many there are."""
     first, other = (repr(visible(text)) for text in pairs[0])
     more = f" ({len(pairs)} such pairs)" if len(pairs) > 1 else ""

@@ -90,7 +90,7 @@ class Marks:
         if answer.refusal:
             self.add(answer, self.left_out(answer) if word == "load" else None)
             return
-        for note in self.beginnings.told(answer):
+        for note in self.beginnings.notes_of(answer):
             self.add(answer, note)
         if word == "load":
             self.look_at_load(answer)
@@ -150,7 +150,7 @@ class Marks:
                 self.add(answer, of_count(answer, count), "count" if count else "nothing")
                 self.add(answer, of_reach(answer, ends.get(answer.commits)), "reach")
         for loads in self.by_table.values():
-            for note in loads.told():
+            for note in loads.notes():
                 self.add(loads.answers[-1], note)
         for schema in without_key(self.found):
             self.add(last_change_of(self.found, schema.name), of_overlap(schema, replay))
@@ -251,4 +251,4 @@ def like(left: Values, right: Values) -> str:
     pairs = [(values, other) for values, other in found if other is not None]
     if not pairs:
         return ""
-    return f": {looks.told_of([(','.join(values), ','.join(other)) for values, other in pairs])}"
+    return f": {looks.described([(','.join(values), ','.join(other)) for values, other in pairs])}"

@@ -12,7 +12,7 @@ from ruzgalt.script.records import Record, short, to_record, visible
 from ruzgalt.script.schemas import Kind
 
 
-def told(answer: Answer) -> str:
+def described(answer: Answer) -> str:
     """Line, command, field and reason of a refusal, in one line."""
     refusal = answer.refused
     return f"{refusal.record.place}: {short(answer.command.text)}: {refusal.name}: {reason(answer)}"

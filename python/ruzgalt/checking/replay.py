@@ -197,7 +197,7 @@ class Beginnings:
                 if word == "table" or len(answer.command.rows):
                     begun.setdefault(answer.command.record.fields[1], answer.commits)
 
-    def told(self, answer: Answer) -> Iterator[str]:
+    def notes_of(self, answer: Answer) -> Iterator[str]:
         """Names the tables of a query that have no row yet at the commit which its suffix has."""
         if answer.command.as_of is None:
             return

@@ -220,7 +220,7 @@ def do_refusals(options: Namespace) -> int:
     for answer, replay in marks.walk(found):
         found_marks.look(answer, replay)
         if answer.refusal:
-            streams.show_lines([refusals.told(answer)])
+            streams.show_lines([refusals.described(answer)])
             if answer.refusal.name == "KeyOverlap":
                 streams.show_lines(f"  {line}" for line in overlaps.explained(replay, answer))
     for mark in found_marks.end(replay):
@@ -241,7 +241,7 @@ def do_faulty(options: Namespace) -> int:
     others = asking.refused_otherwise(options.program, script)
     if others:
         more = f"{len(others)} refused for no row's fault; `{NAME} refusals` explains"
-        warn(f"{refusals.told(others[0])} ({more})")
+        warn(f"{refusals.described(others[0])} ({more})")
     return 1 if lines or others else 0
 
 

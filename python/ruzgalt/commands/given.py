@@ -54,10 +54,10 @@ def read(options: Namespace, shows_refusals: bool = False, script: Optional[byte
     refused = [answer for answer in found if answer.refusal and not shows_refusals]
     if refused and not options.go_on:
         more = f"{len(refused)} refused; `{called.ANSWERS} refusals` explains, --go-on goes on"
-        raise Misfit(f"{refusals.told(refused[0])} ({more})")
+        raise Misfit(f"{refusals.described(refused[0])} ({more})")
     for answer in refused:
         if answer.command.record.is_asked:
-            raise Misfit(f"{refusals.told(answer)} (--go-on passes over no question that is asked)")
+            raise Misfit(f"{refusals.described(answer)} (--go-on passes over no question that is asked)")
     asked = [answer for answer in found if answer.command.record.is_asked]
     names = names_of(asked, [name for name, _ in named], questions.lines_of(options.ask, own_lines or 0))
     return Found(found, asked, options.answers is None, names, output)
@@ -99,7 +99,7 @@ def look_at(found: Found, taken: Sequence[Answer]) -> None:
         fitting.refuse_unfit(found.answers, taken)
     beginnings = replay.Beginnings(found.answers)
     for answer in taken:
-        for past in beginnings.told(answer):
+        for past in beginnings.notes_of(answer):
             warn(f"{answer.place}: {records.short(answer.command.text)}: {past}")
 
 

@@ -124,7 +124,7 @@ def of_ends(side: Side, key: Sequence[Values], name: Any, is_last_day: bool) -> 
     ends = RowEnds(str(name), ", ".join(str(column.name) for column in key), is_last_day)
     labels = list(side.labels[rows])
     ends.add(labels, keys.tolist(), points.texts_of(start), points.texts_of(end))
-    for told in ends.told():
+    for told in ends.notes():
         doubt(told)
 
 

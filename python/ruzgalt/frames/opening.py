@@ -79,7 +79,8 @@ def bytes_of(given: Given) -> bytes:
 def reason_of(refused: Sequence[Answer]) -> str:
     """What is said of refused changes; nothing where there is none."""
     more = f"; and {len(refused) - NAMED} more" if len(refused) > NAMED else ""
-    return f"refused changes are left out: {'; '.join(map(refusals.told, refused[:NAMED]))}{more}" if refused else ""
+    reasons = "; ".join(map(refusals.described, refused[:NAMED]))
+    return f"refused changes are left out: {reasons}{more}" if refused else ""
 
 
 def command_of(answer: Answer) -> Command:

@@ -48,7 +48,7 @@ class Equals:
         self.met.add(row)
         return not is_met
 
-    def told(self) -> Iterator[str]:
+    def notes(self) -> Iterator[str]:
         if self.count:
             which = "rows were" if self.count > 1 else "row was"
             where = f"the first at line {self.first}" if self.count > 1 else f"line {self.first}"
@@ -257,15 +257,15 @@ class Load:
         """What may not be meant."""
         if not self.rows:
             yield f"no row stands behind the header, so {'the load has none' if self.is_load else 'nothing is changed'}"
-        yield from [*self.notes.told(), *self.ends.told(), *self.twins.told(), *self.notes_of_scales()]
+        yield from [*self.notes.notes(), *self.ends.notes(), *self.twins.notes(), *self.notes_of_scales()]
         if self.left_out:
             yield self.left_out
         if self.is_load and self.options.column and not (self.schema and self.schema.key):
-            yield from self.repeats.told()
-        yield from [*self.notes_of_points(), *self.notes_of_words(), *self.equals.told()]
+            yield from self.repeats.notes()
+        yield from [*self.notes_of_points(), *self.notes_of_words(), *self.equals.notes()]
         yield from self.sheet.notes(self.places[:2], self.places[2:])
         if not self.is_load:
-            yield from [*self.ends.equal_starts(self.options.delete), *self.overwrites.told()]
+            yield from [*self.ends.equal_starts(self.options.delete), *self.overwrites.notes()]
         if self.rows > MOST_ROWS * 9 // 10 or self.bytes > MOST_BYTES * 9 // 10:
             limits = f"a script has {MOST_BYTES:,} bytes at most, a table {MOST_ROWS:,} versions of rows"
             room = f"{self.rows:,} rows in {self.bytes:,} bytes leave little room for corrections"

@@ -200,7 +200,7 @@ def sentence_of(answer: Answer) -> str:
     if answer.command.word == "dip":
         return sentence_of_division(answer.table)
     if answer.command.word == "check":
-        return verdicts.told(answer)
+        return verdicts.sentence_of(answer)
     return ""
 
 
