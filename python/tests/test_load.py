@@ -58,16 +58,16 @@ class Case(unittest.TestCase):
 class LastDays(Case):
     def test_a_start_behind_the_last_day_is_reported_with_lines_and_counts(self) -> None:
         text = rows("A,1,2024-01-01,2024-03-15", "A,2,2024-03-16,2024-06-01")
-        self.noted("1 start on the day behind it (line 3 after line 2): a row doesn't hold on that day any more", text)
+        self.noted("1 start on the day after it (line 3 after line 2): a row no longer holds on that day; ", text)
 
     def test_the_first_of_a_month_elsewhere_hides_no_last_days(self) -> None:
         ends = ["A,1,2024-01-01,2024-03-31", "B,1,2024-01-01,2024-05-31", "C,1,2024-01-01,2024-07-31"]
         ends += ["D,1,2024-01-01,2024-08-31", "E,1,2024-01-01,2024-10-31", "F,1,2024-01-01,2024-07-01"]
-        self.noted("5 ends are last days of a month, and 1 first ones", rows(*ends))
+        self.noted("5 ends are last days of a month, 1 are first days", rows(*ends))
 
     def test_last_day_where_rows_touch_is_reported(self) -> None:
         text = rows("A,1,2024-01-01,2024-03-15", "A,2,2024-03-15,2024-06-02")
-        self.noted("1 start on it (line 3 after line 2): --last-day takes it", text, *WORDS, "--last-day")
+        self.noted("1 start on it (line 3 after line 2): --last-day reads it", text, *WORDS, "--last-day")
 
     def test_a_row_of_one_day_doesn_t_follow_itself(self) -> None:
         text = rows("A,1,2024-01-05,2024-01-05", "B,2,2024-02-07,2024-02-07")
@@ -80,7 +80,7 @@ class LastDays(Case):
             "A,1,2024-01-01,2024-03-15", "A,2,2024-03-15,2024-05-20", "B,1,2024-01-01,2024-03-15",
             "B,2,2024-03-15,2024-05-20", "B,3,2024-05-21,2024-06-20",
         )
-        note = "1 start on the day behind it (line 6 after line 5) and 2 start on it (line 3 after line 2): is it"
+        note = "1 start on the day after it (line 6 after line 5) and 2 start on it (line 3 after line 2): is it"
         self.noted(note, text)
 
     def test_rows_that_touch_are_loaded_without_a_word(self) -> None:
@@ -95,7 +95,7 @@ class LastDays(Case):
 class Separators(Case):
     def test_a_mark_that_could_be_either_is_refused_without_german(self) -> None:
         text = HEADER + 'A,"7,500",2024-01-01,2024-03-05\n'
-        self.refused("line 2: Pay is '7,500': its mark may part", text, *WORDS, "--decimals", "Pay=3")
+        self.refused("line 2: Pay is '7,500': its mark may separate", text, *WORDS, "--decimals", "Pay=3")
 
     def test_a_mark_that_could_be_either_is_refused_with_german(self) -> None:
         text = rows("A,7.500,2024-01-01,2024-03-05")
@@ -114,11 +114,11 @@ class Separators(Case):
 
     def test_three_digits_behind_a_mark_are_refused_where_fewer_may_be(self) -> None:
         for number, words, part in [
-            ("0.500", "", "is '0.500': three digits stand behind its mark, as behind one of thousands, and it has 2 "),
+            ("0.500", "", "is '0.500': three digits follow its mark, as after one of thousands, and it can have 2 "),
             ("0.500", "", "decimals at most: --decimal-mark '.' makes it 0.500"),
             ("4.900", "", "--decimal-mark '.' makes it 4.900, --decimal-mark ',' makes it 4900"),
-            ("-4.900", "", "--decimal-mark ',' makes it -4900"), ("1234.500", "", "three digits stand behind"),
-            ('"1,234.500"', "", "three digits stand behind"), ('"0,500"', "--german", "mark ',' makes it 0.500"),
+            ("-4.900", "", "--decimal-mark ',' makes it -4900"), ("1234.500", "", "three digits follow"),
+            ('"1,234.500"', "", "three digits follow"), ('"0,500"', "--german", "mark ',' makes it 0.500"),
             ("4.905", "", "Pay is '4.905': more than 2 decimals: --decimal-mark ',' makes it 4905"),
         ]:
             for other in ("7", "12,50" if words else "12.50"):
@@ -139,7 +139,8 @@ class Separators(Case):
         self.assertEqual(notes, [])
         for number in ("1'23.50", "12'34'567", "1'234,567.50", "0'500"):
             with self.subTest(number):
-                self.refused("no number as", rows(f'A,"{number}",2024-01-01,2024-03-05'), *WORDS, "--decimals", "Pay=2")
+                text = rows(f'A,"{number}",2024-01-01,2024-03-05')
+                self.refused("not a number such as", text, *WORDS, "--decimals", "Pay=2")
 
     def test_a_unit_is_taken_off_by_the_word_that_the_refusal_has(self) -> None:
         for number, made in [
@@ -149,21 +150,21 @@ class Separators(Case):
             with self.subTest(number):
                 text, words = rows(f"A,{number},2024-01-01,2024-03-05"), [*WORDS, "--decimals", "Pay=2"]
                 _, [note] = load(text, *words)
-                found = re.search("with (--unit .*) it is one", note)
+                found = re.search("; use (--unit .*)", note)
                 self.assertIsNotNone(found, note)
                 more = shlex.split(found[1]) if found else []
                 self.loaded(f"load,pay\nrow,2024-01-01,2024-03-05,A,{made}\nend\n", text, *words, *more)
 
     def test_another_unit_is_reported_as_that(self) -> None:
         text = rows("A,5 €,2024-01-01,2024-03-05", "B,5 $,2024-01-01,2024-03-05")
-        note = "line 3: Pay is '5 $': no number as 1,234.50; with --unit '$' it is one, of the same unit as those of €"
+        note = "line 3: Pay is '5 $': not a number such as 1,234.50; use --unit '$', if it is the same unit as €"
         self.refused(note, text, *WORDS, "--decimals", "Pay=2", "--unit", "€")
 
     def test_numbers_below_zero_have_a_minus_before_them(self) -> None:
         for number in ("(500.00)", "500.00-", "−500"):
             with self.subTest(number):
                 text = rows(f"A,{number},2024-01-01,2024-03-05")
-                self.refused("a number below zero has a minus before it, as -5", text, *WORDS, "--decimals", "Pay=2")
+                self.refused("a number below zero has a minus before it, such as", text, *WORDS, "--decimals", "Pay=2")
 
     def test_cents_that_are_given_as_thousandths_are_noted(self) -> None:
         text = rows("A,7.25,2024-01-01,2024-03-05")
@@ -180,7 +181,7 @@ class LookAlikeTexts(Case):
 
     def test_what_spreadsheets_make_of_numbers_is_reported(self) -> None:
         for value, part in [
-            ('"=""001"""', "a formula of a"), ("1.23E+05", "digits are rounded off"), ("", "it is empty"),
+            ('"=""001"""', "a spreadsheet's formula"), ("1.23E+05", "digits are rounded off"), ("", "it is empty"),
         ]:
             with self.subTest(value):
                 self.noted(part, rows(f"{value},1,2024-01-01,2024-02-05"))
@@ -189,21 +190,21 @@ class LookAlikeTexts(Case):
         for one, other in [("O'Neil", "O’Neil"), ("A-B", "A‑B"), ("A-B", "A–B"), ("A", "\u0410"), ("Gross", "Groß")]:
             with self.subTest(other):
                 text = rows(f"{one},1,2024-01-01,2024-02-05", f"{other},1,2024-03-03,2024-04-05")
-                self.noted(f"it is another text than '{one}', though they look alike", text)
+                self.noted(f"it looks like '{one}', but is another text", text)
 
     def test_what_no_name_has_is_reported(self) -> None:
         for value, part in [
             ("MÃ¼ller", "read in another encoding"), ("GroÃŸ", "another encoding"), ("DaÄŸ", "another encoding"),
-            ("M\ufffdller", "has lost a character"), ("A\x07B", "can't be seen"), ("A\tB", "can't be seen"),
-            ("A\u2028B", "can't be seen"), ("M&uuml;ller", "in a page of the web"), ("NULL", "write it for no value"),
-            ("Summe", "with a sum of others"), ("# B", "or a comment"), ("#REF!", "or a comment"), ("'001", "sign for"),
-            ("1001.0", "a number as 1,234.50"), ("4800.50", "--decimals COLUMN=DIGITS makes it whole"),
+            ("M\ufffdller", "has lost one of its"), ("A\x07B", "can't be seen"), ("A\tB", "can't be seen"),
+            ("A\u2028B", "can't be seen"), ("M&uuml;ller", "as in HTML"), ("NULL", "write it for no value"),
+            ("Summe", "a sum of other rows"), ("# B", "or a comment"), ("#REF!", "or a comment"), ("'001", "sign for"),
+            ("1001.0", "a number such as 1,234.50"), ("4800.50", "--decimals COLUMN=DIGITS makes it whole"),
         ]:
             for count in (0, 100):
                 with self.subTest(value, count=count):
                     others = [f"N{number},1,2024-01-01,2024-03-05" for number in range(count)]
                     text = rows(*others, f"{value},1,2024-01-01,2024-02-05")
-                    self.noted(f"Name is '{visible(value)}', and is loaded so: ", text)
+                    self.noted(f"Name is '{visible(value)}', and is loaded as that: ", text)
                     self.noted(part, text)
 
     def test_a_zero_byte_is_refused_with_its_line(self) -> None:
@@ -237,7 +238,7 @@ class ManyValues(Case):
             names = [*map(form.format, range(1, 300)), other]
             with self.subTest(form):
                 text = rows(*(f"{name},1,2024-01-01,2024-03-05" for name in names))
-                self.noted(f"Name is '{other}', and is loaded so: it is another text than '{form.format(250)}'", text)
+                self.noted(f"Name is '{other}', and is loaded as that: it looks like '{form.format(250)}'", text)
 
     def test_numbers_past_the_store_s_are_refused(self) -> None:
         words = [*WORDS, "--decimals", "Pay=2"]
@@ -265,16 +266,16 @@ class Tables(Case):
         words = ["pay", "Start", "End", "Euros", "Person", "--table", self.RECORD]
         self.refused("Euros is given as column 1, which is person in the table", text, *words)
 
-    def test_a_column_told_twice_is_refused(self) -> None:
+    def test_a_column_given_twice_is_refused(self) -> None:
         self.refused("Name is given twice", rows("A,1,2024-01-01,2024-03-05"), "pay", "Start", "End", "Name", "Name")
 
     def test_too_few_columns_are_refused(self) -> None:
         words = ["pay", "Start", "End", "Name", "--table", self.RECORD]
-        self.refused("1 columns are given, and pay has 2: person, euros", rows("A,1,2024-01-01,2024-03-05"), *words)
+        self.refused("1 columns are given, but pay has 2: person, euros", rows("A,1,2024-01-01,2024-03-05"), *words)
 
     def test_a_value_of_another_kind_is_refused_with_its_line(self) -> None:
         text = rows("A,4.5,2024-01-01,2024-03-05")
-        self.refused("line 2: Pay is '4.5': no number of the table", text, *WORDS, "--table", self.RECORD)
+        self.refused("line 2: Pay is '4.5': not a whole number", text, *WORDS, "--table", self.RECORD)
 
     def test_the_record_is_printed_and_its_names_are_the_columns(self) -> None:
         text = "Euros,Person,Start,End\n1,A,2024-01-01,2024-03-05\n"
@@ -304,11 +305,11 @@ class Dates(Case):
 
     def test_another_form_is_refused_with_its_word(self) -> None:
         for text, part in [
-            ("2024-03-05 00:00:00", "with --dates '2024-12-31 00:00:00'"),
+            ("2024-03-05 00:00:00", "use --dates '2024-12-31 00:00:00'"),
             ("5/3/2024", "--dates 31/12/2024 or --dates 12"),
-            ("20240305", "with --dates 20241231 it is one"), ("45356", "with --dates 45657 it is one"),
-            ("5.3.24", "a year has four digits"), ("2024-03-05T08:00:00Z", "points have no zone"),
-            ("NULL", "--no-end 'NULL' takes it"), ("NaT", "--no-end 'NaT'"), ("unbefristet", "--no-end 'unbef"),
+            ("20240305", "use --dates 20241231"), ("45356", "use --dates 45657"),
+            ("5.3.24", "a year has four digits"), ("2024-03-05T08:00:00Z", "times have no zone here"),
+            ("NULL", "--no-end 'NULL' reads it"), ("NaT", "--no-end 'NaT'"), ("unbefristet", "--no-end 'unbef"),
         ]:
             with self.subTest(text):
                 self.refused(part, rows(f"A,1,2024-01-01,{text}"))
@@ -327,7 +328,7 @@ class Dates(Case):
 
     def test_days_and_months_the_other_way_round_are_reported(self) -> None:
         lines = [f"A{month},1,{month:02}/01/2024,{month + 1:02}/01/2024" for month in range(1, 12)]
-        note = "--dates 12/31/2024 reads all dates too, which are then of 12 months, and not of 1: which is meant?"
+        note = "--dates 12/31/2024 reads all dates too, then in 12 months, not in 1: which is meant?"
         self.noted(note, rows(*lines), *WORDS, "--dates", "31/12/2024")
         _, found = load(rows(*lines), *WORDS, "--dates", "12/31/2024")
         self.assertEqual(found, [])
@@ -338,10 +339,10 @@ class Dates(Case):
         days = [f"{n % 12 + 1:02}/{n * 5 % 12 + 1:02}" for n in range(80)]
         lines = [f"A{n},1,{days[n]}/2024,{days[n + 40]}/2025" for n in range(40)]
         for form, other in [("31/12/2024", "12/31/2024"), ("12/31/2024", "31/12/2024")]:
-            note = f"Start and End: --dates {other} reads all dates too, which are then of 12 months either way"
+            note = f"Start and End: --dates {other} reads all dates too, then in 12 months either way"
             self.noted(note, rows(*lines), *WORDS, "--dates", form)
         text = rows("A,1,04/03/2024 08:00,06/05/2024 08:00")
-        note = "('04/03/2024 08:00', of 2, is 2024-03-04T08:00:00, and would be 2024-04-03T08:00:00)"
+        note = "('04/03/2024 08:00', of 2, is read as 2024-03-04T08:00:00, and would be 2024-04-03T08:00:00)"
         self.noted(note, text, *WORDS, "--dates", "31/12/2024")
 
     def test_first_days_of_months_are_loaded_without_a_word(self) -> None:
@@ -359,7 +360,7 @@ class Dates(Case):
                 self.loaded(wanted, rows(f"A,1,{text},03/25/2024"), *WORDS, "--dates", "12/31/2024")
         for text in ("12/31/2023 13:30 AM", "12/31/2023 00:30 PM", "12/31/2023 AM"):
             with self.subTest(text):
-                self.refused("no date as", rows(f"A,1,{text},03/25/2024"), *WORDS, "--dates", "12/31/2024")
+                self.refused("not a date such as", rows(f"A,1,{text},03/25/2024"), *WORDS, "--dates", "12/31/2024")
 
     def test_the_words_of_a_refusal_make_a_point_of_it(self) -> None:
         """Each refusal has words that can be pasted, and with them the row is loaded."""
@@ -372,9 +373,9 @@ class Dates(Case):
             with self.subTest(text):
                 given = rows(f'A,1,"{text}",2024-03-05')
                 _, [note] = load(given, *WORDS)
-                self.assertRegex(note, "; with .*it is one$")
-                words = [re.sub(",.*", "", one) for one in re.split(" or | and ", note.partition("; with ")[2])]
-                more = shlex.split(" ".join(one.removesuffix(" it is one") for one in words))
+                self.assertIn("; use --", note)
+                words = [re.sub(",.*", "", one) for one in re.split(" or | and ", note.partition("; use ")[2])]
+                more = shlex.split(" ".join(words))
                 printed, _ = load(given, *WORDS, *more)
                 self.assertEqual(printed, f"load,pay\nrow,{made},2024-03-05,A,1\nend\n")
 
@@ -391,11 +392,11 @@ class Dates(Case):
         self.noted("--no-end 'none': no row's", rows("A,1,2024-01-01,"), *WORDS, "--no-end", "none", "--open")
 
     def test_days_that_excel_counts_otherwise_are_refused(self) -> None:
-        self.refused("Start is '00060': no date as", rows("A,1,00060,45000"), *WORDS, "--dates", "45657")
+        self.refused("Start is '00060': not a date such as", rows("A,1,00060,45000"), *WORDS, "--dates", "45657")
 
     def test_a_start_that_isn_t_before_its_end_is_refused(self) -> None:
-        self.refused("line 2: Start is 2024-03-05, and isn't before End, 2024-01-01", rows("A,1,2024-03-05,2024-01-01"))
-        self.refused("2024-01-01; where that is the last day, --last-day", rows("A,1,2024-01-01,2024-01-01"))
+        self.refused("line 2: Start, 2024-03-05, isn't before End, 2024-01-01", rows("A,1,2024-03-05,2024-01-01"))
+        self.refused("2024-01-01; if that is the last day, use --last-day", rows("A,1,2024-01-01,2024-01-01"))
 
 
 class Updates(Case):
@@ -406,7 +407,7 @@ class Updates(Case):
 
     def test_two_updates_of_one_key_and_start_are_reported(self) -> None:
         text = "person,euros,Start,End\nA,1,2024-01-01,2024-03-05\nA,2,2024-01-01,2024-04-05\n"
-        note = "line 3 updates the same person from the same point on as line 2, and the later one stands"
+        note = "line 3 updates the same person from the same point on as line 2, and the later one counts"
         self.noted(note, text, "pay", "Start", "End", "person", "euros", "--update", "person")
 
     def test_an_update_that_takes_an_earlier_line_s_place_is_reported(self) -> None:
@@ -428,10 +429,10 @@ class Updates(Case):
         printed, notes = load(text, *words, "--update", "pid")
         self.assertEqual(printed, wanted)
         self.assertEqual(notes, ["the file has no column name, grade, so updates leave it as it is"])
-        part = "Start: where not all columns are given, the file has the table's names, and pay has pid, name, grade, e"
+        part = "Start: pay has no such column, and only some of its columns are given; its columns are pid, name, "
         self.refused(part, text, *words, "PID", "Start", "--update", "PID")
-        self.refused("Euros is '5x': no number", text.replace("500", "5x"), *words, "--update", "pid")
-        self.refused("--update pid: none of the columns Euros", text, *words, "Euros", "--update", "pid")
+        self.refused("Euros is '5x': not a whole number", text.replace("500", "5x"), *words, "--update", "pid")
+        self.refused("--update pid: not one of the columns Euros", text, *words, "Euros", "--update", "pid")
 
     def test_updates_are_parted_as_the_load_is(self) -> None:
         record = "table,pay,dept,text,person,text,euros,int,key,person"
@@ -442,12 +443,12 @@ class Updates(Case):
         for columns in (["person"], ["dept", "person"]):
             more = [word for name in columns for word in ("--update", name)]
             self.assertEqual(re.findall("person,([A-H])", load(text, *words, *more)[0]), of_load)
-        self.refused("--part: rows are parted by person", text, *words, "--update", "dept")
+        self.refused("--part: rows are split by person", text, *words, "--update", "dept")
         without = ["pay", "Start", "End", "dept", "person", "--part", "1/2", "--update", "person"]
-        self.refused("rows are parted by dept, as a load's are", text, *without)
+        self.refused("rows are split by dept, as those of a load are", text, *without)
 
     def test_names_that_are_none_of_a_table_are_refused(self) -> None:
-        self.refused("Name is no name of a table's", rows("A,1,2024-01-01,2024-03-05"), *WORDS, "--update", "Name")
+        self.refused("Name can't be the name of a table", rows("A,1,2024-01-01,2024-03-05"), *WORDS, "--update", "Name")
 
 
 class Deletes(Case):
@@ -468,25 +469,26 @@ class Deletes(Case):
         self.loaded("delete,posts,2024-01-01,2024-03-05\n", "Start,End\n2024-01-01,2024-03-05\n", *plain)
         none = "table,pay,person,text"
         self.refused("--delete: pay has no key", self.TEXT, *self.WORDS, "--table", none, "--delete")
-        self.refused("--delete: no COLUMN is given", self.TEXT, *self.WORDS, "--delete")
+        self.refused("--delete needs a COLUMN", self.TEXT, *self.WORDS, "--delete")
         text = self.TEXT.replace("Person", "Who")
         self.refused("not in the header: person", text, *self.WORDS, *self.RECORD, "--delete")
 
     def test_values_and_names_are_to_fit_the_table(self) -> None:
         text = self.TEXT.replace("500", "5x")
-        self.refused("euros is '5x': no number", text, *self.WORDS, "euros", *self.RECORD, "--delete")
-        self.refused("Start: where not all columns are given", text, *self.WORDS, "Start", *self.RECORD, "--delete")
-        self.refused("one of them", self.TEXT, *self.WORDS, "euros", "Person", "--delete", "--update", "Person")
+        self.refused("euros is '5x': not a whole number", text, *self.WORDS, "euros", *self.RECORD, "--delete")
+        self.refused("Start: pay has no such column", text, *self.WORDS, "Start", *self.RECORD, "--delete")
+        both = ["--delete", "--update", "Person"]
+        self.refused("--delete can't be given with --update", self.TEXT, *self.WORDS, "euros", "Person", *both)
 
     def test_deletes_that_would_do_the_same_are_reported(self) -> None:
         words = [*self.WORDS, *self.RECORD, "--delete"]
         longer = self.TEXT + '"Hill, Grace",500,2024-01-01,2024-05-05\n'
-        part = "line 3 deletes the same Person from the same point on as line 2, and the longer one would do alone"
+        part = "line 3 deletes the same Person from the same point on as line 2, and the longer one is enough"
         self.noted(part, longer, *words)
         header, _, row = self.TEXT.partition("\n")
         _, notes = load(f"{header}\n{row}{row}", *words)
-        self.assertEqual(notes[0], "line 3 makes the same delete as line 2, and both stand")
-        self.noted("no row stands behind the header, so nothing is changed", header, *words)
+        self.assertEqual(notes[0], "line 3 makes the same delete as line 2, and both are printed")
+        self.noted("no row follows the header, so nothing is changed", header, *words)
 
     def test_deletes_are_parted_as_the_load_is(self) -> None:
         lines = [f"{name},{place},2024-01-01,2024-03-05" for place, name in enumerate("ABCDEFGH")]
@@ -495,7 +497,7 @@ class Deletes(Case):
         (deleted, _), (loaded, _) = load(text, *words, "--delete"), load(text, *words)
         self.assertEqual(re.findall("person,([A-H])", deleted), re.findall(",([A-H]),", loaded))
         words = [*self.WORDS, "euros", *self.RECORD, "--part", "1/2", "--delete"]
-        self.refused("--part: rows are parted by person", text, *words)
+        self.refused("--part: rows are split by person", text, *words)
 
 
 class Claims(Case):
@@ -505,30 +507,30 @@ class Claims(Case):
         self.loaded(wanted, text, "posts", "Post", "Contract", "--check", "2024-01-05")
 
     def test_parts_that_look_alike_are_reported(self) -> None:
-        note = "Post is '01', and is another part than '1', though they look alike"
+        note = "Post is '01': it looks like '1', but is another part"
         self.noted(note, "Post,Contract\n1,1\n01,2\n2,3\n", "posts", "Post", "Contract", "--check", "2024-01-05")
 
     def test_words_of_a_load_are_refused(self) -> None:
         words = ["posts", "P", "I", "--check"]
-        self.refused("--check x: no point", "P,I\nA,1\n", *words, "x")
+        self.refused("--check x: not a date or time", "P,I\nA,1\n", *words, "x")
         for more in (["--part", "1/2"], ["--update", "P"], ["--delete"], ["--table", "table,posts"]):
-            self.refused(f"--check takes no {more[0]}", "P,I\nA,1\n", *words, "2024-01-05", *more)
+            self.refused(f"--check can't be given with {more[0]}", "P,I\nA,1\n", *words, "2024-01-05", *more)
 
     def test_an_id_that_is_none_is_refused_with_its_line(self) -> None:
-        self.refused("line 2: A,x: no row with a part", "P,I\nA,x\n", "posts", "P", "I", "--check", "2024-01-05")
+        self.refused("line 2: A,x: not a row with a part", "P,I\nA,x\n", "posts", "P", "I", "--check", "2024-01-05")
 
 
 class Files(Case):
     def test_a_first_line_without_names_is_refused(self) -> None:
         text, words = "A,1,2024-01-01,2024-03-05\nB,1,2024-01-01,2024-03-05\n", ["2024-01-01", "2024-03-05", "A", "1"]
-        self.refused("the first line is to have names, and has a date", text, "pay", *words)
+        self.refused("the first line must have the columns' names, but it has a date", text, "pay", *words)
 
     def test_a_name_that_no_table_has_is_refused(self) -> None:
         for name in ("Pay", "my pay", "a,b", "1a", ""):
-            self.refused("no name of a table", rows("A,1,2024-01-01,2024-03-05"), name, *WORDS[1:])
+            self.refused("not a table's name", rows("A,1,2024-01-01,2024-03-05"), name, *WORDS[1:])
 
     def test_a_packed_file_is_refused_as_that(self) -> None:
-        self.refused("this is a packed file", b"\x1f\x8b\x08\x00")
+        self.refused("this is a compressed file", b"\x1f\x8b\x08\x00")
 
     def test_parts_have_each_row_once(self) -> None:
         lines = [f"{name},1,2024-01-01,2024-03-05" for name in ("Öztürk", "von der Höhe", "A", "B", "C")]
@@ -541,7 +543,7 @@ class Files(Case):
         counts = []
         for part in (1, 2, 3):
             _, [note] = load(rows(*lines), *WORDS, "--part", f"{part}/3")
-            form = f"part {part} of 3 has (.) of the file's 7 rows; only all 3 parts together have each"
+            form = f"part {part} of 3 has (.) of the file's 7 rows; only all 3 parts together have all rows"
             found = re.fullmatch(form, note)
             counts.append(int(found[1]) if found else 0)
         self.assertEqual(sum(counts), 7)
@@ -557,13 +559,13 @@ class Files(Case):
 
     def test_a_name_that_two_columns_have_but_for_capitals_is_refused(self) -> None:
         text = "Name,NAME,Start,End\nA,B,2024-01-01,2024-03-05\n"
-        note = "name is in the header as 'Name' and 'NAME': the COLUMNs are to say which is meant"
+        note = "name is in the header as 'Name' and 'NAME': give the one that is meant as a COLUMN"
         self.refused(note, text, "pay", "Start", "End", "--table", "table,pay,name,text")
 
     def test_nine_tenths_of_a_limit_are_reported(self) -> None:
         lines = [f"{letter},1,2024-01-01,2024-03-05" for letter in "ABCDEFGHIJ"]
         with mock.patch.object(making, "MOST_ROWS", 10):
-            self.noted("10 rows in 300 bytes leave little room for corrections", rows(*lines))
+            self.noted("10 rows in 300 bytes leave little room for later changes", rows(*lines))
 
     def test_rows_behind_a_wrong_one_are_read_for_their_faults(self) -> None:
         _, notes = load(rows("A,1,2024-01-01", "B,1,x,y"), *WORDS)

@@ -124,12 +124,12 @@ class Words(ToolCase):
     def test_names_that_no_table_has_are_refused(self) -> None:
         table = ["--table", "table,pay,name,text,grade,text"]
         for words, note in [
-            (["Grade=Neu"], "Grade=Neu: Grade is no name of a table's column"),
-            (["grade=Neu", "grade=Alt"], "grade=Alt: the table's grade is given twice"),
+            (["Grade=Neu"], "Grade=Neu: Grade can't be the name of a table's column"),
+            (["grade=Neu", "grade=Alt"], "grade=Alt: the table's column grade is given twice"),
             (["grade=Neu", "note=Neu"], "Neu is given twice"),
             (["grade=New"], "not in the header: New"),
-            (["note=Neu", *table], "Neu: pay has no column note, but name, grade"),
-            (["Name", "Neu", "--update", "Name"], "NAME=Name or --table gives the table's"),
+            (["note=Neu", *table], "Neu: pay has no column note; its columns are name, grade"),
+            (["Name", "Neu", "--update", "Name"], "give the table's by NAME=Name or --table"),
         ]:
             self.check([*self.LOADS, *words], self.FILE, 1, note)
 

@@ -16,14 +16,14 @@ class Refused(Case):
     def test_files_of_another_form_are_refused_with_what_makes_them_right(self) -> None:
         one = f"A,1,{PERIOD}\n"
         files: List[Tuple[Union[str, bytes], str]] = [
-            ((HEADER + one).replace(",", "|"), "it has 'Name|Pay|Start|End'; `(echo 'sep=|'; cat FILE)` says that '|'"),
-            ((HEADER + one).encode("utf-16-le"), "a third of its bytes are zero: `iconv -f UTF-16LE -t UTF-8` makes"),
-            ((HEADER + one).encode("utf-16-be"), "`iconv -f UTF-16BE -t UTF-8` makes UTF-8 of it"),
-            ((HEADER + one).encode("utf-16"), "`iconv -f UTF-16 -t UTF-8` makes it of a file from Windows"),
-            (f"{HEADER}Müller,1,{PERIOD}\n".encode("cp1252"), "`iconv -f WINDOWS-1252 -t UTF-8` makes it"),
+            ((HEADER + one).replace(",", "|"), "it has 'Name|Pay|Start|End'; `(echo 'sep=|'; cat FILE)` makes '|' the"),
+            ((HEADER + one).encode("utf-16-le"), "third of its bytes are zero: `iconv -f UTF-16LE -t UTF-8` converts"),
+            ((HEADER + one).encode("utf-16-be"), "`iconv -f UTF-16BE -t UTF-8` converts it to UTF-8"),
+            ((HEADER + one).encode("utf-16"), "`iconv -f UTF-16 -t UTF-8` converts a file from Windows"),
+            (f"{HEADER}Müller,1,{PERIOD}\n".encode("cp1252"), "`iconv -f WINDOWS-1252 -t UTF-8` converts"),
             ("\ufeff\ufeff" + HEADER + one, "not in the header: Name; it has '\\ufeffName'"),
             (f"Payroll 2024\n{HEADER}{one}", "it has 'Payroll 2024'"), (f"# export\n{HEADER}{one}", "'# export'"),
-            (f"{HEADER}A,4,50,{PERIOD}\n", "line 2: 5 fields, and not the 4 of the header"),
+            (f"{HEADER}A,4,50,{PERIOD}\n", "line 2: 5 fields, but the header has 4; put"),
             (f"{HEADER}# half\n{one}", "line 2: 1 fields"), (f'{HEADER}"A,1,{PERIOD}\n{one}', "unexpected end"),
             (HEADER.replace(",", ";") + one, "line 2: 1 fields"), (f'{HEADER}"A\\"B",1,{PERIOD}\n', "expected after"),
         ]
@@ -38,9 +38,10 @@ class Refused(Case):
     def test_numbers_of_other_forms_are_refused(self) -> None:
         for number, part in [
             ("5 k", "is k a multiple, or a sign?"), ("5 Mio.", "is Mio. a multiple"), ("5 CR", "is CR a multiple"),
-            ("1.2E3", "its digits are rounded off"), ("+5", "without + it may be one"), ("1/2", "no number"),
-            ("٥", "no number"), ("５", "no number"), ("", "no number"), ("-", "no number"), ("--5", "no number"),
-            ("4800.5000000001", "more than 2 decimals"), ("TRUE", "no number"), ("5O", "no number"),
+            ("1.2E3", "its digits are rounded off"), ("+5", "leave out the +"), ("1/2", "not a number"),
+            ("٥", "not a number"), ("５", "not a number"), ("", "not a number"), ("-", "not a number"),
+            ("--5", "not a number"),
+            ("4800.5000000001", "more than 2 decimals"), ("TRUE", "not a number"), ("5O", "not a number"),
         ]:
             with self.subTest(number):
                 self.refused(part, rows(f"A,{number},{PERIOD}"), *CENTS)
@@ -48,22 +49,23 @@ class Refused(Case):
     def test_a_number_with_zeros_in_front_is_offered_no_decimals(self) -> None:
         table = [*WORDS, "--table", "table,pay,name,text,pay,int"]
         for number, digits in (("05", 0), ("00", 0), ("5,5", 2)):
-            self.refused(f"as 5000; --decimals Pay={digits} makes", rows(f'A,"{number}",{PERIOD}'), *table)
+            self.refused(f"such as 5000; --decimals Pay={digits} makes", rows(f'A,"{number}",{PERIOD}'), *table)
         self.loaded(f"load,pay\nrow,{PERIOD},A,5\nend\n", rows(f"A,05,{PERIOD}"), *table, "--decimals", "Pay=0")
 
     def test_a_file_as_a_column_is_refused_as_that(self) -> None:
-        self.refused(f"{__file__} is a file, which --file or `<` gives", rows(f"A,1,{PERIOD}"), *WORDS, __file__)
+        self.refused(f"{__file__} is a file: give it by --file or `<`", rows(f"A,1,{PERIOD}"), *WORDS, __file__)
 
     def test_a_unit_of_no_column_is_refused(self) -> None:
-        self.refused("--unit: no column is given by --decimals", rows(f"A,5 €,{PERIOD}"), *WORDS, "--unit", "€")
+        self.refused("--unit needs --decimals", rows(f"A,5 €,{PERIOD}"), *WORDS, "--unit", "€")
 
     def test_points_of_other_forms_are_refused(self) -> None:
         for end, part in [
-            ("2024/03/05", "with --dates 2024/12/31 it is one"), ("25-03-2024", "with --dates 31-12-2024 it is one"),
-            ("05-03-2024", "with --dates 31-12-2024 or --dates 12-31-2024 it is one"), ("5 Mar 2024", "no date as"),
-            ("2024-03-05T24:00:00", "a day ends at the next one's midnight"), ("2024-03", "no date as"),
-            ("2024W091", "no date as"), ("1709600000", "no date as"), ("5/3/24", "a year has four digits"),
-            ("\uff12024-03-05", "no date as"), ("2024-02-30", "no date as"), ("24-03-05", "a year has four digits"),
+            ("2024/03/05", "use --dates 2024/12/31"), ("25-03-2024", "use --dates 31-12-2024"),
+            ("05-03-2024", "use --dates 31-12-2024 or --dates 12-31-2024"), ("5 Mar 2024", "not a date such as"),
+            ("2024-03-05T24:00:00", "a day ends at the next one's midnight"), ("2024-03", "not a date such"),
+            ("2024W091", "not a date such"), ("1709600000", "not a date such"), ("5/3/24", "a year has four digits"),
+            ("\uff12024-03-05", "not a date such"), ("2024-02-30", "not a date such"),
+            ("24-03-05", "a year has four digits"),
         ]:
             with self.subTest(end):
                 self.refused(part, rows(f"A,1,2024-01-01,{end}"))
@@ -76,7 +78,7 @@ class Reported(Case):
             for count in (1, 100):
                 with self.subTest(name, count=count):
                     others = [f"N{number},1,{PERIOD}" for number in range(count)]
-                    self.noted("a row with a sum of others", rows(*others, f"{name},{count},{PERIOD}"))
+                    self.noted("it looks like a sum of other rows", rows(*others, f"{name},{count},{PERIOD}"))
         for name in ("Totalenergies", "Summer", "Total Body Fitness"):
             self.loaded(f"load,pay\nrow,{PERIOD},{name},1\nend\n", rows(f"{name},1,{PERIOD}"))
 
@@ -87,7 +89,7 @@ class Reported(Case):
 
     def test_quotes_that_are_none_of_csv_are_reported(self) -> None:
         for name in ("'A'", "„A“", "“A”", "«A»"):
-            self.noted("quotes of this kind are a part of the text", rows(f"{name},1,{PERIOD}"))
+            self.noted("these quotes are part of the text", rows(f"{name},1,{PERIOD}"))
 
     def test_a_value_in_a_column_without_a_name_is_reported(self) -> None:
         text = f"Name,Pay,,Start,End\nA,4,,{PERIOD}\nB,4,500,{PERIOD}\n"

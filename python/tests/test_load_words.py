@@ -20,7 +20,7 @@ class Loads(ToolCase):
         self.check(GERMAN, CSV.format("1.234,5", "2024-12-01", "31.12.2024"), 0, hill)
         self.check(
             GERMAN, CSV.format("5", "12/31/2024", ""), 1,
-            "csv-to-load: line 2: Start is '12/31/2024': no date as 31.12.",
+            "csv-to-load: line 2: Start is '12/31/2024': not a date such as 31.12.",
         )
         self.check(GERMAN, CSV.format("-0,07", "1.12.2024", ""), 0, 'row,2024-12-01,9999-12-31,"Hill, Grace",-7\n')
         self.check([*LOADS, "--plain-spaces"], 'Name;Pay;Start;End\nA\u00a0B;5;2024-01-01;2024-02-01\n', 0, ",A B,5\n")
@@ -31,17 +31,17 @@ class Loads(ToolCase):
         for number in ("0.500", "00.500", "012.345", "-0.500"):
             self.check(
                 GERMAN, CSV.format(number, "1.12.2024", ""), 1,
-                f"csv-to-load: line 2: Pay is '{number}': no number as ",
+                f"csv-to-load: line 2: Pay is '{number}': not a number such as ",
             )
         english = [*LOADS, "--decimals", "Pay=2"]
-        self.check(english, CSV.format("0,500", "2024-12-01", "2025-01-01"), 1, "1,234.50; with --german it is one")
+        self.check(english, CSV.format("0,500", "2024-12-01", "2025-01-01"), 1, "1,234.50; use --german")
         self.check([*english, "--decimals", "Pay=0"], "", 1, "csv-to-load: --decimals Pay: given twice")
 
     def test_what_is_taken_as_it_is_is_noted(self) -> None:
         self.check(
-            LOADS, CSV.format("5", "1.12.2024", "2025-01-01"), 1, "no date as 2024-12-31; with --german it is one\n",
+            LOADS, CSV.format("5", "1.12.2024", "2025-01-01"), 1, "not a date such as 2024-12-31; use --german\n",
         )
-        marked = "csv-to-load: Pay is '4,5', and is loaded so: a number as 1.234,50; --decimals "
+        marked = "csv-to-load: Pay is '4,5', and is loaded as that: a number such as 1.234,50; --decimals "
         self.check([*LOADS, "--german"], CSV.format("4,5", "1.12.2024", "1.1.2025"), 0, marked)
         plain = "Name;Pay;Start;End\n{};5;2024-01-01;2024-02-01\n"
         for name, shown, note in [
@@ -49,7 +49,7 @@ class Loads(ToolCase):
             ("Jose\u0301", "Jose\u0301", "a letter and its accent "),
             ("A\u200bB", "A\\u200bB", "a character that can't "),
         ]:
-            self.check(LOADS, plain.format(name), 0, f"csv-to-load: Name is '{shown}', and is loaded so: {note}")
+            self.check(LOADS, plain.format(name), 0, f"csv-to-load: Name is '{shown}', and is loaded as that: {note}")
 
     def test_names_are_those_of_the_header(self) -> None:
         plain = "Name;Pay;Start;End\n{};5;2024-01-01;2024-02-01\n"
@@ -62,7 +62,7 @@ class Loads(ToolCase):
             LOADS, plain.format("A").replace("Name", "Name\u00a0"), 1, "not in the header: Name; it has 'Name\\xa0', ",
         )
         self.check([*LOADS, "Hours"], CSV.format("5", "", ""), 1, "csv-to-load: not in the header: Hours")
-        self.check(LOADS, CSV.format("5", "2024-01-01", ""), 1, "csv-to-load: line 2: End is '': no end; with --open")
+        self.check(LOADS, CSV.format("5", "2024-01-01", ""), 1, "csv-to-load: line 2: End is '': no end is given; ")
         self.check([*LOADS, "--none"], "", 2, "csv-to-load failed\n")
 
     def test_a_spreadsheet_s_first_line_is_left_out(self) -> None:
@@ -74,14 +74,14 @@ class Loads(ToolCase):
         self.check(LOADS, stray, 1, "csv-to-load: line 2: ';' expected after '\"'")
         self.check(LOADS, stray.replace('" G', ""), 1, "csv-to-load: line 2: unexpected end of data")
         taken = CSV.format("5", "2024-01-01", "2024-02-01") + BROKEN
-        self.check(LOADS, taken, 1, "csv-to-load: line 3: a field in quotes goes on to line 4; ")
+        self.check(LOADS, taken, 1, "csv-to-load: line 3: a field in quotes continues to line 4; ")
 
     def test_ends_that_look_otherwise_are_reported(self) -> None:
         once = "Name;Pay;Start;End\nA;5;{};{}\n"
         for start, end, word, note in [
-            ("2024-01-01", "2024-12-31", "--open", "End is 2024-12-31: a row doesn't hold on that day any more; "),
-            ("1.1.2024", "31.12.2024", "--german", "End is 2024-12-31: a row doesn't hold on that day any "),
-            ("2024-01-01", "2025-01-01", "--last-day", "End is 2025-01-01: --last-day takes it for the last day "),
+            ("2024-01-01", "2024-12-31", "--open", "End is 2024-12-31: a row no longer holds on that day; "),
+            ("1.1.2024", "31.12.2024", "--german", "End is 2024-12-31: a row no longer holds on that day; "),
+            ("2024-01-01", "2025-01-01", "--last-day", "End is 2025-01-01: --last-day reads it as the last day "),
         ]:
             self.check([*LOADS, word], once.format(start, end), 0, f"csv-to-load: {note}")
         for start, end in [
@@ -94,15 +94,15 @@ class Loads(ToolCase):
         twice = once.format("2024-01-01", "2024-03-05") + "A;5;2024-01-01;2024-03-05\n"
         self.check(LOADS, twice, 0, "csv-to-load: line 3 makes the same row as line 2, and both are loaded\n")
         self.check(
-            LOADS, "Name;Pay;Start;End\n", 0, "csv-to-load: no row stands behind the header, so the load has none\n",
+            LOADS, "Name;Pay;Start;End\n", 0, "csv-to-load: no row follows the header, so the load has none\n",
         )
-        self.check(LOADS, "\n", 1, "csv-to-load: no header, since the file has nothing but empty lines\n")
+        self.check(LOADS, "\n", 1, "csv-to-load: there is no header: the file has nothing but empty lines\n")
 
     def test_line_breaks_stand_in_quotes_where_that_is_wanted(self) -> None:
         taken = CSV.format("5", "2024-01-01", "2024-02-01") + BROKEN
         self.check(
             LOADS, "Name,Pay,Start,End\nHill, G,5,2024-01-01,2024-03-05\n", 1,
-            "line 2: 5 fields, and not the 4 of the ",
+            "line 2: 5 fields, but the header has 4; ",
         )
         self.check([*LOADS, "--line-breaks"], taken, 0, '"By;6;2024-01-01;2024-02-01\nBy",7\n')
 

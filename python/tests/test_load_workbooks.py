@@ -118,22 +118,22 @@ class Workbooks(ToolCase):
         rows: List[List[Any]] = [["From", "To", "N"], [date(2024, 1, 1), date(2024, 2, 1), "=SUM(1,2)"]]
         status, text, said = loaded(computed(workbook({"A": rows}), "3"), ["N"])
         self.assertEqual((status, text), (0, "load,t\nrow,2024-01-01,2024-02-01,3\nend\n"))
-        self.assertIn("csv-to-load: N has formulas in 1 cells, loaded with the value that was last computed\n", said)
+        self.assertIn("csv-to-load: N has formulas in 1 cells, loaded with their last computed values\n", said)
         status, text, said = loaded(workbook({"A": rows}), ["N"])
         self.assertEqual((status, text), (1, "csv-to-load failed\n"))
-        self.assertIn("cell C2 has a formula whose value wasn't kept", said)
+        self.assertIn("cell C2 has a formula without a saved value", said)
 
     def test_a_date_among_values_is_noted(self) -> None:
         rows: List[List[Any]] = [["From", "To", "Grade"], [date(2024, 1, 1), date(2024, 2, 1), date(2024, 2, 1)]]
         status, text, said = loaded(workbook({"A": rows}), ["Grade"])
         self.assertEqual((status, text), (0, "load,t\nrow,2024-01-01,2024-02-01,2024-02-01\nend\n"))
-        self.assertIn("Grade has dates in 1 cells: a spreadsheet makes one of 1-2", said)
+        self.assertIn("Grade has dates in 1 cells: a spreadsheet turns 1-2 into a date", said)
 
     def test_of_several_sheets_one_is_named(self) -> None:
         row = [date(2024, 1, 1), date(2024, 2, 1), "x"]
         data = workbook({"A": [["None"]], "Löhne": [["From", "To", "Name"], row]})
-        self.assertIn("the workbook has the sheets A, Löhne: --sheet says which", loaded(data, ["Name"])[2])
-        self.assertIn("--sheet B: no sheet of the workbook, which has A, L", loaded(data, ["Name", "--sheet", "B"])[2])
+        self.assertIn("the workbook has the sheets A, Löhne: choose one by --sheet", loaded(data, ["Name"])[2])
+        self.assertIn("--sheet B: no such sheet; the workbook has A, L", loaded(data, ["Name", "--sheet", "B"])[2])
         found = loaded(data, ["Name", "--sheet", "Löhne"])
         self.assertEqual(found, (0, "load,t\nrow,2024-01-01,2024-02-01,x\nend\n", ""))
 
@@ -141,11 +141,11 @@ class Workbooks(ToolCase):
         for data in (b"PK\x03\x04", b"PK\x03\x04" + b"x" * 100, workbook({"A": [["From"]]})[:-40]):
             status, text, said = loaded(data, ["Name"])
             self.assertEqual((status, text), (1, "csv-to-load failed\n"))
-            self.assertRegex(said, "^csv-to-load: no workbook of Excel that openpyxl can read: ")
-        self.assertIn("an old workbook of a spreadsheet, and no CSV: save it", loaded(b"\xd0\xcf\x11\xe0", ["Name"])[2])
+            self.assertRegex(said, "^csv-to-load: openpyxl can't read it as an Excel workbook: ")
+        self.assertIn("an old spreadsheet workbook, not a CSV file: save it", loaded(b"\xd0\xcf\x11\xe0", ["Name"])[2])
 
     def test_a_sheet_without_rows_has_no_header(self) -> None:
-        self.assertIn("no header, since the file has nothing but empty lines", loaded(workbook({"A": []}), ["N"])[2])
+        self.assertIn("there is no header: the file has nothing but empty lines", loaded(workbook({"A": []}), ["N"])[2])
         self.assertIn("not in the header: N", loaded(workbook({"A": [["From", "To"]]}), ["N"])[2])
 
 
@@ -157,7 +157,7 @@ class WithoutOpenpyxl(ToolCase):
         self.assertIn("openpyxl, which reads it, isn't installed: apt-get install python3-openpyxl, or save", said)
 
     def test_a_csv_has_no_sheets(self) -> None:
-        self.check([*LOADS, "Name", "--sheet", "A"], "From,To,Name\n", 1, "--sheet A: the file is no workbook of Excel")
+        self.check([*LOADS, "Name", "--sheet", "A"], "From,To,Name\n", 1, "--sheet A: the file isn't an Excel workbook")
 
 
 if __name__ == "__main__":

@@ -41,7 +41,7 @@ class Notes:
     def notes(self) -> Iterator[str]:
         for (name, _), one in self.found.items():
             more = f", and {one.count - 1} more rows" if one.count > 1 else ""
-            yield f"{name} is '{visible(one.value)}', and is loaded so: {one.why} (line {one.line}{more})"
+            yield f"{name} is '{visible(one.value)}', and is loaded as that: {one.why} (line {one.line}{more})"
 
 
 class Days(Dict[str, str]):
@@ -98,9 +98,9 @@ class Ends:
     def meetings(self, on_end: int, on_next: int, is_odd: bool) -> str:
         counts = " and ".join(
             f"{count} start on {where} ({self.example_of(ends)})"
-            for count, where, ends in ((on_next, "the day behind it", self.behind), (on_end, "it", self.same)) if count
+            for count, where, ends in ((on_next, "the day after it", self.behind), (on_end, "it", self.same)) if count
         )
-        remedy = self.remedy() if is_odd else "is it the last day in some rows, and the day behind it in others?"
+        remedy = self.remedy() if is_odd else "is it the last day in some rows, and the day after it in others?"
         other = f"one of the same {self.key}" if self.key else "another one"
         return f"{self.name}: of rows that follow {other}, {counts}: {remedy}"
 
@@ -113,13 +113,13 @@ class Ends:
         """Reports updates, or deletes, of one key from one point on."""
         pair = first_pair(self.starts, self.lines)
         if pair:
-            word, which = ("deletes", "longer one would do alone") if are_deletes else ("updates", "later one stands")
+            word, which = ("deletes", "longer one is enough") if are_deletes else ("updates", "later one counts")
             yield f"line {pair[0]} {word} the same {self.key} from the same point on as line {pair[1]}, and the {which}"
 
     def remedy(self) -> str:
         if self.is_last_day:
-            return "--last-day takes it for the last day of a row; without it, the day before is the last"
-        return "a row doesn't hold on that day any more; --last-day takes it for the last one"
+            return "--last-day reads it as the last day of a row; without it, the day before is the last"
+        return "a row no longer holds on that day; --last-day reads it as the last one"
 
     def month_ends(self, meeting: int) -> Iterator[str]:
         """Reports where nearly all ends are days of a month that look otherwise, and few rows meet as they are read."""
@@ -128,7 +128,7 @@ class Ends:
         ends, starts = (sum(map(self.counts.__getitem__, days)) for days in (last_days, first_days))
         odd, others, days = (starts, ends, first_days) if self.is_last_day else (ends, starts, last_days)
         if odd > 4 * others and odd > 10 * meeting:
-            of_all = f"{ends} ends are last days of a month, and {starts} first ones"
+            of_all = f"{ends} ends are last days of a month, {starts} are first days"
             yield f"{self.name} is {days[0]}: {self.remedy()} ({of_all})"
 
 
@@ -154,7 +154,7 @@ class Overwrites:
             line, other = self.found[0]
             more = f"; {len(self.found) - 1} more do so" if len(self.found) > 1 else ""
             both = f"line {line} updates the same {self.key} from an earlier point on than line {other}"
-            yield f"{both}, and past its start, so it takes its place: are the file's lines out of order?{more}"
+            yield f"{both}, and past its start, so it replaces it: are the file's lines out of order?{more}"
 
 
 class Repeats:
@@ -247,4 +247,4 @@ def of_twins(one: str, other: str, count: int, made: str = "row") -> str:
     """That one row is the same as another, where so many rows are the same as one before them; or updates, or deletes.
     """
     more = f"; {count - 1} more {made}s are so" if count > 1 else ""
-    return f"{one} makes the same {made} as {other}, and both {'are loaded' if made == 'row' else 'stand'}{more}"
+    return f"{one} makes the same {made} as {other}, and both are {'loaded' if made == 'row' else 'printed'}{more}"

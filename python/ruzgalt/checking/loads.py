@@ -16,7 +16,7 @@ class Ends(doubts.Ends):
     """Whether ends of a script's rows look like last days."""
 
     def remedy(self) -> str:
-        return "a row doesn't hold on that day any more; one that has it ends on the next"
+        return "a row no longer holds on that day; one that has it ends on the next"
 
 
 class Loads:

@@ -17,7 +17,7 @@ LINES = re.compile(r"(?:(?:[^\W\d_][ !#-~\w]*|[0-9][ !#-~\w]*(?<=[^\W\d_])|0|[1-
 ENTITY = re.compile(r"&(?:#\d+|#x[0-9A-Fa-f]+|[A-Za-z]+\d*);")
 # What other programs write for no value.
 NO_VALUES = ("null", "none", "nan", "nat", "<na>", "n/a")
-WORDS = dict.fromkeys(NO_VALUES, "other programs write it for no value; it is a text")
+WORDS = dict.fromkeys(NO_VALUES, "other programs write it for no value; here it is a text")
 # The rows that sum up others are named so, some with a year or a colon.
 TOTAL = re.compile(
     r"(?:(?:grand |sub-?)?totals?|sums?|(?:gesamt|zwischen)?summen?|(?:ins)?gesamt)[ :.]*(?:\d{4})?[ :.]*",
@@ -56,37 +56,37 @@ def doubt_of(value: str, mark: str) -> Optional[str]:
     if value.lower() in WORDS:
         return WORDS[value.lower()]
     if TOTAL.fullmatch(value):
-        return "a row with a sum of others is loaded as they are"
+        return "it looks like a sum of other rows"
     if len(value) > 1 and value[0] + last in QUOTES:
-        return "quotes of this kind are a part of the text"
+        return "these quotes are part of the text"
     if last.isdigit() and ROUNDED.fullmatch(value):
         return "digits are rounded off; save the column as text, or as a number without an exponent"
     if value.startswith("="):
-        return "a formula of a spreadsheet stays a text; save its value"
+        return "a spreadsheet's formula stays a text; save its value"
     if value.startswith("#"):
-        return "an error of a spreadsheet, or a comment, is a text here"
+        return "a spreadsheet's error, or a comment, is a text here"
     if value.startswith("'") and last.isdigit():
-        return "a spreadsheet's sign for a text is taken for a part of it"
+        return "a spreadsheet's sign for a text is part of the text here"
     if last.isdigit() and set(value) & set(".,") and number_in(value, mark) is not None:
         example = "1.234,50" if mark == "," else "1,234.50"
-        return f"a number as {example}; --decimals COLUMN=DIGITS makes it whole"
+        return f"a number such as {example}; --decimals COLUMN=DIGITS makes it whole"
     if ENTITY.search(value):
-        return "a character is written as in a page of the web"
+        return "a character is written as in HTML"
     return None if is_plain else unseen_in(value)
 
 
 def unseen_in(value: str) -> Optional[str]:
     if NO_BREAK.search(value):
-        return "a no-break space makes it another text; --plain-spaces takes a space for it"
+        return "a no-break space makes it another text; --plain-spaces makes it a space"
     if value != value.strip():
         return "a space at an end makes it another text"
     if not unicodedata.is_normalized("NFC", value):
-        return "a letter and its accent are two characters, and with one for both it is another text"
+        return "a letter and its accent are two characters; as one character it is another text"
     if not value.isprintable() and any(map(is_unseen, value)):
         return "a character that can't be seen makes it another text"
     if "\ufffd" in value:
-        return "another program has lost a character of it"
-    return "its letters were read in another encoding; save the file as UTF-8 anew" if is_garbled(value) else None
+        return "another program has lost one of its characters"
+    return "its letters were read in another encoding; save the file again as UTF-8" if is_garbled(value) else None
 
 
 def is_unseen(character: str) -> bool:
@@ -120,7 +120,7 @@ def described(pairs: Sequence[Tuple[str, str]]) -> str:
     """Pairs of texts that look alike, for a person: the first, and how many there are."""
     first, other = (repr(visible(text)) for text in pairs[0])
     more = f" ({len(pairs)} such pairs)" if len(pairs) > 1 else ""
-    return f"{first} and {other} look alike, and are two texts{more}"
+    return f"{first} and {other} look alike, but are two texts{more}"
 
 
 class LookAlikes:

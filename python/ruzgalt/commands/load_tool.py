@@ -17,16 +17,16 @@ from ruzgalt.loading.making import Load
 from ruzgalt.loading.sheets import Records, Sheet, composed
 from ruzgalt.loading.workbooks import Workbook, is_workbook
 from ruzgalt.script import records
-from ruzgalt.script.forms import is_name, read_point
+from ruzgalt.script.forms import NAME_HAS, is_name, read_point
 from ruzgalt.script.records import visible
 from ruzgalt.script.schemas import Schema
 
 ABOUT = """Turns a CSV file with a header into a load, or into updates or deletes. FROM, TO and the COLUMNs are names of
 the file's header, in the order of a row's fields; other columns of the file are left out. The file is UTF-8; its fields
-are parted by commas, semicolons or tabs, whichever its header has most of. Or it is a workbook of Excel (.xlsx), where
+are separated by commas, semicolons or tabs, whichever its header has most of. Or it is an Excel workbook (.xlsx), if
 Python's openpyxl is installed: its dates and numbers are what they are there. Values are taken as they are, unless an
-option says otherwise. What may not be meant is reported on standard error, and loaded. Where something is at fault, no
-load is printed but one record that the store refuses, so that a script of which it is a part has a refused command."""
+option says otherwise. What may be a mistake is loaded, and reported on standard error. If something is wrong, one
+record that the store refuses is printed in place of the load, so that a script with it has a refused command."""
 # What is printed in place of a load.
 FAILED = b"csv-to-load failed\n"
 
@@ -35,13 +35,13 @@ def part(word: str) -> Tuple[int, int]:
     """K/N, as a pair."""
     number, _, parts = word.partition("/")
     if not (number.isdigit() and parts.isdigit() and 1 <= int(number) <= int(parts)):
-        raise ArgumentTypeError(f"{word}: not K/N, as 1/2 and 2/2")
+        raise ArgumentTypeError(f"{word}: not K/N, such as 1/2")
     return int(number), int(parts)
 
 
 def unit(word: str) -> str:
     if not decimals.UNIT.fullmatch(word):
-        raise ArgumentTypeError(f"{word}: no unit, as EUR, which has no digit, mark or space")
+        raise ArgumentTypeError(f"{word}: not a unit, such as EUR, which has no digit, mark or space")
     return word
 
 
@@ -49,14 +49,14 @@ def words() -> ArgumentParser:
     parser = Words(prog=called.LOAD, description=ABOUT)
     parser.add_argument("table", metavar="TABLE", help="the table of the store")
     parser.add_argument("start", metavar="FROM", help="the file's column with the start of a row")
-    parser.add_argument("end", metavar="TO", help="that with its end")
+    parser.add_argument("end", metavar="TO", help="the file's column with the end of a row")
     parser.add_argument(
         "column", nargs="*", metavar="[NAME=]COLUMN",
-        help="that with a value, in the order of the table's; as grade=Neu the file's Neu is the table's grade",
+        help="the file's columns with values, in the order of the table's; grade=Neu takes the file's Neu as grade",
     )
-    parser.add_argument("--file", metavar="FILE", help="the file, where it isn't standard input")
+    parser.add_argument("--file", metavar="FILE", help="the file, if it isn't standard input")
     parser.add_argument(
-        "--sheet", metavar="NAME", help="the sheet of a workbook of Excel (.xlsx), where it has several",
+        "--sheet", metavar="NAME", help="the sheet of an Excel workbook (.xlsx) that has several",
     )
     parser.add_argument(
         "--check", metavar="INSTANT",
@@ -69,30 +69,31 @@ def words() -> ArgumentParser:
         "--drop-equal", action="store_true",
         help="leaves out rows that are equal to an earlier one in all of the file's fields",
     )
-    parser.add_argument("--part", type=part, metavar="K/N", help="only rows whose key is of part K of N, by a checksum")
+    parser.add_argument("--part", type=part, metavar="K/N", help="only rows whose key is in part K of N, by a checksum")
     return parser
 
 
 def words_of_table(parser: ArgumentParser) -> None:
     parser.add_argument(
         "--table", dest="record", metavar="RECORD",
-        help="the table's record, as table,pay,person,text, or a script that has it: what doesn't fit it is refused, "
-        "and its names are the COLUMNs where none is given",
+        help="the table's record, such as table,pay,person,text, or a script that has it: what doesn't fit it is "
+        "refused, and its columns are the COLUMNs if none is given",
     )
     parser.add_argument("--print-table", action="store_true", help="prints that record before the load")
     parser.add_argument(
         "--update", action="append", default=[], metavar="COLUMN",
-        help="prints updates of rows with this value, and no load: FROM and TO are the portion, others are set",
+        help="prints updates of the rows with this column's value, in place of a load: FROM and TO are the portion, "
+        "other columns are set",
     )
     parser.add_argument(
         "--delete", action="store_true",
-        help="prints deletes of the rows that have the COLUMNs' values, and no load: FROM and TO are the portion; with "
-        "--table and no COLUMN they are those of the table's key",
+        help="prints deletes of the rows that have the COLUMNs' values, in place of a load: FROM and TO are the "
+        "portion; with --table, the COLUMNs are those of the table's key if none is given",
     )
 
 
 def words_of_values(parser: ArgumentParser) -> None:
-    parser.add_argument("--german", action="store_true", help="dates may be as 31.12.2024, decimals are as 1.234,50")
+    parser.add_argument("--german", action="store_true", help="reads dates as 31.12.2024, and decimals as 1.234,50")
     parser.add_argument(
         "--dates", choices=dates.names_of_forms(), metavar="FORM",
         help=f"the last day of 2024 in the form of the file's dates: {', '.join(dates.names_of_forms())}; "
@@ -100,45 +101,48 @@ def words_of_values(parser: ArgumentParser) -> None:
     )
     parser.add_argument(
         "--decimals", type=digits_of, action="append", default=[], metavar="COLUMN=DIGITS",
-        help="numbers with so many decimals at most, which become whole: with euros=2, 4800.5 is 480050 cents",
+        help="numbers with at most so many decimals become whole: with euros=2, 4800.5 becomes 480050 cents",
     )
-    parser.add_argument("--decimal-mark", choices=(".", ","), help="how 7,500 is read, which could be both")
+    parser.add_argument(
+        "--decimal-mark", choices=(".", ","),
+        help="the decimal mark of numbers such as 7,500, which could be read either way",
+    )
     parser.add_argument(
         "--unit", type=unit, action="append", default=[], metavar="UNIT",
-        help="numbers with decimals may have this before or behind them, as EUR or a sign of a currency",
+        help="numbers with decimals may have this before or after them, such as EUR or a currency sign",
     )
-    parser.add_argument("--whole-seconds", action="store_true", help="parts of a second are left out of points")
-    parser.add_argument("--last-day", action="store_true", help="TO is the last day of a row, and not the next one")
+    parser.add_argument("--whole-seconds", action="store_true", help="leaves out parts of a second")
+    parser.add_argument("--last-day", action="store_true", help="TO is the last day of a row, not the day after it")
     parser.add_argument("--open", action="store_true", help=f"an empty TO is {dates.NO_END}")
     parser.add_argument(
         "--no-end", action="append", default=[], metavar="VALUE",
-        help=f"a TO of this value, as NULL, is {dates.NO_END}",
+        help=f"a TO of this value, such as NULL, is {dates.NO_END}",
     )
     parser.add_argument("--plain-spaces", action="store_true", help="no-break spaces become spaces")
 
 
 def refuse_words(options: Namespace) -> None:
-    """Refuses names that are no COLUMNs, or that are given twice."""
+    """Refuses names that aren't COLUMNs, or that are given twice."""
     columns: List[str] = options.column
     for word, names in (("decimals", [name for name, _ in options.decimals]), ("update", options.update)):
         for name in names:
             if name not in columns:
-                raise Misfit(f"--{word} {name}: none of the columns {', '.join(columns)}")
+                raise Misfit(f"--{word} {name}: not one of the columns {', '.join(columns)}")
             if names.count(name) > 1:
                 raise Misfit(f"--{word} {name}: given twice")
     twice = [name for name in columns if columns.count(name) > 1]
     if twice:
-        raise Misfit(f"{twice[0]} is given twice, and a column of the file fills one of the table's")
+        raise Misfit(f"{twice[0]} is given twice, but a column of the file fills one of the table's")
     if options.delete and options.update:
-        raise Misfit("--delete makes deletes of the file's rows, and --update makes updates: one of them")
+        raise Misfit("--delete can't be given with --update")
     if options.delete and not columns and not options.record:
-        raise Misfit("--delete: no COLUMN is given, and each delete would be of all rows of its time")
+        raise Misfit("--delete needs a COLUMN or --table: without one, each delete would be of all rows of its time")
     if options.update and len(options.update) == len(columns):
-        raise Misfit("--update: no column is left that would be set")
+        raise Misfit("--update: no column is left to set")
     if options.unit and not options.decimals:
-        raise Misfit("--unit: no column is given by --decimals, and others are taken as they are")
+        raise Misfit("--unit needs --decimals: values of other columns are taken as they are")
     if options.print_table and not options.record:
-        raise Misfit("--print-table: no table is given by --table")
+        raise Misfit("--print-table needs --table")
 
 
 def given(options: Namespace) -> bytes:
@@ -151,7 +155,7 @@ def opened(options: Namespace) -> Records:
     if is_workbook(data):
         return Workbook(data, options.sheet, mark_of(options))
     if options.sheet is not None:
-        raise Misfit(f"--sheet {visible(options.sheet)}: the file is no workbook of Excel, so it has no sheets")
+        raise Misfit(f"--sheet {visible(options.sheet)}: the file isn't an Excel workbook, so it has no sheets")
     return Sheet(data, options.line_breaks)
 
 
@@ -179,14 +183,14 @@ def load_of(options: Namespace) -> Tuple[Load, Optional[Schema], List[str]]:
 def claimed(options: Namespace) -> Tuple[bytes, List[str]]:
     """The check of a division that the file has, and what is noted of it."""
     if options.column:
-        raise Misfit(f"--check: a division has a part and an id alone, and not {options.column[0]}")
+        raise Misfit(f"--check can't be given with a COLUMN, here {options.column[0]}")
     if options.check != "-" and read_point(options.check) is None:
-        raise Misfit(f"--check {options.check}: no point, as 2024-01-05, and no - for a table without rows")
+        raise Misfit(f"--check {options.check}: not a date or time, such as 2024-01-05, or - for a table without rows")
     words = ("part", "update", "delete", "record", "decimals", "drop_equal")
     unused = [word for word in words if getattr(options, word)]
     if unused:
         word = unused[0].replace("record", "table").replace("_", "-")
-        raise Misfit(f"--check takes no --{word}: it makes no load")
+        raise Misfit(f"--check can't be given with --{word}")
     sheet = opened(options)
     check, notes = claims.check_of(sheet, options.table, options.start, options.end, options.check)
     return records.encode(check), notes
@@ -203,8 +207,7 @@ def made(options: Namespace) -> Tuple[List[bytes], List[str], List[str], int]:
     """What is printed; what is at fault, or what is noted; and how many faults there are."""
     compose(options)
     if not is_name(options.table):
-        form = "small letters, digits and _, at most 32, a letter first"
-        raise Misfit(f"{visible(options.table)}: no name of a table: {form}")
+        raise Misfit(f"{visible(options.table)}: not a table's name, which has {NAME_HAS}")
     if options.check is not None:
         check, notes = claimed(options)
         return [check], [], notes, 0

@@ -21,7 +21,7 @@ def check_of(sheet: Records, table: str, part: str, row_id: str, instant: str) -
     for piece in sheet.pieces():
         for line, record in zip(*piece):
             if len(record) != len(sheet.header) or not is_count(record[places[1]].strip()):
-                raise Misfit(f"line {line}: {visible(','.join(record))}: no row with a part and an id")
+                raise Misfit(f"line {line}: {visible(','.join(record))}: not a row with a part and an id")
             parts.setdefault(record[places[0]].strip(), []).append(record[places[1]].strip())
     opening = ["check", table, str(len(parts)), instant]
     return to_text([opening, *(["part", *ids] for ids in parts.values()), ["end"]]), list(alike(part, parts))
@@ -32,5 +32,5 @@ def alike(column: str, parts: Iterable[str]) -> Iterator[str]:
     for name in parts:
         other = looks.other(name)
         if other is not None:
-            which = f"is another part than '{visible(other)}', though they look alike"
-            yield f"{visible(column)} is '{visible(name)}', and {which}"
+            which = f"looks like '{visible(other)}', but is another part"
+            yield f"{visible(column)} is '{visible(name)}': it {which}"

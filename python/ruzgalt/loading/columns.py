@@ -95,7 +95,7 @@ class End(Column):
             raise Misfit(self.remedy(text))
         made = dates.point(text, self.form)
         if dates.is_far_off(made):
-            why = f"a row ends there; where no end is known, --no-end '{text}' makes it {NO_END}"
+            why = f"a row ends there; if its end isn't known, --no-end '{text}' makes it {NO_END}"
             self.doubts[value] = Doubt("far off", why)
         if "T23:59" in made and not self.is_last_day:
             why = "the row doesn't hold at its end: a day ends at the next one's midnight"
@@ -104,17 +104,17 @@ class End(Column):
 
     def remedy(self, text: str) -> str:
         if not text:
-            return f"no end; with --open it is {NO_END}, for no end that is known"
-        return f"no date; --no-end '{text}' takes it for no end that is known"
+            return f"no end is given; --open reads it as {NO_END}, which stands for no known end"
+        return f"not a date; --no-end '{text}' reads it as {NO_END}, which stands for no known end"
 
     def the_next_day(self, text: str) -> str:
         if text == NO_END:
             if not self.is_open:
-                raise Misfit(f"no day is behind it; with --open it is {NO_END}, for no end that is known")
+                raise Misfit(f"there is no day after it; --open reads it as {NO_END}, which stands for no known end")
             self.met.add("")
             return NO_END
         if len(text) != 10:
-            raise Misfit("a last day has no time")
+            raise Misfit("a last day can't have a time")
         return dates.shifted(text, 1)
 
 
@@ -142,20 +142,20 @@ class Text(Column):
             if not is_integer(made):
                 # Of a number with zeros in front cents are seldom meant.
                 digits = 0 if made.isdecimal() else 2
-                remedy = f"numbers are whole, as 5000; --decimals {self.name}={digits} makes them so of others"
-                raise Misfit(f"no number of the table; {remedy}")
+                remedy = f"--decimals {self.name}={digits} makes other numbers whole"
+                raise Misfit(f"not a whole number, such as 5000; {remedy}")
             return made
         # No character has more than four bytes.
         if len(made) > TEXT_LIMIT // 4 and not is_short(made):
-            raise Misfit("a text has 4,096 bytes at most")
+            raise Misfit("a text can have at most 4,096 bytes")
         why = doubt_of(made, self.mark)
         other = self.look_alikes.other(made)
         if why:
             self.doubts[text] = Doubt(why, why)
         elif other is not None:
-            self.doubts[text] = Doubt("alike", f"it is another text than '{visible(other)}', though they look alike")
+            self.doubts[text] = Doubt("alike", f"it looks like '{visible(other)}', but is another text")
         elif self.is_key and not made:
-            self.doubts[text] = Doubt("empty", "it is empty, so all such rows are of one")
+            self.doubts[text] = Doubt("empty", "it is empty, so all such rows have the same key")
         return made
 
 

@@ -84,7 +84,7 @@ def point(text: str, form: Optional[str]) -> str:
     """The point as the store reads it. The store's own form is read beside any other: no day has both."""
     read = read_point(text) or (read_as(form, text) if form else None)
     if read is None:
-        raise Misfit(f"no date as {f'{form} or ' if form else ''}2024-12-31{remedy_for(text, form)}")
+        raise Misfit(f"not a date such as {f'{form} or ' if form else ''}2024-12-31{remedy_for(text, form)}")
     return print_point(read)
 
 
@@ -98,11 +98,11 @@ def remedy_for(text: str, form: Optional[str]) -> str:
     words = " or ".join("--german" if other == GERMAN else word_for(other) for other in others)
     if whole != text and (is_own or others):
         more = f"{words} and " if words else ""
-        return f"; with {more}--whole-seconds, which leaves out parts of a second, it is one"
+        return f"; use {more}--whole-seconds, which leaves out parts of a second"
     if words:
-        return f"; with {words} it is one"
+        return f"; use {words}"
     if re.fullmatch(r".*\d(?:Z|[+-]\d\d:?\d\d)", text) and text.count(":"):
-        return "; points have no zone: one and the same holds for the whole table"
+        return "; times have no zone here: the whole table is in one zone"
     if re.fullmatch(r"\d{1,2}[./-]\d{1,2}[./-]\d\d", text):
         return "; a year has four digits"
     if "24:00" in text:

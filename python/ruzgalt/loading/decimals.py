@@ -125,7 +125,7 @@ class Scale:
         bare = self.bare(text)
         number = number_in(bare, self.marks.mark)
         if number is None:
-            raise Misfit(f"no number as {self.example()}{self.remedy(text, bare)}")
+            raise Misfit(f"not a number such as {self.example()}{self.remedy(text, bare)}")
         fault = self.fault_of_decimals(number, bare)
         self.marks.look_at(self.name, text, bare, bool(fault))
         if fault:
@@ -151,7 +151,7 @@ class Scale:
         if len(number.decimals.rstrip("0")) > self.digits:
             return f"more than {self.digits} decimals{self.readings(bare, OTHER[self.marks.mark])}"
         if len(number.decimals) == 3 and self.digits < 3 and not self.marks.is_given:
-            why = f"three digits stand behind its mark, as behind one of thousands, and it has {self.digits} decimals"
+            why = f"three digits follow its mark, as after one of thousands, and it can have {self.digits} decimals"
             return f"{why} at most{self.readings(bare, '.,')}"
         return ""
 
@@ -167,19 +167,19 @@ class Scale:
         other = OTHER[self.marks.mark]
         if number_in(bare, other):
             word = "--german" if other == "," and not self.marks.is_given else f"--decimal-mark '{other}'"
-            return f"; with {word} it is one"
+            return f"; use {word}"
         if re.fullmatch(r"\([^()]*\d[^()]*\)|[^-]*\d *[-\u2212]|[\u2212\u2013][^-]*\d.*", bare):
-            return "; a number below zero has a minus before it, as -5"
+            return "; a number below zero has a minus before it, such as -5"
         if re.fullmatch(r"[^eE]*\d[eE][+-]?\d+", bare):
             return "; its digits are rounded off: save the column as a number without an exponent"
         if bare.startswith("+"):
-            return "; without + it may be one"
+            return "; leave out the +"
         unit = unit_of(text)
         if unit and unit.casefold().strip(".") in NO_UNITS:
-            return f"; is {unit} a multiple, or a sign? the number is to be written without it"
+            return f"; is {unit} a multiple, or a sign? write the number without it"
         if unit and any(number_in(without(unit, bare), mark) for mark in ".,"):
-            remedy = f"; with --unit {shlex.quote(unit)} it is one"
-            return f"{remedy}, of the same unit as those of {', '.join(self.units)}" if self.units else remedy
+            remedy = f"; use --unit {shlex.quote(unit)}"
+            return f"{remedy}, if it is the same unit as {', '.join(self.units)}" if self.units else remedy
         return ""
 
 

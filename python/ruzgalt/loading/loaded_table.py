@@ -8,7 +8,7 @@ from ruzgalt.script import commands, records
 from ruzgalt.script.forms import is_name
 from ruzgalt.script.reader import Source
 from ruzgalt.script.records import visible
-from ruzgalt.script.schemas import Schema, is_schema
+from ruzgalt.script.schemas import Schema, is_schema, listed
 
 
 def schema_of(options: Namespace) -> Optional[Schema]:
@@ -20,9 +20,9 @@ def schema_of(options: Namespace) -> Optional[Schema]:
     tables = [one.record.fields for one in commands.commands(Source(data)) if one.word == "table"]
     found = next((fields for fields in tables if fields[1:2] == [options.table]), None)
     if found is None:
-        raise Misfit(f"--table: no `table` record of {options.table}")
+        raise Misfit(f"--table: there is no `table` record of {options.table} in it")
     if not is_schema(found):
-        raise Misfit(f"--table: {records.to_record(found)}: no table,T,COLUMN,KIND..[,key,COLUMN..]")
+        raise Misfit(f"--table: {records.to_record(found)}: not of the form table,T,COLUMN,KIND..[,key,COLUMN..]")
     return Schema.read(found)
 
 
@@ -36,9 +36,9 @@ def rename(options: Namespace, header: Sequence[str]) -> None:
         name, mark, column = word.partition("=")
         if mark and word not in header:
             if not is_name(name):
-                raise Misfit(f"{visible(word)}: {visible(name)} is no name of a table's column")
+                raise Misfit(f"{visible(word)}: {visible(name)} can't be the name of a table's column")
             if name in options.renamed.values():
-                raise Misfit(f"{visible(word)}: the table's {name} is given twice")
+                raise Misfit(f"{visible(word)}: the table's column {name} is given twice")
             options.column[place] = column
             options.renamed[column] = name
 
@@ -69,7 +69,7 @@ def fit(options: Namespace, schema: Schema, header: Sequence[str]) -> Tuple[Sche
 def key_of(schema: Schema) -> List[str]:
     """The columns of the key, by which rows are deleted where no COLUMN is given."""
     if schema.columns and not schema.key:
-        raise Misfit(f"--delete: {schema.name} has no key, so COLUMNs are to say by which values its rows are deleted")
+        raise Misfit(f"--delete: {schema.name} has no key, so give the COLUMNs by whose values its rows are deleted")
     return [schema.names[place] for place in schema.key]
 
 
@@ -78,8 +78,7 @@ def in_order(options: Namespace, schema: Schema, header: Sequence[str]) -> List[
     of_table = {plain(name_for(options, name)): name for name in options.column}
     for name, column in of_table.items():
         if name not in schema.names:
-            known = ", ".join(schema.names)
-            raise Misfit(f"{visible(column)}: {schema.name} has no column {visible(name)}, but {known}")
+            raise Misfit(f"{visible(column)}: {schema.name} has no column {visible(name)}; {listed(schema.names)}")
     return [of_table[name] if name in of_table else name_in(header, name) for name in schema.names]
 
 
@@ -98,7 +97,7 @@ def name_in(header: Sequence[str], name: str) -> str:
     alike = [one for one in header if plain(one) == name]
     if len(alike) > 1 and name not in header:
         both = " and ".join(f"'{visible(one)}'" for one in alike)
-        raise Misfit(f"{name} is in the header as {both}: the COLUMNs are to say which is meant")
+        raise Misfit(f"{name} is in the header as {both}: give the one that is meant as a COLUMN")
     return name if name in header or not alike else alike[0]
 
 
@@ -114,8 +113,8 @@ def some_of(schema: Schema, columns: Sequence[str]) -> Schema:
         return schema
     unknown = [name for name in columns if plain(name) not in schema.names]
     if unknown:
-        known = f"the file has the table's names, and {schema.name} has {', '.join(schema.names)}"
-        raise Misfit(f"{visible(unknown[0])}: where not all columns are given, {known}")
+        known = f"{schema.name} has no such column, and only some of its columns are given; {listed(schema.names)}"
+        raise Misfit(f"{visible(unknown[0])}: {known}")
     places = [schema.place(plain(name)) for name in columns]
     kept = [places.index(place) for place in schema.key if place in places]
     return Schema(schema.name, tuple(schema.columns[place] for place in places), tuple(kept))
@@ -124,7 +123,7 @@ def some_of(schema: Schema, columns: Sequence[str]) -> Schema:
 def refuse_others(columns: Sequence[str], schema: Schema) -> None:
     if len(columns) != len(schema.names):
         wanted = f"{schema.name} has {len(schema.names)}: {', '.join(schema.names)}"
-        raise Misfit(f"{len(columns)} columns are given, and {wanted}")
+        raise Misfit(f"{len(columns)} columns are given, but {wanted}")
     for place, name in enumerate(columns):
         if plain(name) in schema.names and schema.names[place] != plain(name):
             raise Misfit(f"{visible(name)} is given as column {place + 1}, which is {schema.names[place]} in the table")

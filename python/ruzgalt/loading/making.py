@@ -156,8 +156,8 @@ class Load:
         records: List[List[str]] = []
         for line, record in zip(*piece):
             if len(record) != width:
-                quoted = "a field that has the parting character in it stands in quotes"
-                self.add_fault(f"line {line}: {len(record)} fields, and not the {width} of the header; {quoted}")
+                quoted = "put a field with a separator in it in double quotes"
+                self.add_fault(f"line {line}: {len(record)} fields, but the header has {width}; {quoted}")
             else:
                 lines.append(line)
                 records.append(record)
@@ -173,8 +173,8 @@ class Load:
         given = [schema.names[place] for place in schema.key] or schema.names[:1] if schema else self.stored[:1]
         found = [self.stored.index(name) for name in given if name in self.stored]
         if len(found) < len(given) or not set(found) <= set(self.keys):
-            wanted = f"{', '.join(given)}, as a load's are, so that is to be an --update column too"
-            raise Misfit(f"--part: rows are parted by {wanted}{'' if schema else '; --table has the key'}")
+            wanted = f"{', '.join(given)}, as those of a load are, so give that as an --update column too"
+            raise Misfit(f"--part: rows are split by {wanted}{'' if schema else '; --table has the key'}")
         self.parted_by = found
 
     def look_at(
@@ -208,8 +208,8 @@ class Load:
             return
         for line, start, end in zip(lines, starts, ends):
             if start >= end:
-                more = "; where that is the last day, --last-day takes it so" if start == end and len(end) == 10 else ""
-                what = f"{self.options.start} is {start}, and isn't before {self.options.end}, {end}{more}"
+                more = "; if that is the last day, use --last-day" if start == end and len(end) == 10 else ""
+                what = f"{self.options.start}, {start}, isn't before {self.options.end}, {end}{more}"
                 self.add_fault(f"line {line}: {what}")
 
     def keys_of(self, values: Sequence[Sequence[str]]) -> Sequence[object]:
@@ -220,7 +220,7 @@ class Load:
     def refuse_either(self) -> None:
         if self.marks.either and not self.marks.is_settled:
             name, text, bare = self.marks.either
-            why = "its mark may part thousands or decimals, and no other number of the file shows which"
+            why = "its mark may separate thousands or decimals, and no other number of the file shows which"
             self.add_fault(f"line {self.either_line}: {name} is '{visible(text)}': {why}: {readings(bare, '.,')}")
 
     def add_fault(self, what: str) -> None:
@@ -235,8 +235,8 @@ class Load:
         names = [name_for(self.options, column) for column in self.options.column]
         wrong = [name for name in names if not is_name(name)]
         if wrong and not self.is_load:
-            remedy = f"NAME={visible(wrong[0])} or --table gives the table's"
-            raise Misfit(f"{visible(wrong[0])} is no name of a table's column: {remedy}")
+            remedy = f"give the table's by NAME={visible(wrong[0])} or --table"
+            raise Misfit(f"{visible(wrong[0])} can't be the name of a table's column: {remedy}")
         return names
 
     def records_of(self, columns: List[Sequence[str]]) -> List[str]:
@@ -256,7 +256,7 @@ class Load:
     def noted(self) -> Iterator[str]:
         """What may not be meant."""
         if not self.rows:
-            yield f"no row stands behind the header, so {'the load has none' if self.is_load else 'nothing is changed'}"
+            yield f"no row follows the header, so {'the load has none' if self.is_load else 'nothing is changed'}"
         yield from [*self.notes.notes(), *self.ends.notes(), *self.twins.notes(), *self.notes_of_scales()]
         if self.left_out:
             yield self.left_out
@@ -267,8 +267,8 @@ class Load:
         if not self.is_load:
             yield from [*self.ends.equal_starts(self.options.delete), *self.overwrites.notes()]
         if self.rows > MOST_ROWS * 9 // 10 or self.bytes > MOST_BYTES * 9 // 10:
-            limits = f"a script has {MOST_BYTES:,} bytes at most, a table {MOST_ROWS:,} versions of rows"
-            room = f"{self.rows:,} rows in {self.bytes:,} bytes leave little room for corrections"
+            limits = f"a script can have {MOST_BYTES:,} bytes, a table {MOST_ROWS:,} versions of rows"
+            room = f"{self.rows:,} rows in {self.bytes:,} bytes leave little room for later changes"
             yield f"{room}: {limits}; --part 1/2 and --part 2/2 make two scripts of the file"
 
     def notes_of_words(self) -> Iterator[str]:
@@ -280,44 +280,44 @@ class Load:
         if self.options.part:
             part, parts = self.options.part
             count = f"part {part} of {parts} has {self.printed:,} of the file's {self.rows:,} rows"
-            yield f"{count}; only all {parts} parts together have each"
+            yield f"{count}; only all {parts} parts together have all rows"
 
     def notes_of_points(self) -> Iterator[str]:
         """Dates that are as good the other way round, and times of which some have AM or PM."""
         texts = [point_text(text, False) for column in self.columns[:2] for text in column]
         found = as_good_swapped(texts, form_of(self.options) or "")
         if found:
-            months = f"of {found.wanted} months, and not of {found.found}"
-            both = f"of {found.found} months either way" if found.wanted == found.found else months
-            example = f"'{found.text}', of {found.dates}, is {found.read}, and would be {found.otherwise}"
-            question = f"--dates {found.other} reads all dates too, which are then {both}: which is meant? ({example})"
+            months = f"in {found.wanted} months, not in {found.found}"
+            both = f"in {found.found} months either way" if found.wanted == found.found else months
+            example = f"'{found.text}', of {found.dates}, is read as {found.read}, and would be {found.otherwise}"
+            question = f"--dates {found.other} reads all dates too, then {both}: which is meant? ({example})"
             yield f"{self.options.start} and {self.options.end}: {question}"
         plain = without_half(texts)
         if plain:
-            halves = f"'{visible(plain)}' has neither AM nor PM, which others have, and is taken by 24 hours"
+            halves = f"'{visible(plain)}' has neither AM nor PM, which others have, and is read by 24 hours"
             yield f"{self.options.start} and {self.options.end}: {halves}"
 
     def notes_of_scales(self) -> Iterator[str]:
         for column in self.columns:
             scale = column.convert
             if isinstance(scale, Scale) and scale.digits > 2 and 0 < scale.longest < scale.digits:
-                count = f"its numbers have {scale.longest} decimals at most, and by --decimals {scale.digits}"
+                count = f"its numbers have at most {scale.longest} decimals, and --decimals gives {scale.digits}"
                 yield f"{column.name}: {count}; --decimals {column.name}={scale.longest} takes them as they are"
 
 
 def refuse_header(header: List[str], names: List[str]) -> None:
     if not header:
-        raise Misfit("no header, since the file has nothing but empty lines")
+        raise Misfit("there is no header: the file has nothing but empty lines")
     unknown = [name for name in names if name not in header]
     if unknown:
         shown = ", ".join(f"'{visible(name)}'" for name in header)
         mark = next((mark for mark in "|:^~ " if mark in header[0]), "") if len(header) == 1 < len(names) else ""
-        remedy = f"; `(echo 'sep={mark}'; cat FILE)` says that '{mark}' parts its fields" if mark else ""
+        remedy = f"; `(echo 'sep={mark}'; cat FILE)` makes '{mark}' the separator of its fields" if mark else ""
         file = next((name for name in unknown if isfile(name)), None)
-        remedy = f"; {visible(file)} is a file, which --file or `<` gives" if file else remedy
+        remedy = f"; {visible(file)} is a file: give it by --file or `<`" if file else remedy
         raise Misfit(f"not in the header: {', '.join(map(visible, unknown))}; it has {shown}{remedy}")
     if any(read_point(name) for name in names[:2]):
-        raise Misfit(f"the first line is to have names, and has a date: {visible(','.join(header))}")
+        raise Misfit(f"the first line must have the columns' names, but it has a date: {visible(','.join(header))}")
     twice = [name for name in names if header.count(name) > 1]
     if twice:
         raise Misfit(f"two columns of the header have the name {visible(twice[0])}")

@@ -43,15 +43,15 @@ def composed(name: str) -> str:
 def refuse_strange(data: bytes) -> None:
     """Refuses what is no text."""
     if data.startswith(b"\xd0\xcf\x11\xe0"):
-        raise Misfit("this is an old workbook of a spreadsheet, and no CSV: save it there as .xlsx, or as CSV UTF-8")
+        raise Misfit("this is an old spreadsheet workbook, not a CSV file: save it as .xlsx, or as CSV UTF-8")
     if data.startswith(b"\x1f\x8b"):
-        raise Misfit("this is a packed file: `gunzip -c FILE` unpacks it")
+        raise Misfit("this is a compressed file: `gunzip -c FILE` unpacks it")
     if data.count(0) * 3 > len(data) and not data.startswith((b"\xff\xfe", b"\xfe\xff")):
         form = "UTF-16LE" if data[1:2] == b"\0" else "UTF-16BE"
-        raise Misfit(f"a third of its bytes are zero: `iconv -f {form} -t UTF-8` makes UTF-8 of it")
+        raise Misfit(f"a third of its bytes are zero: `iconv -f {form} -t UTF-8` converts it to UTF-8")
     if b"\0" in data and not data.startswith((b"\xff\xfe", b"\xfe\xff")):
         line = data.count(b"\n", 0, data.index(b"\0")) + 1
-        raise Misfit(f"line {line}: a zero byte, of {data.count(0)} in the file: `tr -d '\\000'` leaves them out")
+        raise Misfit(f"line {line}: a zero byte, of {data.count(0)} in the file: `tr -d '\\000'` removes them")
 
 
 def decoded(data: bytes) -> str:
@@ -60,7 +60,7 @@ def decoded(data: bytes) -> str:
         return data.decode("utf-8-sig")
     except UnicodeDecodeError as error:
         form = "UTF-16" if data[:2] in (b"\xff\xfe", b"\xfe\xff") else "WINDOWS-1252"
-        remedy = f"`iconv -f {form} -t UTF-8` makes it of a file from Windows"
+        remedy = f"`iconv -f {form} -t UTF-8` converts a file from Windows"
         raise Misfit(f"byte {error.start + 1} isn't UTF-8; {remedy}") from None
 
 
@@ -107,7 +107,7 @@ class Sheet:
         try:
             records.extend(islice(self.reader, count))
         except csv.Error as error:
-            wanted = "a field that begins with a quote ends with one, and those inside are doubled"
+            wanted = "a field that begins with a quote must end with one, and quotes inside it are doubled"
             wrong = f"{error}: {wanted}"
         lines = self.lines_of(records)
         if wrong:
@@ -129,8 +129,8 @@ class Sheet:
         for record in records:
             more = sum(field.count("\n") + field.count("\r") - field.count("\r\n") for field in record)
             if more and not self.has_breaks:
-                what = f"a field in quotes goes on to line {self.line + more}"
-                raise Misfit(f"line {self.line}: {what}; where that is meant, --line-breaks takes it")
+                what = f"a field in quotes continues to line {self.line + more}"
+                raise Misfit(f"line {self.line}: {what}; if that is meant, use --line-breaks")
             lines.append(self.line)
             self.line += 1 + more
         return lines

@@ -67,7 +67,7 @@ class Workbook:
         if formula.data_type == "f":
             self.computed[place] += 1
             if cell.value is None:
-                what = "a formula whose value wasn't kept: a spreadsheet that opens and saves the file computes it"
+                what = "a formula without a saved value: open and save the file in a spreadsheet"
                 raise Misfit(f"cell {formula.coordinate} has {what}")
         self.dates[place] += isinstance(cell.value, date)
         return text_of(cell.value, self.mark)
@@ -76,11 +76,11 @@ class Workbook:
         """What is to be known of the columns at these places: of the period, and of values."""
         for place in [*points, *values]:
             if self.computed[place]:
-                how = "loaded with the value that was last computed"
+                how = "loaded with their last computed values"
                 yield f"{visible(self.header[place])} has formulas in {self.computed[place]:,} cells, {how}"
         for place in values:
             if self.dates[place]:
-                why = "a spreadsheet makes one of 1-2, and what was typed is lost"
+                why = "a spreadsheet turns 1-2 into a date, and what was typed is lost"
                 yield f"{visible(self.header[place])} has dates in {self.dates[place]:,} cells: {why}"
 
 
@@ -114,7 +114,7 @@ def sheet_of(data: bytes, name: Optional[str], has_values: bool) -> Any:
     try:
         openpyxl = import_module("openpyxl")
     except ModuleNotFoundError:
-        what = "this is a workbook of a spreadsheet, and openpyxl, which reads it, isn't installed"
+        what = "this is a spreadsheet workbook, and openpyxl, which reads it, isn't installed"
         raise Misfit(f"{what}: {NEEDED}") from None
     try:
         # It warns of what it leaves out: styles, and rules for what may be typed.
@@ -133,13 +133,13 @@ def sheet_of(data: bytes, name: Optional[str], has_values: bool) -> Any:
 
 def unreadable(error: Exception) -> Misfit:
     """Whatever openpyxl meets in a file that it can't read."""
-    return Misfit(f"no workbook of Excel that openpyxl can read: {visible(f'{type(error).__name__}: {error}')}")
+    return Misfit(f"openpyxl can't read it as an Excel workbook: {visible(f'{type(error).__name__}: {error}')}")
 
 
 def chosen(book: Any, name: Optional[str]) -> Any:
     names = [sheet.title for sheet in book.worksheets]
     if name is None and len(names) != 1:
-        raise Misfit(f"the workbook has the sheets {', '.join(map(visible, names))}: --sheet says which")
+        raise Misfit(f"the workbook has the sheets {', '.join(map(visible, names))}: choose one by --sheet")
     if name is not None and name not in names:
-        raise Misfit(f"--sheet {visible(name)}: no sheet of the workbook, which has {', '.join(map(visible, names))}")
+        raise Misfit(f"--sheet {visible(name)}: no such sheet; the workbook has {', '.join(map(visible, names))}")
     return book[names[0] if name is None else name]

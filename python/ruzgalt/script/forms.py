@@ -6,8 +6,12 @@ from typing import Optional
 
 POINT = re.compile(r"(\d{4})-(\d\d)-(\d\d)(?:T(\d\d):(\d\d):(\d\d))?", re.ASCII)
 INTEGER = re.compile(r"0|-?[1-9]\d*", re.ASCII)
+# Examples of points, for a person.
+POINTS = "2024-01-05 or 2024-01-05T08:30:00"
 LONGEST_NAME = 32
 NAME = re.compile(rf"[a-z][a-z0-9_]{{0,{LONGEST_NAME - 1}}}", re.ASCII)
+# What a name has, for a person.
+NAME_HAS = f"1 to {LONGEST_NAME} of a to z, 0 to 9 and _, the first a letter"
 RESERVED = ("asof", "by", "key", "on", "set", "where")
 TEXT_LIMIT = 4096
 # No number of a column has more characters; a sum of 1,000,000 of them has six more.
