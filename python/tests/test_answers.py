@@ -1,4 +1,4 @@
-"""The words of tools/answers, beside scripts and answers that are told here: no program is run."""
+"""The words of tools/answers, beside scripts and answers that are given here: no program is run."""
 import contextlib
 import io
 import os
@@ -25,11 +25,11 @@ sys.stdout.write({!r})
 """
 
 
-def answers(words: str, script: str, told: str) -> Tuple[int, str, str]:
+def answers(words: str, script: str, answered: str) -> Tuple[int, str, str]:
     """The status of a command, what it prints, and what it says; $S stands for the script, $A for its answers."""
     with tempfile.TemporaryDirectory() as folder:
         files = {"$S": Path(folder, "script.csv"), "$A": Path(folder, "answers.csv"), "$P": Path(folder, "program")}
-        for file, text in zip(files.values(), (script, told, FAKE.format(told))):
+        for file, text in zip(files.values(), (script, answered, FAKE.format(answered))):
             file.write_bytes(text.encode())
         files["$P"].chmod(0o700)
         split = words.split(" ")
@@ -49,27 +49,27 @@ def run(words: List[str]) -> Tuple[int, str, str]:
 
 
 class Lists(unittest.TestCase):
-    def marks(self, part: str, script: str, told: str) -> None:
-        _, _, said = answers("list $S --answers $A --go-on", script, told)
+    def marks(self, part: str, script: str, answered: str) -> None:
+        _, _, said = answers("list $S --answers $A --go-on", script, answered)
         self.assertIn(part, said)
 
     def test_an_update_of_all_rows_is_marked(self) -> None:
         script = PAY + "update,pay,2024-01-01,2024-12-01,set,euros,7\n"
-        self.marks("without a `where` it acts on all rows of that time: 2 were changed", script, "ok,1\nok,2\nok,3\n")
+        self.marks("it has no `where`, so it changed all rows of that time: 2", script, "ok,1\nok,2\nok,3\n")
 
     def test_marks_of_one_kind_are_one_line(self) -> None:
         nothing = "update,pay,2024-01-01,2024-02-01,set,euros,{},where,person,B\n"
         script = PAY + "".join(map(nothing.format, range(6))) + "update,pay,2024-01-01,2024-06-01,set,euros,7\n"
-        told = "".join(f"ok,{number}\n" for number in range(1, 10))
-        _, _, said = answers("list $S --answers $A", script, told)
+        answered = "".join(f"ok,{number}\n" for number in range(1, 10))
+        _, _, said = answers("list $S --answers $A", script, answered)
         one, other = said.splitlines()
         self.assertIn("answers: line 6: update,pay,", one)
         places = "(likewise line 7, line 8, line 9 and 2 more, which `tools/answers refusals` lists)"
         self.assertTrue(one.endswith(f"so nothing was changed {places}"), one)
         self.assertIn("answers: line 12: ", other)
-        _, _, said = answers("refusals $S --answers $A", script, told)
+        _, _, said = answers("refusals $S --answers $A", script, answered)
         self.assertEqual([line.split(": ")[1] for line in said.splitlines()], [f"line {6 + more}" for more in range(7)])
-        _, _, said = answers("list $S --answers $A", PAY + nothing * 3, told[:25])
+        _, _, said = answers("list $S --answers $A", PAY + nothing * 3, answered[:25])
         self.assertTrue(said.endswith("so nothing was changed (likewise line 7, line 8)\n"), said)
 
     def test_a_portion_to_a_last_day_is_marked(self) -> None:
@@ -86,7 +86,7 @@ class Lists(unittest.TestCase):
         self.marks("2024-05-30T23:59:59 isn't in it", script, "ok,1\nok,2\nok,3\n")
 
     def test_an_update_past_the_end_of_all_rows_is_marked(self) -> None:
-        part = "each row that it changed ends by 2024-06-01, before 2024-08-01: an update lengthens no row, and a load"
+        part = "each row that it changed ends by 2024-06-01, before 2024-08-01: an update can't lengthen a row; load"
         for end, is_marked in [
             ("2024-08-01", True), ("2024-06-01", False), ("2024-06-01T00:00:00", False), ("9999-12-31", False),
         ]:
@@ -113,24 +113,24 @@ class Lists(unittest.TestCase):
     def test_rows_that_were_refused_with_a_wrong_one_are_marked(self) -> None:
         script = "table,t,a,int\nload,t\nrow,2024-01-01,2024-02-01,1\nrow,2024-01-01,2024-02-01,x\nend\n"
         script += "load,t\nrow,2024-01-01,2024-02-01,2\nend\n"
-        self.marks("1 of its other rows stand in no later load", script, "ok,1\nerror,4,BadNumber\nok,2\n")
+        self.marks("1 of its other rows are in no later load", script, "ok,1\nerror,4,BadNumber\nok,2\n")
 
     def test_a_join_without_a_value_in_common_is_marked(self) -> None:
         script = PAY + "table,of,name,text\nload,of\nrow,2024-01-01,2024-03-01,a\nend\njoin,pay,of,on,person,name\n"
-        told = "ok,1\nok,2\nok,3\nok,4\nend,0\n"
-        self.marks("no value of these columns in common, so no row matches: 'A' and 'a' look alike", script, told)
+        answered = "ok,1\nok,2\nok,3\nok,4\nend,0\n"
+        self.marks("no value of these columns in common, so no row matches: 'A' and 'a' look alike", script, answered)
 
     def test_an_anti_join_of_nothing_tells_of_the_other_way_round(self) -> None:
         script = PAY + "anti,pay,pay,on,person,person\n"
-        self.marks("asked for by anti,pay,pay", script, "ok,1\nok,2\nend,0\n")
+        self.marks("without one of pay, ask by anti,pay,pay", script, "ok,1\nok,2\nend,0\n")
 
     def test_quotes_that_may_not_be_meant_are_marked(self) -> None:
         row = "load,pay\nrow,2024-01-01,2024-03-01,{},5\nrow,2024-01-01,2024-03-01,{},5\nend\n"
         for first, second, part in [
-            ('"B\nrow,2024-01-01,2024-03-01,C"', "D", "line 7: B\\nrow,2024-01-01,2024-03-01,C goes on to lines"),
-            (' "B"', "D", 'line 7:  "B" has a blank before its quote, so blank and quotes belong to it'),
-            ("'B'", "'D'", "line 7: 'B' has single quotes, which belong to it: quotes of fields are double (1 more"),
-            (" B", "D ", "line 7:  B has a blank at an end, which belongs to it (1 more such fields)"),
+            ('"B\nrow,2024-01-01,2024-03-01,C"', "D", "line 7: B\\nrow,2024-01-01,2024-03-01,C continues to lines"),
+            (' "B"', "D", 'line 7:  "B" has a blank before its quote, so blank and quotes are part of it'),
+            ("'B'", "'D'", "'B' has single quotes, which are part of it: fields are quoted by double quotes (1 more"),
+            (" B", "D ", "line 7:  B has a blank at an end, which is part of it (1 more such fields)"),
             ('"Byron, Ada "', "D", "line 7: Byron, Ada  has a blank at an end"),
             ('"two\nlines"', "O'Neill", ""), ('"Byron, Ada"', "van D", ""),
         ]:
@@ -140,56 +140,56 @@ class Lists(unittest.TestCase):
 
     def test_an_open_quote_of_a_command_is_marked(self) -> None:
         script = PAY + 'update,pay,2024-01-01,2024-12-01,set,euros,7,where,person,"A\nrows,pay\n'
-        self.marks("goes on to lines that look like records", script, "ok,1\nok,2\nok,3\n")
+        self.marks("continues to lines that look like records", script, "ok,1\nok,2\nok,3\n")
 
     def test_a_script_that_is_empty_or_has_answers_is_marked(self) -> None:
         for tool in ("list", "page", "json"):
             _, _, said = answers(f"{tool} $S --answers $A", "\n", "")
             self.assertIn("the script is empty", said)
-        self.marks("these are answers, and no script", "ok,1\n", "error,1,BadCommand\n")
+        self.marks("these are answers, not a script", "ok,1\n", "error,1,BadCommand\n")
 
     def test_rows_that_overlap_without_a_key_are_marked_with_the_question(self) -> None:
         script = PAY.replace("2024-04-01", "2024-02-01")
-        part = "1 and 2, equal in person, hold at one time; `tools/answers overlaps SCRIPT person --ask rows,pay`"
+        part = "1 and 2, equal in person, hold at the same time; `tools/answers overlaps SCRIPT person --ask rows,pay`"
         self.marks(part, script, "ok,1\nok,2\n")
-        part = "pay has a key of all columns, and rows 1 and 2, equal in person, hold at one time"
+        part = "pay has a key of all columns, and rows 1 and 2, equal in person, hold at the same time"
         self.marks(part, script.replace("euros,int", "euros,int,key,person,euros"), "ok,1\nok,2\n")
         for other in (script.replace("euros,int", "euros,int,key,person"), script.replace("A,6", "B,6"), PAY):
-            told = "ok,1\nerror,2,KeyOverlap\n" if "key" in other else "ok,1\nok,2\n"
-            _, _, said = answers("list $S --answers $A", other, told)
+            answered = "ok,1\nerror,2,KeyOverlap\n" if "key" in other else "ok,1\nok,2\n"
+            _, _, said = answers("list $S --answers $A", other, answered)
             self.assertEqual(said, "")
 
     def test_ends_of_rows_that_look_like_last_days_are_marked(self) -> None:
-        follows = "TO: of rows that follow one of the same person, 1 start on the day behind it (line 4 after line 3)"
-        year = "TO is 2024-12-31: a row doesn't hold on that day any more; one that has it ends on the next"
+        follows = "TO: of rows that follow one of the same person, 1 start on the day after it (line 4 after line 3)"
+        year = "TO is 2024-12-31: a row no longer holds on that day; one that has it ends on the next"
         touching = PAY.replace("2024-04-01", "2024-03-01")
         other = "load,pay\nrow,2024-06-{},2024-07-01,A,7\nend\n"
         for script, part in [
             (PAY.replace("2024-03-01", "2024-03-31"), follows), (PAY, ""),
             ("table,t,a,int\nload,t\nrow,2024-01-01,2024-12-31,1\nend\n", year), (touching, ""),
-            (touching + other.format("02"), "1 start on the day behind it (line 7 after line 4) and 1 start on it"),
+            (touching + other.format("02"), "1 start on the day after it (line 7 after line 4) and 1 start on it"),
             (touching + other.format("01"), ""), (PAY + other.format("15"), ""),
             ("table,t\nload,t\nrow,2024-01-01,2024-03-31\nrow,2024-04-01,2024-05-01\nend\n", ""),
         ]:
             with self.subTest(script):
-                told = "".join(f"ok,{place + 1}\n" for place in range(script.count("table,") + script.count("load,")))
-                _, _, said = answers("list $S --answers $A", script, told)
+                output = "".join(f"ok,{place + 1}\n" for place in range(script.count("table,") + script.count("load,")))
+                _, _, said = answers("list $S --answers $A", script, output)
                 self.assertEqual((part in said, said == ""), (True, part == ""), said)
 
     def test_texts_that_look_alike_in_several_loads_are_marked(self) -> None:
         other = "load,pay\nrow,2024-07-01,2024-08-01,a,6\nend\n"
-        self.marks("line 6: load,pay: 'A' and 'a' look alike, and are two texts", PAY + other, "ok,1\nok,2\nok,3\n")
+        self.marks("line 6: load,pay: 'A' and 'a' look alike, but are two texts", PAY + other, "ok,1\nok,2\nok,3\n")
 
     def test_a_past_without_rows_is_marked(self) -> None:
         script = PAY + "table,of,name,text\nload,of\nrow,2024-01-01,2024-07-01,A\nend\n"
         for commit, part in [
-            (3, "of has rows from commit 4 on, and commit 3 shows none of it"),
-            (2, "of was made by commit 3, so commit 2 shows no row of it"), (4, "each row of pay is matched"),
+            (3, "of has rows from commit 4 on, so commit 3 has no row of it"),
+            (2, "of was made by commit 3, so commit 2 has no row of it"), (4, "each row of pay is matched"),
         ]:
-            told = "ok,1\nok,2\nok,3\nok,4\n" + (ROWS if commit < 4 else "end,0\n")
+            answered = "ok,1\nok,2\nok,3\nok,4\n" + (ROWS if commit < 4 else "end,0\n")
             for tool in ("list", "csv") if commit < 4 else ("list",):
                 words, question = f"{tool} $S --answers $A", f"anti,pay,of,on,person,name,asof,{commit}\n"
-                self.assertIn(part, answers(words, script + question, told)[2])
+                self.assertIn(part, answers(words, script + question, answered)[2])
 
     def test_an_anti_join_of_an_empty_table_isn_t_marked(self) -> None:
         script = PAY + "table,of,name,text\nanti,of,pay,on,name,person\n"
@@ -202,8 +202,8 @@ class Lists(unittest.TestCase):
 
 
 class Tables(unittest.TestCase):
-    def prints(self, wanted: str, words: str, script: str, told: str) -> None:
-        status, printed, said = answers(words, script, told)
+    def prints(self, wanted: str, words: str, script: str, answered: str) -> None:
+        status, printed, said = answers(words, script, answered)
         self.assertEqual((status, printed, said), (0, wanted, ""))
 
     def test_gaps_are_the_times_between_rows_of_one_value(self) -> None:
@@ -223,28 +223,28 @@ class Tables(unittest.TestCase):
         wanted = "commit,place,entered,change,valid_from,valid_to,person,euros\n"
         wanted += "3,line 6,2024-05-11,-,2024-05-01,2024-05-11,A,6\n3,line 6,2024-05-11,+,2024-05-01,2024-05-11,A,9\n"
         words = "history $S pay --answers $A --diary diary --retroactive --commit 3"
-        told = "".join(f"ok,{number}\n" for number in range(1, 6))
-        self.prints(wanted, words, script, told)
-        self.prints(wanted, f"{words}-", script, told)
-        self.prints(wanted, f"{words}-4", script, told)
+        answered = "".join(f"ok,{number}\n" for number in range(1, 6))
+        self.prints(wanted, words, script, answered)
+        self.prints(wanted, f"{words}-", script, answered)
+        self.prints(wanted, f"{words}-4", script, answered)
 
-    def test_a_diary_of_commits_that_aren_t_there_is_told(self) -> None:
+    def test_a_diary_of_commits_that_aren_t_there_is_reported(self) -> None:
         script = PAY + "table,diary,newest,int\nload,diary\nrow,2024-01-01,2024-02-01,1\n"
         script += "row,2024-02-01,2024-03-01,9\nend\n"
-        told = "".join(f"ok,{number}\n" for number in range(1, 5))
-        _, _, said = answers("history $S pay --answers $A --diary diary", script, told)
-        self.assertEqual(said, "answers: --diary diary: it names commit 9, which isn't there: the newest is 4\n")
-        _, printed, _ = answers("page $S --answers $A --diary diary", script, told)
-        self.assertIn("it names commit 9, which isn't there", printed)
-        _, _, said = answers("history $S pay --answers $A --diary diary", script.replace(",9\n", ",1\n"), told)
+        answered = "".join(f"ok,{number}\n" for number in range(1, 5))
+        _, _, said = answers("history $S pay --answers $A --diary diary", script, answered)
+        self.assertEqual(said, "answers: --diary diary: it names commit 9, which doesn't exist: the newest is 4\n")
+        _, printed, _ = answers("page $S --answers $A --diary diary", script, answered)
+        self.assertIn("it names commit 9, which doesn't exist", printed)
+        _, _, said = answers("history $S pay --answers $A --diary diary", script.replace(",9\n", ",1\n"), answered)
         self.assertIn("commits without a day, which --retroactive leaves out: 2", said)
 
-    def test_history_of_what_isn_t_there_is_told(self) -> None:
+    def test_history_of_what_isn_t_there_is_reported(self) -> None:
         _, _, said = answers("history $S pay --answers $A --where person=a", PAY, "ok,1\nok,2\n")
         self.assertIn("no row of pay ever had the values of --where", said)
         status, _, said = answers("history $S pay --answers $A --commit 3", PAY, "ok,1\nok,2\n")
-        self.assertEqual((status, "no commit that is there: the newest is 2" in said), (1, True))
-        for word, wanted in {"2-3": "2-3: no commits that are", "2-1": "2-1: no commits", "3-": "3-2: no"}.items():
+        self.assertEqual((status, "no such commit; the newest is 2" in said), (1, True))
+        for word, wanted in {"2-3": "2-3: no such commits", "2-1": "2-1: no such commits", "3-": "3-2: no"}.items():
             status, _, said = answers(f"history $S pay --answers $A --commit {word}", PAY, "ok,1\nok,2\n")
             self.assertEqual((status, wanted in said), (1, True), said)
 
@@ -256,50 +256,50 @@ class Tables(unittest.TestCase):
         script = PAY.replace("2024-06-01", "9999-12-31")
         words = "sqlite $S :memory: --answers $A --open-null --day 2030-01-01 --ask all=rows,pay --query"
         wanted = "row_id,valid_from,valid_to,person,euros\n2,2024-04-01,,A,6\n"
-        told = f"ok,1\nok,2\n{ROWS}".replace("2024-06-01", "9999-12-31")
-        self.prints(wanted, f"{words}=select\t*\tfrom\tall_day".replace("--query=", "--query="), script, told)
+        answered = f"ok,1\nok,2\n{ROWS}".replace("2024-06-01", "9999-12-31")
+        self.prints(wanted, f"{words}=select\t*\tfrom\tall_day".replace("--query=", "--query="), script, answered)
 
-    def test_a_length_up_to_an_open_end_is_told(self) -> None:
+    def test_a_length_up_to_an_open_end_is_reported(self) -> None:
         words = "sqlite $S :memory: --answers $A --ask a=rows,pay --query=select\tjulianday(valid_to)\tfrom\ta"
-        for end, told in [("2024-06-01", ""), ("9999-12-31", "answers: --query: a length up to 9999-12-31, where no ")]:
+        for end, note in [("2024-06-01", ""), ("9999-12-31", "answers: --query: a length up to 9999-12-31, where no ")]:
             with self.subTest(end):
                 rows = f"ok,1\nok,2\n{ROWS}".replace("2024-06-01", end)
                 _, _, said = answers(words, PAY.replace("2024-06-01", end), rows)
-                self.assertEqual(said[:len(told) or None], told)
+                self.assertEqual(said[:len(note) or None], note)
 
-    def test_what_may_not_be_meant_in_a_query_is_told(self) -> None:
+    def test_what_may_not_be_meant_in_a_query_is_reported(self) -> None:
         for query, part in [
             ("select * from a where valid_from <= '2024-03-01' and valid_to >= '2024-03-01'", "which `>=` includes"),
             ("select * from a where valid_from <= '2024-03-01' and '2024-03-01' <= a.valid_to", "which `>=` includes"),
-            ("select valid_to - valid_from as days from a", "their difference is of years"),
+            ("select valid_to - valid_from as days from a", "so their difference is in years"),
             ("select * from a where valid_from < '2024-04-01' and '2024-04-01' < valid_to", "which `<` leaves out"),
             ("select * from a where valid_from = '2024-01-01T00:00:00'", "is compared as a text"),
             ("select * from a where valid_from < '20240401'", "is compared as a text"),
             ("select * from a where valid_from < '2024-02-30'", "is compared as a text"),
             ("select * from a where valid_from > 2023", "is compared with a number"),
             ("select * from a where valid_from < datetime('2024-01-01')", "a space before the time"),
-            ("select * from a where valid_to = null", "nothing is equal to NULL"),
+            ("select * from a where valid_to = null", "nothing equals NULL"),
             ("select * from a where valid_from < '2024-07-01' and valid_to > '2024-06-01'", ""),
             ("select * from a where valid_from <= '2024-06-01' and '2024-06-01' < valid_to", ""),
             ("select * from a where valid_to >= '9999' and valid_from < '2024-06'", ""),
             ("select valid_from from a where valid_to <= '2024-08-01'", ""),
             ("select * from a where valid_from = '2024-01'", "a point has a day"),
-            ("select euros*103/100 from a", "a division of whole numbers cuts off"),
-            ("select sum(euros)/count(*) as mean from a", "a division of whole numbers cuts off"),
-            ("select round(euros/3, 2) from a", "a division of whole numbers cuts off"),
-            ("select euros / 2 - 1.5 from a", "a division of whole numbers cuts off"),
+            ("select euros*103/100 from a", "a division of whole numbers drops"),
+            ("select sum(euros)/count(*) as mean from a", "a division of whole numbers drops"),
+            ("select round(euros/3, 2) from a", "a division of whole numbers drops"),
+            ("select euros / 2 - 1.5 from a", "a division of whole numbers drops"),
             ("select (euros*103+50)/100, (euros * 1025 + 500) / 1000 from a", ""),
             ("select (200 * sum(euros) + row_id) / (2 * row_id) from a", ""),
-            ("select (200 * sum(euros) + row_id) / (2 * euros) from a", "a division of whole numbers cuts off"),
-            ("select person, sum(euros) from a", "a column beside a sum of all records is that of some record"),
-            ("select count(*) as n, a.person from a", "a column beside a sum of all records is that of some record"),
+            ("select (200 * sum(euros) + row_id) / (2 * euros) from a", "a division of whole numbers drops"),
+            ("select person, sum(euros) from a", "a column beside a sum of all records is from some record"),
+            ("select count(*) as n, a.person from a", "a column beside a sum of all records is from some record"),
             ("select person, sum(euros) from a group by person", ""), ("select person, max(euros) from a", ""),
             ("select sum(euros), count(*) from a where person = 'A'", ""),
             ("select euros/3.0, 1.0 * euros / 3, cast(euros as real) / 3, avg(euros)/3, '1/2' from a -- 1/2", ""),
             ("select (julianday(valid_to) - julianday(valid_from)) / 7 from a", ""),
-            ("select * from a where strftime('%Y', valid_to)=2025", "give texts, which are equal to no number"),
-            ("select * from a where 2025 = strftime('%Y', valid_to)", "give texts, which are equal to no number"),
-            ("select * from a where substr(valid_to, 1, 4) in (2024)", "give texts, which are equal to no number"),
+            ("select * from a where strftime('%Y', valid_to)=2025", "give texts, which never equal a number"),
+            ("select * from a where 2025 = strftime('%Y', valid_to)", "give texts, which never equal a number"),
+            ("select * from a where substr(valid_to, 1, 4) in (2024)", "give texts, which never equal a number"),
             ("select * from a where cast(strftime('%Y', valid_to) as int) = 2025 or euros = 5", ""),
             ("select * from a where strftime('%Y', valid_to) = '2025' and euros >= 2025", ""),
         ]:
@@ -308,22 +308,23 @@ class Tables(unittest.TestCase):
             with self.subTest(query):
                 self.assertEqual((said.count("\n"), part in said), (1 if part else 0, True), said)
 
-    def test_an_end_that_is_null_is_told_beside_a_comparison(self) -> None:
-        script, told = (text.replace("2024-06-01", "9999-12-31") for text in (PAY, f"ok,1\nok,2\n{ROWS}"))
+    def test_an_end_that_is_null_is_reported_beside_a_comparison(self) -> None:
+        script, answered = (text.replace("2024-06-01", "9999-12-31") for text in (PAY, f"ok,1\nok,2\n{ROWS}"))
         part = "an end that isn't known is NULL by --open-null"
-        for query, is_told in [
+        for query, is_noted in [
             ("select * from a where valid_from <= '2024-05-01' and '2024-05-01' < valid_to", True),
             ("select sum(julianday(valid_to)) from a", True), ("select valid_to from a", False),
             ("select * from a where valid_to is null or valid_to > '2024-05-01'", False),
         ]:
             words = f"sqlite $S :memory: --answers $A --open-null --ask a=rows,pay --query={query.replace(' ', chr(9))}"
             with self.subTest(query):
-                self.assertEqual((part in answers(words, script, told)[2]), is_told)
+                self.assertEqual((part in answers(words, script, answered)[2]), is_noted)
 
-    def test_a_comparison_that_open_versions_are_missing_from_is_told(self) -> None:
-        told = "ok,1\nok,2\n" + "".join(f"version,{ROWS.split()[place][4:-4]},2,-,A,{5 + place}\n" for place in (0, 1))
-        part = "sys_to is NULL of a version that no commit closed"
-        for query, is_told in [
+    def test_a_comparison_that_open_versions_are_missing_from_is_reported(self) -> None:
+        rows = (f"version,{ROWS.split()[place][4:-4]},2,-,A,{5 + place}\n" for place in (0, 1))
+        output = "ok,1\nok,2\n" + "".join(rows)
+        part = "sys_to is NULL for a version that no commit closed"
+        for query, is_noted in [
             ("select * from v where sys_from <= 2 and 2 < v.sys_to", True),
             ("select * from v where sys_to = '-'", True),
             ("select * from v where sys_to is null or sys_to > 2", False), ("select sys_to from v", False),
@@ -331,23 +332,23 @@ class Tables(unittest.TestCase):
         ]:
             words = f"sqlite $S :memory: --answers $A --ask v=between,pay,0,2 --query={query.replace(' ', chr(9))}"
             with self.subTest(query):
-                self.assertEqual(part in answers(words, PAY, told + "end,2\n")[2], is_told)
+                self.assertEqual(part in answers(words, PAY, output + "end,2\n")[2], is_noted)
 
-    def test_a_join_without_times_is_told(self) -> None:
-        part = "records that are joined without their times needn't hold together"
+    def test_a_join_without_times_is_reported(self) -> None:
+        part = "records that are joined without their times may not hold at the same time"
         words = "sqlite $S :memory: --answers $A --ask a=rows,pay --ask b=rows,pay,asof,2 --ask c={} --query={}"
-        for query, is_told in [
+        for query, is_noted in [
             ("select sum(a.euros) from a join b on a.person = b.person", True), ("select 1 from a x, b y", True),
             ("select 1 from a join b on a.valid_from < b.valid_to and b.valid_from < a.valid_to", False),
             ("select 1 from a join b using (row_id)", False), ("select 1 from a join c using (person)", False),
             ("select person from a union all select person from b", False), ("select 1 from a", False),
         ]:
             asked = words.format("at,pay,2024-01-01", query.replace(" ", "\t"))
-            told = f"ok,1\nok,2\n{ROWS}{ROWS}{ROWS.splitlines()[0]}\nend,1\n"
+            answered = f"ok,1\nok,2\n{ROWS}{ROWS}{ROWS.splitlines()[0]}\nend,1\n"
             with self.subTest(query):
-                self.assertEqual(part in answers(asked, PAY, told)[2], is_told)
+                self.assertEqual(part in answers(asked, PAY, answered)[2], is_noted)
 
-    def test_between_the_ends_of_a_record_is_told(self) -> None:
+    def test_between_the_ends_of_a_record_is_reported(self) -> None:
         query = "select\t1\tfrom\ta\twhere\t'1'\tbetween\tvalid_from\tand\tvalid_to"
         words = f"sqlite $S :memory: --answers $A --ask a=rows,pay --query={query}"
         _, _, said = answers(words, PAY, f"ok,1\nok,2\n{ROWS}")
@@ -365,15 +366,15 @@ class LongLists(unittest.TestCase):
         text = '"A\nend,9\n"'
         script = PAY.replace("A,6", f"{text},6") + "rows,pay\nlog\n"
         rows = ROWS.replace("A,6", f"{text},6")
-        told = f"ok,1\nok,2\n{rows}commit,1,1,table,pay,0,0\ncommit,2,1,load,pay,2,0\nend,2\n"
+        answered = f"ok,1\nok,2\n{rows}commit,1,1,table,pay,0,0\ncommit,2,1,load,pay,2,0\nend,2\n"
         for size in (1, 2, 3):
             with self.subTest(size), pieces_of(size):
-                status, printed, _ = answers("csv $S --program $P 3", script, told)
+                status, printed, _ = answers("csv $S --program $P 3", script, answered)
                 self.assertEqual((status, printed.partition("\n")[2]), (0, rows.replace("row,", "")[:-len("end,2\n")]))
-                status, printed, _ = answers("csv $S --program $P 4", script, told)
+                status, printed, _ = answers("csv $S --program $P 4", script, answered)
                 self.assertEqual((status, printed.count("\n")), (0, 3))
 
-    def test_a_list_without_its_end_is_told(self) -> None:
+    def test_a_list_without_its_end_is_reported(self) -> None:
         with pieces_of(1):
             status, _, said = answers("csv $S --program $P", PAY + "rows,pay\n", "ok,1\nok,2\n" + ROWS[:-6])
         self.assertEqual((status, "the answers end before the list's end" in said), (1, True))
@@ -409,9 +410,9 @@ class Terminals(unittest.TestCase):
         with self.terminal() as said, Progress("answers"):
             self.wait_for(said, "\ranswers: 0 s\033[K")
             progress.end()
-            told = said.getvalue()
+            shown = said.getvalue()
             time.sleep(0.1)
-            self.assertEqual((said.getvalue(), told[-4:]), (told, "\r\033[K"))
+            self.assertEqual((said.getvalue(), shown[-4:]), (shown, "\r\033[K"))
 
     def test_no_line_stands_in_a_pipe_nor_where_it_takes_no_time(self) -> None:
         with self.terminal(is_one=False) as said, Progress("answers"):
@@ -433,11 +434,11 @@ class Fronts(unittest.TestCase):
             status, printed, _ = answers(words, PAY + "rows,pay\n", f"ok,1\nok,2\n{ROWS}")
         self.assertEqual((status, printed), (0, ""))
 
-    def test_an_empty_file_is_told(self) -> None:
+    def test_an_empty_file_is_reported(self) -> None:
         status, printed, said = answers("front $S /dev/null --program $P", PAY, "ok,1\nok,2\n")
-        self.assertEqual((status, printed, "is empty, and so the front of any" in said), (0, "", True))
+        self.assertEqual((status, printed, "is empty, so any answers begin with it" in said), (0, "", True))
 
-    def test_an_edited_record_is_told_with_its_line(self) -> None:
+    def test_an_edited_record_is_reported_with_its_line(self) -> None:
         with tempfile.NamedTemporaryFile("w") as kept, tempfile.NamedTemporaryFile("w") as before:
             kept.write(f"ok,1\nok,2\n{ROWS}".replace(",A,5", ",A,4"))
             before.write(PAY.replace(",A,5", ",A,4") + "rows,pay\n")
@@ -446,25 +447,25 @@ class Fronts(unittest.TestCase):
             words = f"front $S {kept.name} --program $P --before {before.name}"
             status, printed, _ = answers(words, PAY + "rows,pay\n", f"ok,1\nok,2\n{ROWS}")
         self.assertEqual(status, 1)
-        self.assertIn("line 3: the script said row,2024-01-01,2024-03-01,A,4 (line 3), and says row,", printed)
+        self.assertIn("line 3: the script said row,2024-01-01,2024-03-01,A,4 (line 3), and now says row,", printed)
         self.assertIn("line 6: rows,pay: record 3 of the kept answers is row,1,2024-01-01,2024-03-01,A,4", printed)
 
 
 class Hints(unittest.TestCase):
-    def test_words_of_other_languages_are_told_what_to_write(self) -> None:
+    def test_words_of_other_languages_are_answered_by_what_to_write(self) -> None:
         for record, part in [
-            ("select * from pay", "SQL is asked of answers"), ("alter,pay", "a table keeps its columns, and stays"),
-            ("drop,pay", "a table keeps its columns, and stays"), ("# a comment", "a script has no comments"),
-            ("sep=;", "a spreadsheet's first line"), ("hello", "these are table, load, "),
+            ("select * from pay", "`tools/answers sqlite` takes SQL"), ("alter,pay", "a table can't be changed"),
+            ("drop,pay", "a table can't be changed or removed"), ("# a comment", "a script has no comments"),
+            ("sep=;", "a spreadsheet's first line"), ("hello", "the commands are table, load, "),
         ]:
             with self.subTest(record):
                 _, printed, _ = answers("refusals $S --answers $A", record + "\n", "error,1,BadCommand\n")
                 self.assertIn(part, printed)
 
-    def test_two_columns_behind_by_are_told(self) -> None:
+    def test_two_columns_behind_by_are_reported(self) -> None:
         script = PAY + "agg,pay,count,by,person,euros\n"
         _, printed, _ = answers("refusals $S --answers $A", script, "ok,1\nok,2\nerror,6,BadCommand\n")
-        self.assertIn("behind `by` stands one column", printed)
+        self.assertIn("`by` takes one column", printed)
 
     def test_the_program_is_named_or_in_the_package_or_beside_it_or_on_the_path(self) -> None:
         with tempfile.TemporaryDirectory() as name:
@@ -484,7 +485,7 @@ class Hints(unittest.TestCase):
                 os.environ["DIPQ"] = "/another"
                 self.assertEqual(which.program(), "/another")
 
-    def test_a_program_that_is_missing_is_told_with_its_name_in_the_environment(self) -> None:
+    def test_a_program_that_is_missing_is_reported_with_its_name_in_the_environment(self) -> None:
         status, _, said = answers("csv $S --program /none/dipq", PAY, "")
         self.assertEqual(status, 1)
         self.assertIn("DIPQ in the environment", said)

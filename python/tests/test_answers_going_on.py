@@ -111,25 +111,25 @@ class Words(ToolCase):
     def test_what_can_t_be_raised_is_refused(self) -> None:
         pay = ["tools/answers", "raise", EXAMPLE, "pay", "euros", "--answers", EXAMPLE + ".stdout"]
         more = ["--percent", "2.5", "--from", "2024-07-01"]
-        for words, told in [
-            (["--percent", "2,5", "--from", "2024-07-01"], "--percent 2,5: no number as 2.5 or -3"),
+        for words, reason in [
+            (["--percent", "2,5", "--from", "2024-07-01"], "--percent 2,5: not a number such as 2.5 or -3"),
             (["--percent", "0.0", "--from", "2024-07-01"], "--percent 0.0: nothing is raised"),
             (["--percent", "-100.1", "--from", "2024-07-01"], "more than all is taken"),
-            (["--percent", "2.5", "--from", "1.7.2024"], "--from 1.7.2024: no point"),
+            (["--percent", "2.5", "--from", "1.7.2024"], "--from 1.7.2024: not a date or time"),
             ([*more, "--to", "2024-07-01T00:00:00"], "isn't before --to"),
             ([*more, "--where", "name=A"], "the table pay has no column name; its columns are person, euros"),
-            ([*more, "--where", "euros=05"], "--where euros=05: no whole number in digits alone"),
+            ([*more, "--where", "euros=05"], "--where euros=05: not a whole number in digits alone"),
         ]:
-            self.check([*pay, *words], "", 1, told)
+            self.check([*pay, *words], "", 1, reason)
         wrong = ["tools/answers", "raise", EXAMPLE, "pay", "person", "--answers", EXAMPLE + ".stdout", *more]
         self.check(wrong, "", 1, "person: a column of texts")
-        self.check([*wrong[:3], "salary", *wrong[4:]], "", 1, "salary: no table that is there: pay")
+        self.check([*wrong[:3], "salary", *wrong[4:]], "", 1, "salary: no such table; the tables are pay")
         self.check([*pay, *more, "--round", "nearest"], "", 2, "invalid choice: 'nearest'")
 
     def test_a_raise_says_how_it_rounds(self) -> None:
         pay = ["tools/answers", "raise", EXAMPLE, "pay", "euros", "--answers", EXAMPLE + ".stdout"]
         more = ["--from", "2024-07-01", "--dry-run"]
-        half = "4800 comes to 4800.048, which is no whole number: --round says how"
+        half = "4800 comes to 4800.048, which isn't a whole number: say how it is rounded"
         self.check([*pay, *more, "--percent", "0.001", "--where", "euros=4800"], "", 1, half)
         table = "rows,euros,exact,raised\n1,5400,5535,5535\n1,4800,4920,4920\n"
         self.check([*pay, *more, "--percent", "2.5"], "", 0, table)
@@ -139,13 +139,13 @@ class Words(ToolCase):
         pay = ["tools/answers", "next", EXAMPLE, "--answers", EXAMPLE + ".stdout"]
         self.check([*pay, "7", "--table", "t"], "", 1, "its records aren't rows of one commit")
         self.check([*pay, "6", "--table", "t"], "", 1, "its records aren't rows of one commit")
-        self.check([*pay, "4", "--table", "T"], "", 1, "--table T: no name of a table")
-        self.check([*pay, "4", "--table", "t", "--key", "who"], "", 1, "--key who: none of the table's columns person")
-        for words, told in [
-            (["person=Person"], "Person: no name of a column"), (["person", "euros=person"], "the name of two columns"),
-            (["name"], "no column name; its columns are row_id, "), (["person=by"], "by: no name of a column"),
+        self.check([*pay, "4", "--table", "T"], "", 1, "--table T: not a table's name")
+        self.check([*pay, "4", "--table", "t", "--key", "who"], "", 1, "who: not one of the table's columns person")
+        for words, note in [
+            (["person=Person"], "Person: not a column's name"), (["person", "euros=person"], "the name of two columns"),
+            (["name"], "no column name; its columns are row_id, "), (["person=by"], "by: not a column's name"),
         ]:
-            self.check([*pay, "4", "--table", "t", *(one for word in words for one in ("--column", word))], "", 1, told)
+            self.check([*pay, "4", "--table", "t", *(one for word in words for one in ("--column", word))], "", 1, note)
         self.check([*pay, "4", "--table", "t", "--column", "euros=pay"], "", 0, "table,t,pay,int\nload,t\nrow,2024-03")
 
     def test_a_sum_past_64_bits_can_t_go_on(self) -> None:

@@ -122,11 +122,11 @@ class Tools:
     """A case in files: its script, and the program's answers."""
 
     def __init__(self, case: Case, folder: str) -> None:
-        self.script, self.told = Path(folder, "script.csv"), Path(folder, "answers.csv")
+        self.script, self.kept = Path(folder, "script.csv"), Path(folder, "answers.csv")
         self.database = Path(folder, "z.db")
         self.script.write_bytes(case.script.encode())
         ran = subprocess.run([str(PROGRAM)], input=case.script.encode(), capture_output=True)
-        self.told.write_bytes(ran.stdout)
+        self.kept.write_bytes(ran.stdout)
         self.wanted = read_plainly(ran.stdout, case.open_place)
 
     def run(self, words: str) -> Tuple[int, str, str]:
@@ -166,19 +166,19 @@ class Hostile(unittest.TestCase):
             tools = Tools(case, folder)
             wanted = tools.wanted
             texts = [["" if one is None else one for one in record] for record in wanted]
-            for more in (f"--program {PROGRAM}", f"--answers {tools.told}"):
+            for more in (f"--program {PROGRAM}", f"--answers {tools.kept}"):
                 header, records = tools.by_csv(more)
                 self.assertEqual(records, texts)
                 self.assertEqual(len(set(header)), len(header))
                 self.assertEqual(tools.by_json(more), (header, wanted))
-            self.assertEqual(tools.by_sqlite(f"--answers {tools.told}"), (header, wanted))
+            self.assertEqual(tools.by_sqlite(f"--answers {tools.kept}"), (header, wanted))
 
     @DRAWN
     @given(case=cases())
     def test_a_spreadsheet_runs_no_field(self, case: Case) -> None:
         with tempfile.TemporaryDirectory() as folder:
             tools = Tools(case, folder)
-            more = f"--answers {tools.told} --for-spreadsheet --german"
+            more = f"--answers {tools.kept} --for-spreadsheet --german"
             status, text, said = tools.run(f"csv {more}")
             self.assertEqual((status, text[0]), (0, "\ufeff"), said)
             _, *records = csv.reader(io.StringIO(text[1:], newline=""), delimiter=";")

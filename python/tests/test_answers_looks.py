@@ -71,41 +71,42 @@ class Words(ToolCase):
         self.check(words, "", 0, "2;2024-03-01;2024-12-31;Hill, Grace;48,00\r\n")
 
     def test_words_without_a_use_are_refused(self) -> None:
-        self.check([*self.PAY, "7", "--last-day"], "", 1, "--last-day: no record has an end, since there is no column")
-        self.check([*self.PAY, "4", "--decimals", "cents=2"], "", 1, "--decimals cents: no column of numbers, but row")
-        self.check([*self.PAY, "4", "--german"], "", 1, "stands beside --for-spreadsheet or --decimals")
+        self.check([*self.PAY, "7", "--last-day"], "", 1, "--last-day: the answer has no column")
+        self.check([*self.PAY, "4", "--decimals", "cents=2"], "", 1, "cents: not a column of numbers; those are row")
+        self.check([*self.PAY, "4", "--german"], "", 1, "--german needs --for-spreadsheet or --decimals")
         sqlite = ["tools/answers", "sqlite", EXAMPLE, ":memory:", "--answers", EXAMPLE + ".stdout", "4=pay"]
-        self.check([*sqlite, "--last-day"], "", 1, "--last-day are of what --query prints: tables have whole numbers")
+        self.check([*sqlite, "--last-day"], "", 1, "--last-day need --query, whose answers they print")
         query = ["--query", "select 1.0 * euros as mean, euros from pay", "--decimals"]
-        self.check([*sqlite, *query, "mean=2"], "", 1, "--decimals mean: 4800.0 is no whole number")
-        self.check([*sqlite, *query, "cents=2"], "", 1, "--decimals cents: no column of numbers, but mean, euros")
+        self.check([*sqlite, *query, "mean=2"], "", 1, "--decimals mean: 4800.0 isn't a whole number")
+        self.check([*sqlite, *query, "cents=2"], "", 1, "cents: not a column of numbers; those are mean, euros")
 
     def test_an_end_with_a_time_is_no_last_day(self) -> None:
         script = "table,t,n,int\nload,t\nrow,2024-01-01,2024-01-02T08:00:00,1\nend\nrows,t\n"
-        told = "ok,1\nok,2\nrow,1,2024-01-01,2024-01-02T08:00:00,1\nend,1\n"
-        with kept(told) as answers:
+        answered = "ok,1\nok,2\nrow,1,2024-01-01,2024-01-02T08:00:00,1\nend,1\n"
+        with kept(answered) as answers:
             words = ["tools/answers", "csv", "-", "--last-day", "--answers", answers]
-            self.check(words, script, 1, "--last-day: 2024-01-02T08:00:00 is no day")
+            self.check(words, script, 1, "--last-day: 2024-01-02T08:00:00 has a time")
 
     def test_other_tables_of_time_are_shown_so_too(self) -> None:
         words = ["--decimals", "euros=2", "--last-day"]
         rows = "row,2024-01-01,2024-02-01,A,5\nrow,2024-03-01,2024-04-01,A,7\n"
         script = f"table,pay,person,text,euros,int\nload,pay\n{rows}end\nrows,pay\nrows,pay,asof,1\n"
-        told = "ok,1\nok,2\nrow,1,2024-01-01,2024-02-01,A,5\nrow,2,2024-03-01,2024-04-01,A,7\nend,2\nend,0\n"
+        answered = "ok,1\nok,2\nrow,1,2024-01-01,2024-02-01,A,5\nrow,2,2024-03-01,2024-04-01,A,7\nend,2\nend,0\n"
         for command, wanted in [
             (["gaps", "person", "--of", "3", "--last-day"], "2024-02-01,2024-02-29,A\n"),
             (["coalesce", "person", "--of", "3", "--last-day"], "2024-01-01,2024-01-31,A\n2024-03-01,2024-03-31,A\n"),
             (["changed", "4", "3", *words], "+,2024-01-01,2024-01-31,A,0.05\n+,2024-03-01,2024-03-31,A,0.07\n"),
             (["history", "pay", *words], "2,line 2,+,2024-01-01,2024-01-31,A,0.05\n"),
         ]:
-            with kept(told) as answers:
+            with kept(answered) as answers:
                 name, *others = command
                 self.check(["tools/answers", name, "-", *others, "--answers", answers], script, 0, wanted)
 
     def test_other_tables_are_printed_for_a_spreadsheet_too(self) -> None:
         rows = 'row,2024-01-01,2024-02-01,"=A;B",5\nrow,2024-03-01,2024-04-01,"=A;B",7\n'
         script = f"table,pay,person,text,euros,int\nload,pay\n{rows}end\nrows,pay\nrows,pay,asof,1\n"
-        told = 'ok,1\nok,2\nrow,1,2024-01-01,2024-02-01,"=A;B",5\nrow,2,2024-03-01,2024-04-01,"=A;B",7\nend,2\nend,0\n'
+        rows = 'row,1,2024-01-01,2024-02-01,"=A;B",5\nrow,2,2024-03-01,2024-04-01,"=A;B",7\n'
+        output = f"ok,1\nok,2\n{rows}end,2\nend,0\n"
         for command, wanted in [
             (["gaps", "person", "--of", "3"], "valid_from;valid_to;person\r\n2024-02-01;2024-03-01;\"'=A;B\"\r\n"),
             (["coalesce", "person", "--of", "3"], "2024-01-01;2024-02-01;\"'=A;B\"\r\n"),
@@ -114,12 +115,12 @@ class Words(ToolCase):
             (["history", "pay"], "2;line 2;+;2024-01-01;2024-02-01;\"'=A;B\";5\r\n"),
             (["overlaps", "person", "--of", "3"], "row_id;other_row_id;valid_from;valid_to;person\r\n"),
         ]:
-            with kept(told) as answers:
+            with kept(output) as answers:
                 words = ["tools/answers", command[0], "-", *command[1:], "--answers", answers]
                 self.check([*words, "--for-spreadsheet", "--german"], script, 0, wanted)
                 note = f"a spreadsheet would run {'2 fields, the first' if 'pay' in command else ''}"
                 self.check(words, script, 0, "" if command[0] == "overlaps" else note)
-                self.check([*words, "--german"], script, 1, "stands beside --for-spreadsheet or --decimals")
+                self.check([*words, "--german"], script, 1, "--german needs --for-spreadsheet or --decimals")
 
     def test_queries_print_money(self) -> None:
         sqlite = ["tools/answers", "sqlite", EXAMPLE, ":memory:", "--answers", EXAMPLE + ".stdout", "4=pay"]

@@ -130,13 +130,13 @@ class OverTime(unittest.TestCase):
 
     def check_sums(self, records: List[List[str]], wanted: Dict[Place, Fraction], each: str, said: str) -> None:
         """Each sum is next to the exact one, those of a group to its own sum, and what is rounded is reported."""
-        found = {(tuple(group), KEYS[each](date.fromisoformat(start))): int(told) for start, _, *group, told in records}
+        found = {(tuple(group), KEYS[each](date.fromisoformat(start))): int(one) for start, _, *group, one in records}
         self.assertEqual(sorted(found), sorted(wanted))
         self.assertEqual(len(found), len(records))
         self.assertEqual("rounded" in said, any(one.denominator != 1 for one in wanted.values()))
         for group in {group for group, _ in wanted}:
-            whole = sum(told for (one, _), told in found.items() if one == group)
-            exact = sum((told for (one, _), told in wanted.items() if one == group), Fraction(0))
+            whole = sum(cents for (one, _), cents in found.items() if one == group)
+            exact = sum((cents for (one, _), cents in wanted.items() if one == group), Fraction(0))
             self.assertLessEqual(abs(whole - exact), Fraction(1, 2))
         for piece, exact in wanted.items():
             self.assertLess(abs(found[piece] - exact), 1)
@@ -191,19 +191,19 @@ class OverTime(unittest.TestCase):
 class Words(ToolCase):
     def test_what_can_t_be_counted_is_refused(self) -> None:
         months = ["tools/answers", "months", EXAMPLE, "--answers", EXAMPLE + ".stdout"]
-        self.check([*months, "4", "--sum", "euros"], "", 1, "an `at` is of its point alone: ask by `rows`")
+        self.check([*months, "4", "--sum", "euros"], "", 1, "an `at` is of one point alone: ask by `rows`")
         self.check([*months, "6", "--sum", "euros"], "", 1, "versions of several commits")
         self.check([*months, "7", "--sum", "number"], "", 1, "its records aren't periods")
         pay = [*PAYROLL, "--go-on"]
-        self.check([*pay, "--sum", "sum_euros"], "", 1, "9999-12-31,42150: no end is known: --to says up to where")
+        self.check([*pay, "--sum", "sum_euros"], "", 1, "9999-12-31,42150: no end is known: give --to, up to which")
         self.check([*pay, "--sum", "euros"], "", 1, "no column euros; its columns are valid_from, valid_to, sum_")
         self.check([*pay, "--sum", "valid_to"], "", 1, "valid_to: a start or an end")
-        self.check([*pay, "--sum", "sum_euros", "--to", "2024-13-01"], "", 1, "answers: --to 2024-13-01: no point")
+        self.check([*pay, "--sum", "sum_euros", "--to", "2024-13-01"], "", 1, "--to 2024-13-01: not a date or time")
         both = ["--from", "2024-02-01", "--to", "2024-02-01"]
         self.check([*pay, "--sum", "sum_euros", *both], "", 1, "--from 2024-02-01 isn't before --to 2024-02-01")
         self.check([*pay, "--sum", "sum_euros", "--each", "day"], "", 2, "invalid choice: 'day'")
 
-    def test_only_the_time_that_is_told_counts(self) -> None:
+    def test_only_the_time_that_is_given_counts(self) -> None:
         cut = ["--sum", "sum_euros", "--from", "2024-06-16", "--to", "2024-07-01T12:00:00"]
         # 41,810 for 15 of 30 days, and 41,830 for half of a day of 31.
         self.check([*PAYROLL, "--go-on", *cut], "", 0, "2024-06-01,2024-07-01,20905\n2024-07-01,2024-08-01,675\n")
@@ -214,8 +214,8 @@ class Words(ToolCase):
         self.check([*months, "last", "--less", "last-1"], "", 0, june)
         self.check([*months, "--less", "last-1"], "", 0, june)
         self.check([*months, "last", "--less", "last"], "", 1, "--less last: that is the answer whose amounts are")
-        self.check([*months, "--less", "before"], "", 1, "before: neither a number, nor @LINE, nor last or last-N")
-        self.check([*months, "--less", "@29"], "", 1, "an `at` is of its point alone")
+        self.check([*months, "--less", "before"], "", 1, "before: not a NUMBER, @LINE, last or last-N")
+        self.check([*months, "--less", "@29"], "", 1, "an `at` is of one point alone")
 
 
 if __name__ == "__main__":

@@ -37,8 +37,8 @@ def script_of(then: List[Row], now: List[Row]) -> Tuple[str, str]:
         return "".join([*lines, f"end,{len(rows)}\n"])
 
     script = f"table,t,x,text\nload,t\n{loaded(then)}end\ndelete,t,2024-01-01,2025-01-01\nload,t\n{loaded(now)}end\n"
-    told = f"ok,1\nok,2\nok,3\nok,4\n{listed(then, 1)}{listed(now, len(then) + 1)}"
-    return f"{script}rows,t,asof,2\nrows,t\n", told
+    answered = f"ok,1\nok,2\nok,3\nok,4\n{listed(then, 1)}{listed(now, len(then) + 1)}"
+    return f"{script}rows,t,asof,2\nrows,t\n", answered
 
 
 def quoted(text: str) -> str:
@@ -53,8 +53,8 @@ class Pairs(unittest.TestCase):
     @DRAWN
     @given(ROWS, ROWS)
     def test_as_many_are_marked_as_there_are_more(self, then: List[Row], now: List[Row]) -> None:
-        script, told = script_of(then, now)
-        *_, first, second = answers.of(script.encode(), told.encode())
+        script, listed = script_of(then, now)
+        *_, first, second = answers.of(script.encode(), listed.encode())
         found = pairs.marks(first, second)
         assert found is not None
         for rows, others, signs in ((then, now, found[0]), (now, then, found[1])):
@@ -71,16 +71,17 @@ class Verdicts(unittest.TestCase):
     def test_each_verdict_is_a_sentence(self) -> None:
         script = "table,t\nload,t\nrow,2024-01-01,2024-01-02\nend\ncheck,t,11,{}\npart,1\nend\n"
         for instant, printed, sentence in [
-            ("2024-01-05", "yes", "Yes: no two rows of a part overlap, and fewer parts than 11 can't do: on 2024-01-05 "
-             "as many rows hold."),
-            ("-", "yes", "Yes: no two rows of a part overlap, and fewer parts than 11 can't do: there are no rows."),
+            ("2024-01-05", "yes", "Yes: no two rows of a part overlap, and fewer parts than 11 aren't enough: 11 rows "
+             "hold on 2024-01-05."),
+            ("-", "yes", "Yes: no two rows of a part overlap, and fewer parts than 11 aren't enough: "
+             "there are no rows."),
             ("2024-01-05", "no,NotCrowded,10", "No: 11 parts are enough, but 2024-01-05 needs only 10: it doesn't show "
-             "that fewer can't do."),
+             "that fewer aren't."),
             ("-", "no,NotCrowded,0", "No: 11 parts are enough, but no day is claimed: it doesn't show that fewer "
-             "can't do."),
-            ("-", "no,WrongCount,3", "No: 11 parts are claimed, and 3 are there."),
+             "aren't."),
+            ("-", "no,WrongCount,3", "No: 11 parts are claimed, but there are 3."),
             ("-", "no,EmptyPart,3", "No: part 3 has no row."), ("-", "no,Unknown,3", "No: no row has the id 3."),
-            ("-", "no,Twice,3", "No: row 3 stands twice."), ("-", "no,Missing,3", "No: row 3 is in no part."),
+            ("-", "no,Twice,3", "No: row 3 occurs twice."), ("-", "no,Missing,3", "No: row 3 is in no part."),
             ("-", "no,Overlap,3,4", "No: rows 3 and 4 are in one part, and overlap."),
         ]:
             found = answers.of(script.format(instant).encode(), f"ok,1\nok,2\n{printed}\n".encode())

@@ -63,15 +63,15 @@ class Scripts(unittest.TestCase):
                         texts = [[str(one.row_id), one.row.start, one.row.end, *one.row.values] for one in rows]
                         self.assertEqual(texts, list(answer.table.records))
 
-    def test_a_refusal_is_told_in_one_line_and_of_a_key_the_rows(self) -> None:
+    def test_a_refusal_is_described_in_one_line_and_of_a_key_the_rows(self) -> None:
         for script in SCRIPTS:
             found = found_in(script)
             for answer in found:
                 if answer.refusal:
                     with self.subTest(script.name, line=answer.line):
-                        told = refusals.described(answer)
-                        self.assertIn(f": {answer.refusal.name}: ", told)
-                        self.assertNotIn("\n", told)
+                        listed = refusals.described(answer)
+                        self.assertIn(f": {answer.refusal.name}: ", listed)
+                        self.assertNotIn("\n", listed)
                         if answer.refusal.name == "KeyOverlap":
                             self.assertTrue(overlaps.explained(replay.behind(found[:answer.number - 1]), answer))
 
@@ -102,13 +102,13 @@ class Scripts(unittest.TestCase):
             chosen = picks.pick(found_in(script), [], [], {})
             with databases.opened(":memory:") as database:
                 databases.make_tables(chosen, database, databases.Wishes())
-                for pick, told in zip(chosen, json.loads(export.to_json(chosen))):
+                for pick, answered in zip(chosen, json.loads(export.to_json(chosen))):
                     with self.subTest(script.name, answer=pick.name):
                         table = pick.answer.table
                         kept = database.execute(f"select * from {databases.quoted(pick.name)}")
                         texts = [[None if value is None else str(value) for value in row] for row in kept]
                         self.assertEqual(texts, list(table.records))
-                        self.assertEqual([list(row.values()) for row in told["records"]], list(table.values()))
+                        self.assertEqual([list(row.values()) for row in answered["records"]], list(table.values()))
 
     def test_a_record_too_few_or_one_twice_is_noticed(self) -> None:
         for script in SCRIPTS:

@@ -1,4 +1,4 @@
-"""The words of tools/answers, by the scripts of examples/ and by others, beside answers that are told here."""
+"""The words of tools/answers, by the scripts of examples/ and by others, beside answers that are given here."""
 import tempfile
 import unittest
 from pathlib import Path
@@ -41,16 +41,16 @@ class Reading(ToolCase):
 
     def test_a_picture_takes_the_words_that_it_has_a_use_for(self) -> None:
         picture = ["tools/answers", "picture"]
-        told = ["--answers", "examples/posts.csv.stdout"]
-        self.check([*picture, "examples/posts.csv", *told, "--by", "row_id"], "", 1, "its picture has no use for --by")
-        self.check([*picture, "examples/posts.csv", *told, "--from", "2030-01-01"], "", 0, "\nnothing to draw: ")
-        self.check([*picture, "examples/posts.csv", *told, "--svg"], "", 0, 'fill="#c00">2024-02-05</text>\n<text ')
+        given = ["--answers", "examples/posts.csv.stdout"]
+        self.check([*picture, "examples/posts.csv", *given, "--by", "row_id"], "", 1, "can't be drawn with --by")
+        self.check([*picture, "examples/posts.csv", *given, "--from", "2030-01-01"], "", 0, "\nnothing to draw: ")
+        self.check([*picture, "examples/posts.csv", *given, "--svg"], "", 0, 'fill="#c00">2024-02-05</text>\n<text ')
         self.check(
-            [*picture, "examples/posts.csv", *told, "--where", "row_id=07"], "", 1, "answers: --where row_id=07: no ",
+            [*picture, "examples/posts.csv", *given, "--where", "row_id=07"], "", 1, "answers: --where row_id=07: not ",
         )
         pay = [*picture, EXAMPLE, "--answers", EXAMPLE + ".stdout"]
         for value, wrong in [
-            ("euros=4.800", "no whole number in digits alone"), ("valid_to=2025-1-1", "no point as it "),
+            ("euros=4.800", "not a whole number in digits alone"), ("valid_to=2025-1-1", "not a date or time as it "),
         ]:
             self.check([*pay, "4", "--where", value], "", 1, f"answers: --where {value}: {wrong}")
         drawn = "commit 2\ncommit 3 [Byron, Ada 5400="
@@ -66,23 +66,24 @@ class Reading(ToolCase):
 
 class Questions(ToolCase):
     def test_a_refused_question_isn_t_passed_over(self) -> None:
-        told = "ok,1\nend,0\nerror,3,NoTable\n"
+        answered = "ok,1\nend,0\nerror,3,NoTable\n"
         with kept("table,t\nrows,t\n") as name:
             words = [name, "--answers", "-", "--go-on", "--ask", "rows,u"]
             for tool in (["csv"], ["csv", "--folder", "none"], ["json"], ["sqlite", ":memory:"]):
-                refused = "answers: --ask: rows,u: NoTable: field 2, u, is no table that is there: t "
-                self.check(["tools/answers", tool[0], name, *tool[1:], *words[1:]], told, 1, refused)
+                refused = "answers: --ask: rows,u: NoTable: field 2, u, isn't a table; the "
+                self.check(["tools/answers", tool[0], name, *tool[1:], *words[1:]], answered, 1, refused)
             asked = [*words[:-1], "rows,t", "--ask", "rows,t"]
             self.check(
-                ["tools/answers", "csv", *asked], "ok,1\nend,0\nend,0\nend,0\n", 1, "answers: 2 answers, and not 1: ",
+                ["tools/answers", "csv", *asked], "ok,1\nend,0\nend,0\nend,0\n", 1,
+                "answers: 2 answers given, but it takes 1:",
             )
-            self.check(["tools/answers", "list", *words], told, 0, "NoTable,,")
+            self.check(["tools/answers", "list", *words], answered, 0, "NoTable,,")
 
     def test_a_question_is_a_command_of_its_own(self) -> None:
         reads = ["tools/answers", "csv", "--program", "/bin/false"]
         self.check([*reads, EXAMPLE, "--ask", ""], "", 1, "answers: --ask: the question is empty")
         for cut in ('table,t,a,text\nload,t\nrow,2024-01-01,2024-01-02,"x', "table,t\nload,t", "together\nload,t\nend"):
-            taken = "--ask at,t,2024-01-01: the question was taken into line "
+            taken = "--ask at,t,2024-01-01: the question became part of line "
             self.check([*reads, "-", "--ask", "at,t,2024-01-01"], cut, 1, f"answers: {taken}")
 
 
@@ -92,20 +93,20 @@ class Forms(ToolCase):
             (EXAMPLE, ",5400", ",540O"), (EXAMPLE, "2024-07-01", "01.07.2024"), (EXAMPLE, ",5400", "," + "5" * 5000),
             ("examples/posts.csv", "3,2024-02-05", "3,heute"), ("examples/divisions.csv", "Overlap,1", "Overlap,i"),
         ]:
-            told = (TOP / f"{script}.stdout").read_text(encoding="utf-8").replace(old, new)
-            self.check(["tools/answers", "csv", script, "--answers", "-"], told, 1, "answers: line ")
+            answered = (TOP / f"{script}.stdout").read_text(encoding="utf-8").replace(old, new)
+            self.check(["tools/answers", "csv", script, "--answers", "-"], answered, 1, "answers: line ")
 
     def test_a_column_may_have_the_name_of_a_period_s_end(self) -> None:
         with kept("table,t,valid_to,text\nload,t\nrow,2024-01-01,2024-02-01,x\nend\nagg,t,count,by,valid_to\n") as name:
             counted = "valid_to_,valid_from,valid_to,count\nx,2024-01-01,2024-02-01,1\n"
-            told = "ok,1\nok,2\nrow,x,2024-01-01,2024-02-01,1\nend,1\n"
-            self.check(["tools/answers", "csv", name, "--answers", "-"], told, 0, counted)
-            self.check(["tools/answers", "picture", name, "--answers", "-"], told, 0, "\nx [1===")
+            answered = "ok,1\nok,2\nrow,x,2024-01-01,2024-02-01,1\nend,1\n"
+            self.check(["tools/answers", "csv", name, "--answers", "-"], answered, 0, counted)
+            self.check(["tools/answers", "picture", name, "--answers", "-"], answered, 0, "\nx [1===")
 
-    def test_a_load_without_its_end_is_told(self) -> None:
+    def test_a_load_without_its_end_is_reported(self) -> None:
         with kept("table,t\nload,t\nrows,t\nend\n") as name:
-            told = "a load has row records alone, and not rows,t; is its end missing before it?"
-            self.check(["tools/answers", "refusals", name, "--answers", "-"], "ok,1\nerror,3,BadCommand\n", 1, told)
+            reason = "a load has only row records, not rows,t; is its end missing before it?"
+            self.check(["tools/answers", "refusals", name, "--answers", "-"], "ok,1\nerror,3,BadCommand\n", 1, reason)
 
     def test_answers_of_another_form_are_noticed(self) -> None:
         day = "table,t\nat,t,2024-01-05"
@@ -125,153 +126,155 @@ class Strangers(ToolCase):
         time = "2024-01-01,2024-02-01"
         given = ", which the changes before it give; these are answers to another script or "
         lacks = f"answers: line 8: {{}}: the answer lacks 2,{time},{{}}6{given}"
-        for question, forged, told in [
+        for question, forged, reason in [
             ("rows,t", f"row,1,{time},5\nend,1", lacks.format("rows,t", "")),
             ("at,t,2024-01-05", f"row,1,{time},5\nend,1", lacks.format("at,t,2024-01-05", "")),
             ("rows,t,asof,1", f"row,1,{time},5\nend,1",
-             f"record 1 of the answer, 1,{time},5, is more than the changes"),
+             f"record 1 of the answer, 1,{time},5, is one more than the changes"),
             ("between,t,1,3", f"version,1,{time},2,-,5\nend,1", lacks.format("between,t,1,3", "3,,")),
             ("log", "commit,1,1,table,t,0,0\ncommit,2,1,load,t,2,0\nend,2",
-             "2,1,load,t,2,0 and not 2,1,load,t,1,0, which"),
+             "2,1,load,t,2,0, but the changes before it give 2,1,load,t,1,0;"),
             ("dip,t", "dip,1,1,2024-01-01\npart,0,1",
              "the answer lacks 1,2,2024-01-01, which the changes before it give"),
             ("dip,t", "dip,2,2,2024-01-01\npart,0,2\npart,1,1",
-             "answer is 0,2,2024-01-01 and not 0,1,2024-01-01, which"),
-            ("check,t,1,2024-01-01\npart,1\nend", "yes", "1 of the answer is yes,,,,, and not no,Missing,,,2,, which"),
+             "answer is 0,2,2024-01-01, but the changes before it give 0,1,2024-01-01;"),
+            ("check,t,1,2024-01-01\npart,1\nend", "yes",
+             "the answer is yes,,,,,, but the changes before it give no,Missing,,,2,;"),
             ("join,t,t,asof,2", f"row,{time},2,2,6,6\nend,1", "rows 2 and 2 don't match, or aren't shown by commit 2"),
-            ("join,t,t", f"row,{time},1,2,5,5\nend,1", "rows 1 and 2 have other values, or share another time"),
+            ("join,t,t", f"row,{time},1,2,5,5\nend,1", "rows 1 and 2 have other values, or share another period"),
             ("join,t,t,on,a,a", f"row,{time},1,2,5,6\nend,1", "rows 1 and 2 don't match, or aren't shown by commit 3"),
-            ("join,t,t", f"row,{time},1,1,5,5\nend,1", "it has 1 pairs of rows, and the changes before it give 4"),
-            ("anti,t,t", "row,1,2024-01-01,2024-02-02,5\nend,1", "answer, 1,2024-01-01,2024-02-02,5, is more than the"),
+            ("join,t,t", f"row,{time},1,1,5,5\nend,1", "it has 1 pairs of rows, but the changes before it give 4"),
+            ("anti,t,t", "row,1,2024-01-01,2024-02-02,5\nend,1", "1,2024-01-01,2024-02-02,5, is one more than the"),
             ("anti,t,t,asof,0", f"row,1,{time},5\nend,1",
-             "is more than the changes before it give; these are answers to"),
+             "is one more than the changes before it give; these are answers to"),
             ("agg,t,sum,a", f"row,{time},5\nend,1",
-             f"record 1 of the answer is {time},5 and not {time},11, which the "),
-            ("agg,t,max,a", f"row,{time},5\nend,1", f"record 1 of the answer is {time},5 and not {time},6, which the "),
+             f"record 1 of the answer is {time},5, but the changes before it give {time},11;"),
+            ("agg,t,max,a", f"row,{time},5\nend,1",
+             f"record 1 of the answer is {time},5, but the changes before it give {time},6;"),
             ("agg,t,count,by,a", f"row,5,{time},1\nend,1",
              f"the answer lacks 6,{time},1, which the changes before it "),
         ]:
             with kept(script + question) as name:
-                self.check(["tools/answers", "csv", name, "--answers", "-"], f"ok,1\nok,2\nok,3\n{forged}\n", 1, told)
+                self.check(["tools/answers", "csv", name, "--answers", "-"], f"ok,1\nok,2\nok,3\n{forged}\n", 1, reason)
 
 
 class Sqlite(ToolCase):
     def test_tables_have_the_names_of_picks(self) -> None:
-        told = ["--answers", EXAMPLE + ".stdout"]
+        given = ["--answers", EXAMPLE + ".stdout"]
         words = ["tools/answers", "sqlite", EXAMPLE]
-        self.check([*words, ":memory:", "4=pay", "7=commits", *told], "", 0, "table,rows\npay,2\ncommits,3\n")
-        self.check([*words, "5=pay", *told], "", 1, "answers: 5=pay: the DATABASE is missing")
-        self.check([*words, ":memory:", "5=pay", "6=PAY", *told], "", 1, " as PAY; give each its own, as 6=PAY_6\n")
+        self.check([*words, ":memory:", "4=pay", "7=commits", *given], "", 0, "table,rows\npay,2\ncommits,3\n")
+        self.check([*words, "5=pay", *given], "", 1, "answers: 5=pay: the DATABASE is missing")
+        self.check([*words, ":memory:", "5=pay", "6=PAY", *given], "", 1, "give each its own, such as 6=PAY_6\n")
 
     def test_what_is_in_a_database_isn_t_lost(self) -> None:
-        told = ["--answers", EXAMPLE + ".stdout"]
+        given = ["--answers", EXAMPLE + ".stdout"]
         words = ["tools/answers", "sqlite", EXAMPLE]
         with tempfile.TemporaryDirectory() as folder:
             file = f"{folder}/pay.db"
-            self.check([*words, file, "4=pay", *told], "", 0, "pay,2")
+            self.check([*words, file, "4=pay", *given], "", 0, "pay,2")
             self.check(
-                [*words, file, "7=log", "5=Pay", *told], "", 1,
-                "answers: Pay is in the database, so no table was made: ",
+                [*words, file, "7=log", "5=Pay", *given], "", 1,
+                "answers: Pay is already in the database, so no table was made: ",
             )
-            self.check([*words, file, "7=log", "5=Pay", *told, "--replace"], "", 0, "log,3\nPay,2")
+            self.check([*words, file, "7=log", "5=Pay", *given, "--replace"], "", 0, "log,3\nPay,2")
             changes = ["delete from more where euros < 5000", "create view few as select * from more"]
-            self.check([*words, file, "4=more", *told, *(f"--query={change}" for change in changes)], "", 0, "")
-            self.check([*words, file, "4=few", *told, "--replace"], "", 1, "answers: use DROP VIEW to delete view few")
-            self.check([*words, file, "5=a", *told, "--query", "select count(*) from few"], "", 0, "count(*)\n1\n")
+            self.check([*words, file, "4=more", *given, *(f"--query={change}" for change in changes)], "", 0, "")
+            self.check([*words, file, "4=few", *given, "--replace"], "", 1, "answers: use DROP VIEW to delete view few")
+            self.check([*words, file, "5=a", *given, "--query", "select count(*) from few"], "", 0, "count(*)\n1\n")
 
-    def test_queries_are_told_what_is_wrong_with_them(self) -> None:
-        told = ["--answers", EXAMPLE + ".stdout"]
+    def test_what_is_wrong_with_queries_is_reported(self) -> None:
+        given = ["--answers", EXAMPLE + ".stdout"]
         words = ["tools/answers", "sqlite", EXAMPLE]
         for query, status, part in [
-            ("select 1 where '1' < 2024-07-01", 1, "answers: --query: 2024-07-01 is a subtraction: a point stands "),
+            ("select 1 where '1' < 2024-07-01", 1, "answers: --query: 2024-07-01 is a subtraction: put a point "),
             ("select 'a 2024-07-01' as a", 0, "a\na 2024-07-01\n"),
-            ("select '1.7.2024' as a", 0, "answers: --query: '1.7.2024' is compared as a text: points are as "),
-            ("select * from pays", 1, "answers: --query: no such table: pays; made were Pay(row_id, valid_from, "),
+            ("select '1.7.2024' as a", 0, "answers: --query: '1.7.2024' is compared as a text: points are texts "),
+            ("select * from pays", 1, "answers: --query: no such table: pays; the tables are Pay(row_id, valid_from, "),
         ]:
-            self.check([*words, ":memory:", "5=Pay", *told, "--query", query], "", status, part)
-        self.check([*words, ":memory:", "5=Pay", *told, "--query", " "], "", 1, "answers: --query: the query is empty")
+            self.check([*words, ":memory:", "5=Pay", *given, "--query", query], "", status, part)
+        self.check([*words, ":memory:", "5=Pay", *given, "--query", " "], "", 1, "answers: --query: the query is empty")
         self.check(
-            [*words, ":memory:", "5=Pay", *told, "--query", "select 1; select 2"], "", 1, "one statement at a time",
+            [*words, ":memory:", "5=Pay", *given, "--query", "select 1; select 2"], "", 1, "one statement at a time",
         )
 
-    def test_what_a_query_may_lack_is_told(self) -> None:
+    def test_what_a_query_may_lack_is_reported(self) -> None:
         words = ["tools/answers", "sqlite", EXAMPLE, ":memory:", "5=a", "7=log", "--answers", EXAMPLE + ".stdout"]
         for more, status, part in [
-            (["--query", 'select * from a where person = "Hill, Grace"'], 1, "column: Hill, Grace; a text stands in "),
-            (["--query", "select x.euros, y.euros from a x, a y"], 0, "several columns are called euros: `as` gives"),
+            (["--query", 'select * from a where person = "Hill, Grace"'], 1, "column: Hill, Grace; put a text in "),
+            (["--query", "select x.euros, y.euros from a x, a y"], 0, "several columns are called euros: rename them"),
             (["--query", "select cast(person as blob) as p from a limit 1"], 0, 'p\n"Byron, Ada"\n'),
             (["--day", "2024-08-15"], 0, "answers: --day: log has no period, so there is no view of it\n"),
         ]:
             self.check([*words, *more], "", status, part)
 
     def test_a_name_in_double_quotes_is_a_name(self) -> None:
-        told = ["--answers", EXAMPLE + ".stdout"]
+        given = ["--answers", EXAMPLE + ".stdout"]
         words = ["tools/answers", "sqlite", EXAMPLE]
         for name in ("euro", "eu`ro", 'eu""ro'):
             wrong = f"""select 'a "text"', euros from Pay where "{name}" > 0"""
-            self.check([*words, ":memory:", "5=Pay", *told, "--query", wrong], "", 1, "no such column: eu")
+            self.check([*words, ":memory:", "5=Pay", *given, "--query", wrong], "", 1, "no such column: eu")
         right = """select [euros], 'a "text"' as "a ""b" from Pay where "euros" > 4900 -- "euro\n"""
-        self.check([*words, ":memory:", "5=Pay", *told, "--query", right], "", 0, 'euros,"a ""b"\n5000,"a ""text"""\n')
+        self.check([*words, ":memory:", "5=Pay", *given, "--query", right], "", 0, 'euros,"a ""b"\n5000,"a ""text"""\n')
 
 
 class Databases(ToolCase):
     def test_a_database_is_made_or_changed_whole_or_not_at_all(self) -> None:
         words = ["tools/answers", "sqlite", EXAMPLE]
-        told = ["--answers", EXAMPLE + ".stdout"]
+        given = ["--answers", EXAMPLE + ".stdout"]
         with tempfile.TemporaryDirectory() as folder:
             file = Path(folder, "z.db")
             for more, part in [
-                (["5=a", "--day", "2024-02-30"], "--day 2024-02-30: no point"), (["99=a"], "99: no such answer"),
+                (["5=a", "--day", "2024-02-30"], "--day 2024-02-30: not a date"), (["99=a"], "99: no such answer"),
                 (["5=a", "--query", "select 1", "--query", "select x"], "no such column: x"),
-                *((["5=a", "--query", end], "has ended the transaction") for end in ("rollback", "commit")),
+                *((["5=a", "--query", end], "a query ended the transaction") for end in ("rollback", "commit")),
                 (["5=a", "--query", " "], "the query is empty"), (["5=sqlite_a"], "object name reserved for internal"),
             ]:
-                self.check([*words, str(file), *more, *told], "", 1, part)
+                self.check([*words, str(file), *more, *given], "", 1, part)
                 self.assertEqual(list(Path(folder).iterdir()), [])
-            self.check([*words, str(file), "5=a", *told], "", 0, "a,2\n")
+            self.check([*words, str(file), "5=a", *given], "", 0, "a,2\n")
             before = file.read_bytes()
             for more, part in [
                 (["5=b", "--query", "drop table a", "--query", "select x"], "no such column: x"),
                 (["7=a", "5=sqlite_a", "--replace"], "object name reserved for internal use"),
-                (["5=b", "--day", "x"], "--day x: no point"), (["5=a", "--day", "2024-01-05"], "a is in the database"),
+                (["5=b", "--day", "x"], "--day x: not a date"), (["5=a", "--day", "2024-01-05"], "a is already in "),
             ]:
-                self.check([*words, str(file), *more, *told], "", 1, part)
+                self.check([*words, str(file), *more, *given], "", 1, part)
                 self.assertEqual((file.read_bytes(), list(Path(folder).iterdir())), (before, [file]))
 
     def test_a_view_of_a_user_isn_t_lost(self) -> None:
         words = ["tools/answers", "sqlite", EXAMPLE]
         with tempfile.TemporaryDirectory() as folder:
-            file, told = f"{folder}/z.db", ["--answers", EXAMPLE + ".stdout"]
-            self.check([*words, file, "5=b", *told, "--query", "create view a_day as select 1"], "", 0, "")
-            self.check([*words, file, "5=a", *told, "--day", "2024-01-05"], "", 1, "a_day is in the database")
+            file, reason = f"{folder}/z.db", ["--answers", EXAMPLE + ".stdout"]
+            self.check([*words, file, "5=b", *reason, "--query", "create view a_day as select 1"], "", 0, "")
+            self.check([*words, file, "5=a", *reason, "--day", "2024-01-05"], "", 1, "a_day is already in the database")
 
     def test_sql_in_place_of_the_database_is_refused(self) -> None:
         words = ["tools/answers", "sqlite", EXAMPLE, "select * from pay", "--answers", EXAMPLE + ".stdout"]
-        self.check(words, "", 1, "select * from pay: no file of a database, which stands behind SCRIPT; SQL stands ")
+        self.check(words, "", 1, "select * from pay: not the name of a DATABASE, which comes after SCRIPT; give ")
 
 
 class Only(ToolCase):
     def test_a_value_of_another_kind_is_refused(self) -> None:
         words = ["tools/answers", "only", EXAMPLE, "pay", "2", "--answers", EXAMPLE + ".stdout", "--set"]
         self.check([*words, "euros=4900"], "", 0, "update,pay,2024-03-01,2025-01-01,set,euros,4900,where,")
-        self.check([*words, "euros=4.900"], "", 1, "answers: --set euros: BadNumber: 4.900 is no whole number ")
+        self.check([*words, "euros=4.900"], "", 1, "answers: --set euros: BadNumber: 4.900 isn't a whole number ")
         self.check([*words, "person=" + "x" * 4097], "", 1, "answers: --set person: TooLong: xxx")
         self.check([*words, "person=M\udcfcller"], "", 1, "answers: --set person: BadUtf8: M\\xfcller isn't UTF-8")
 
 
 class Folders(ToolCase):
-    def test_a_file_is_replaced_only_where_that_is_told(self) -> None:
+    def test_a_file_is_replaced_only_where_that_is_asked(self) -> None:
         words = ["tools/answers", "csv", EXAMPLE, "--answers", EXAMPLE + ".stdout", "@7=august"]
         with tempfile.TemporaryDirectory() as folder:
             self.check([*words, "--folder", folder], "", 0, "")
             self.check(
                 [*words, "@9=versions", "--folder", folder], "", 1,
-                f"answers: {folder}/august.csv is there, so no file ",
+                f"answers: {folder}/august.csv already exists, so no file ",
             )
             self.check([*words, "--folder", folder, "--replace"], "", 0, "")
             for name in ("a/b", ".a", "a\nb"):
-                self.check([*words[:-1], f"@7={name}", "--folder", folder], "", 1, ": no name of a file")
-        self.check([*words, "--replace"], "", 1, "answers: --replace replaces files of a --folder, and none is given: ")
+                self.check([*words[:-1], f"@7={name}", "--folder", folder], "", 1, ": not a file's name")
+        self.check([*words, "--replace"], "", 1, "answers: --replace needs --folder, whose files ")
 
 
 class Spreadsheets(ToolCase):
@@ -281,33 +284,33 @@ class Spreadsheets(ToolCase):
         listed = "".join(f"{number},{row}\n" for number, row in enumerate(rows.splitlines(), 1))
         loaded = "".join(f"row,{row}\n" for row in rows.splitlines())
         script = f"table,t,a,text,b,int\nload,t\n{loaded}end\nrows,t\n"
-        told = "ok,1\nok,2\n" + "".join(f"row,{row}\n" for row in listed.splitlines()) + f"end,{len(texts)}\n"
+        answered = "ok,1\nok,2\n" + "".join(f"row,{row}\n" for row in listed.splitlines()) + f"end,{len(texts)}\n"
         exact = f"row_id,valid_from,valid_to,a,b\n{listed}"
         guarded = "\ufeff" + exact.replace("\n", "\r\n")
         for text in ("=1,", "-x", "+1", "@a", "\ta", "\uff0b1"):
             guarded = guarded.replace(f",{text}", f",'{text}")
         german = guarded.replace("a;=1", '"a;=1"').replace(",", ";")
-        said = "answers: a spreadsheet would run 6 fields, the first =1: --for-spreadsheet guards against it\n"
+        said = "answers: a spreadsheet would run 6 fields, the first =1: --for-spreadsheet prevents it\n"
         wanted = {"": (exact, said), "--for-spreadsheet": (guarded, ""), "--for-spreadsheet --german": (german, "")}
-        with kept(script) as name, kept(told) as answers:
+        with kept(script) as name, kept(answered) as answers:
             for words, one in wanted.items():
                 with self.subTest(words):
                     printed = run(["tools/answers", "csv", name, "--answers", answers, *words.split()])
                     self.assertEqual(printed, (0, *one))
-            self.check(["tools/answers", "csv", name, "--german"], "", 1, "answers: --german is of a spreadsheet")
+            self.check(["tools/answers", "csv", name, "--german"], "", 1, "answers: --german needs --for-spreadsheet")
 
 
 class Asked(ToolCase):
     def test_a_question_is_taken_beside_what_is_picked(self) -> None:
         rows = "row,1,2024-01-01,2024-02-01,5\nend,1\n"
-        told = f"ok,1\nok,2\ndip,1,1,2024-01-01\npart,0,1\n{rows}"
-        with kept("table,t,a,int\nload,t\nrow,2024-01-01,2024-02-01,5\nend\ndip,t\n") as name, kept(told) as answers:
+        output = f"ok,1\nok,2\ndip,1,1,2024-01-01\npart,0,1\n{rows}"
+        with kept("table,t,a,int\nload,t\nrow,2024-01-01,2024-02-01,5\nend\ndip,t\n") as name, kept(output) as answers:
             words = [name, "--answers", answers, "--ask"]
             both = "table,rows\nplan,1\nt,1\n"
             self.check(["tools/answers", "sqlite", name, ":memory:", "3=plan", *words[1:], "t=rows,t"], "", 0, both)
             one = "table,rows\nx,1\n"
             self.check(["tools/answers", "sqlite", name, ":memory:", "last=x", *words[1:], "t=rows,t"], "", 0, one)
-            self.check(["tools/answers", "csv", *words, "rows,t", "3"], "", 1, "2 answers, and not 1")
+            self.check(["tools/answers", "csv", *words, "rows,t", "3"], "", 1, "2 answers given, but it takes 1")
             with tempfile.TemporaryDirectory() as folder:
                 self.check(["tools/answers", "csv", *words, "t=rows,t", "3=plan", "--folder", folder], "", 0, "")
                 self.assertEqual(sorted(file.name for file in Path(folder).iterdir()), ["plan.csv", "t.csv"])
@@ -320,7 +323,7 @@ class Asked(ToolCase):
             plain = [*words, "--ask", "rows,t\nlog", "--ask", "b=dip,t"]
             self.check(plain, "", 0, "table,rows\nrows_t_2,0\nlog_3,1\nb,0\n")
             named = [*words, "--ask", "a=rows,t\nlog", "--ask", "b=dip,t"]
-            self.check(named, "", 1, "answers: --ask a=..: a name is of one question, and log stands behind it")
+            self.check(named, "", 1, "answers: --ask a=..: a name is for one question, but log follows it")
 
     def test_a_name_may_have_what_can_be_seen(self) -> None:
         with kept("table,t\n") as name, kept("ok,1\nend,0\n") as answers:
@@ -335,23 +338,23 @@ class Asked(ToolCase):
             due = ["tools/answers", "sqlite", name, ":memory:", *words[1:], "what is due=rows,t"]
             self.check([*due, *query], "", 0, "n\n0\n")
             for odd in ("", " a", "a ", "a\tb", "a\nb", "\u200b"):
-                self.check(["tools/answers", "csv", *words, f"{odd}=rows,t"], "", 1, "no name before the =, which has")
+                self.check(["tools/answers", "csv", *words, f"{odd}=rows,t"], "", 1, "no name of letters, signs, and")
 
-    def test_two_commits_in_the_wrong_order_are_told(self) -> None:
-        told = "ok,1\nok,2\nend,0\nend,0\n"
+    def test_two_commits_in_the_wrong_order_are_reported(self) -> None:
+        answered = "ok,1\nok,2\nend,0\nend,0\n"
         with kept("table,t,a,int\nload,t\nend\nrows,t\nrows,t,asof,1\n") as name:
             words = ["tools/answers", "changed", name, "--answers", "-"]
-            self.check(words, told, 0, "answers: the first of the two reads commit 2, and the second 1: `-` is what")
+            self.check(words, answered, 0, "answers: the first answer is of commit 2, the second of the earlier ")
 
 
-class Told(ToolCase):
+class Reported(ToolCase):
     def test_what_is_made_of_answers_to_a_table_of_numbers(self) -> None:
         january, february = "row,2024-01-01,2024-02-01,{}\n", "row,2024-02-01,2024-03-01,{}\n"
         half, row, end = 1 << 62, "row,1,2024-01-01,2024-02-01,5\nend,1\n", "end,0\n"
         two, low = january.format(-2) + february.format(2), january.format(-2) + february.format(-4)
         tiny = january.format(-1) + february.format(-1000)
         drawn = f"\n 1{' ' * 40}{'#' * 38}\n 0 {'-' * 77}\n-1 {'#' * 39}\n"
-        for words, rows, questions, told, status, part in [
+        for words, rows, questions, answered, status, part in [
             ("picture", two, "agg,t,sum,a", two + "end,2\n", 0, drawn),
             ("picture --svg", two, "agg,t,sum,a", two + "end,2\n", 0, 'y="186.0" width="392" height="120.0"'),
             ("picture", low, "agg,t,sum,a", low + "end,2\n", 0, f"\n 0 {'-' * 77}\n-1 {'#' * 77}\n"),
@@ -359,7 +362,7 @@ class Told(ToolCase):
             ("sqlite :memory: 3=due", january.format(half) * 2, "agg,t,sum,a", january.format(2 * half) + "end,1\n", 0,
              "answers: due.sum_a has sums past SQLite's "),
             ("changed 3", january.format(5), "rows,t\nrows,t", row + row, 1,
-             "1 answer, and not 2: one more PICK or --ask is wanted"),
+             "1 answer given, but it takes 2: give one more PICK or --ask"),
             ("changed", january.format(5), "rows,t\nat,t,2024-01-05", row + row, 1,
              "rows,t and at,t,2024-01-05: an `at` "),
             ("changed", january.format(5), "at,t,2024-01-05\nat,t,2024-02-05", row + end, 1,
@@ -377,64 +380,64 @@ class Told(ToolCase):
             ("list --go-on", "", "at,t,1", "error,4,BadPoint\n", 0, "3,4,4,BadPoint,,"),
             ("list", "", "together\nend", "together,2\n", 0, "3,4,4,together 2,,together\n"),
             ("refusals", "", "together\nload,t\nend\nrows,t,asof,3\nend", "together,2\nok,3\nerror,7,Future\n", 1,
-             "line 7: rows,t,asof,3: Future: field 4, 3, is a later commit than the block reads, which `together` "),
+             "line 7: rows,t,asof,3: Future: field 4, 3, is a later commit than the one that the block "),
             ("list", "", "together\nload,t\nend\nrows,t,asof,3\nend", "together,2\nok,3\nend,0\n", 1,
              "answers: line 7: "),
         ]:
             with kept(f"table,t,a,int\nload,t\n{rows}end\n{questions}\n") as name:
                 tool, *others = words.split()
                 self.check(
-                    ["tools/answers", tool, name, *others, "--answers", "-"], "ok,1\nok,2\n" + told, status, part,
+                    ["tools/answers", tool, name, *others, "--answers", "-"], "ok,1\nok,2\n" + answered, status, part,
                 )
 
 
 class Refusals(ToolCase):
-    def test_each_is_told_with_its_field_and_reason(self) -> None:
-        for command, refusal, told in [
+    def test_each_is_reported_with_its_field_and_reason(self) -> None:
+        for command, refusal, note in [
             ("table,set", "BadName", "line 2: table,set: BadName: field 2, set, is a word of the language: "),
-            ("table,u,a,integer", "BadCommand", "field 4, integer, is no KIND"),
+            ("table,u,a,integer", "BadCommand", "field 4, integer, isn't a KIND"),
             ("table,u,a,int,key,b", "NoColumn",
-             "field 6, b, is no column before `key`, field 5 (a): names of columns "),
-            ("update,t,2024-01-01,2024-01-02,set,key,5", "BadName", "where are no names; key_ is one"),
-            ("delete,t,2024-01-01,2024-01-02,where,asof,5", "BadName", "field 6, asof, is of queries alone: a "),
-            ("rows,t,asof,2024-01-01", "BadNumber", "is no number of a commit, as `ok,2` and `log` have it"),
+             "field 6, b, isn't a column before `key`, field 5 (a): names of its "),
+            ("update,t,2024-01-01,2024-01-02,set,key,5", "BadName", "where can't be names; key_ can"),
+            ("delete,t,2024-01-01,2024-01-02,where,asof,5", "BadName", "field 6, asof, is only for queries: a "),
+            ("rows,t,asof,2024-01-01", "BadNumber", "isn't a commit's number, such as the 2 of `ok,2`"),
             ("rows, t", "BadName",
-             "field 2, ' t', is no name: 1 to 32 of a to z, 0 to 9 and _, the first a letter; a "),
+             "field 2, ' t', isn't a name, which has 1 to 32 of a to z, 0 to 9 and _, the first a letter; "),
             ("csv-to-load failed", "BadCommand",
-             "stands in place of a load: tools/csv-to-load has said why on standard "),
-            ("ROWS,t", "BadCommand", "field 1, ROWS, is no command, but rows is"),
+             "is in place of a load: tools/csv-to-load has reported why on standard "),
+            ("ROWS,t", "BadCommand", "field 1, ROWS, isn't a command; rows is"),
             ("\ufeffrows,t", "BadCommand",
-             "begins with a byte order mark, which only a script's own beginning may have"),
-            ("rows;t", "BadCommand", "field 1, rows;t, is no command: commas part the fields"),
-            ("Name;Pay", "BadCommand", "; of a CSV file with a header tools/csv-to-load makes a load"),
-            ("load,t,t.csv", "Unended", "the form is load,T and then rows, since no file is read"),
-            ('load,t\nrow,"2024-01-01\nend', "Unended", "is a second quote missing in line 3? A field "),
-            ("rows,u", "NoTable", "is no table that is there: t"),
-            ("at,t,2024-02-30", "BadPoint", "is no day that exists"),
+             "begins with a byte order mark, which only the start of a script may have"),
+            ("rows;t", "BadCommand", "field 1, rows;t, isn't a command: separate fields by commas"),
+            ("Name;Pay", "BadCommand", "; tools/csv-to-load makes a load of a CSV file with a header"),
+            ("load,t,t.csv", "Unended", "the form is load,T and then rows: no file is read"),
+            ('load,t\nrow,"2024-01-01\nend', "Unended", "is a second quote missing in line 3? a field "),
+            ("rows,u", "NoTable", "isn't a table; the tables are t"),
+            ("at,t,2024-02-30", "BadPoint", "isn't a day that exists"),
             ("at,t,2024\u201102-01", "BadPoint", "2024\\u201102-01"),
             ("update,t,2024-01-01,2024-01-02,set,a,05", "BadNumber", "has a zero in front"),
-            ("agg,t,sum,b", "NoColumn", "is no column of t, but a"),
-            ("between,t,3,2", "BadPeriod", "field 3, 3, is greater than the field behind it"),
+            ("agg,t,sum,b", "NoColumn", "isn't a column of t; its columns are a"),
+            ("between,t,3,2", "BadPeriod", "field 3, 3, is greater than the next field"),
             ("delete,t,2024-02-01,2024-02-01", "BadPeriod",
-             "isn't before the field behind it: one day ends on the next"),
-            ("load,t\nEND", "Unended", "; line 3, END, isn't the one word end"),
+             "isn't before the next field: for one day, end on the next one"),
+            ("load,t\nEND", "Unended", "; line 3, END, isn't the word end alone"),
         ]:
             with kept(f"table,t,a,int\n{command}\n") as name:
-                self.check(["tools/answers", "refusals", name, "--answers", "-"], f"ok,1\nerror,2,{refusal}\n", 1, told)
+                self.check(["tools/answers", "refusals", name, "--answers", "-"], f"ok,1\nerror,2,{refusal}\n", 1, note)
 
-    def test_a_table_that_is_missing_is_told(self) -> None:
+    def test_a_table_that_is_missing_is_reported(self) -> None:
         with kept("rows,t\n") as name:
-            none = "line 1: rows,t: NoTable: field 2, t, is no table: a `table` record is to make it before"
+            none = "line 1: rows,t: NoTable: field 2, t, isn't a table: make it by a `table` record before"
             self.check(["tools/answers", "refusals", name, "--answers", "-"], "error,1,NoTable\n", 1, none)
 
 
 class Faulty(ToolCase):
-    def test_what_is_refused_for_no_row_s_fault_is_told(self) -> None:
+    def test_what_is_refused_for_no_row_s_fault_is_reported(self) -> None:
         refused = "answers: line 1: hello: BadCommand: "
-        for script, told, said in [("hello\n", "error,1,BadCommand", refused), ("log\n", "end,0", "")]:
+        for script, answered, said in [("hello\n", "error,1,BadCommand", refused), ("log\n", "end,0", "")]:
             with tempfile.TemporaryDirectory() as folder:
                 program = Path(folder, "program")
-                program.write_text(f"#!/bin/sh\nif read record; then echo {told}; fi\n", encoding="utf-8")
+                program.write_text(f"#!/bin/sh\nif read record; then echo {answered}; fi\n", encoding="utf-8")
                 program.chmod(0o700)
                 words = ["tools/answers", "faulty", "-", "--program", str(program)]
                 self.check(words, script, 1 if said else 0, said)

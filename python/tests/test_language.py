@@ -29,8 +29,8 @@ class Language(unittest.TestCase):
             self.assertEqual(found[2].table.names, ["row_id", "valid_from", "valid_to", "k"])
             self.assertEqual((found[2].commit, [one.answer.number for one in picks.pick(found, [], [], {})]), (2, [3]))
             self.assertIsInstance(figures.of(found, found[2], figures.Wish()), figures.Bars)
-            self.assertIn("is no day that exists", refusals.reason(found[3]))
-            self.assertIn("is no table that is there: t", refusals.reason(found[4]))
+            self.assertIn("isn't a day that exists", refusals.reason(found[3]))
+            self.assertIn("isn't a table; the tables are t", refusals.reason(found[4]))
 
     def test_each_word_has_its_part_of_the_language_s_page(self) -> None:
         page = TOP.joinpath("docs/LANGUAGE.md").read_text(encoding="utf-8")

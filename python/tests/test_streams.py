@@ -26,19 +26,19 @@ def run(command: str, given: str = CSV) -> Tuple[int, str, str]:
 
 
 class ClosedStreams(unittest.TestCase):
-    def test_a_closed_input_is_told(self) -> None:
-        told = (1, "csv-to-load failed\n", "csv-to-load: standard input is closed\n")
-        self.assertEqual(run(f"{LOADS} <&-"), told)
+    def test_a_closed_input_is_reported(self) -> None:
+        found = (1, "csv-to-load failed\n", "csv-to-load: standard input is closed\n")
+        self.assertEqual(run(f"{LOADS} <&-"), found)
         self.assertEqual(run(f"{ANSWERS} list - <&-"), (1, "", "answers: standard input is closed\n"))
 
-    def test_a_closed_output_is_told(self) -> None:
+    def test_a_closed_output_is_reported(self) -> None:
         self.assertEqual(run(f"{LOADS} >&-"), (1, "", "csv-to-load: standard output is closed\n"))
         self.assertEqual(run(f"{ANSWERS} list - >&-"), (1, "", "answers: standard output is closed\n"))
 
-    def test_where_nothing_can_be_told_the_load_is_printed(self) -> None:
+    def test_where_nothing_can_be_reported_the_load_is_printed(self) -> None:
         self.assertEqual(run(f"{LOADS} 2>&-"), (0, LOADED, ""))
 
-    def test_a_full_device_is_told(self) -> None:
+    def test_a_full_device_is_reported(self) -> None:
         status, _, said = run(f"{LOADS} >/dev/full")
         self.assertEqual((status, said.splitlines()[-1]), (1, "csv-to-load: No space left on device"))
         script = "examples/pay.csv"
@@ -136,8 +136,8 @@ class Files(unittest.TestCase):
                 f"page {script} --once", f"csv {script} 99", f"sqlite {script} {folder}/y.db --query 'select x'",
             ]:
                 with self.subTest(words):
-                    told = "" if "--program" in words or "--ask" in words else f" --answers {script}.stdout"
-                    _, _, said = run(f"{strict} {words}{told}")
+                    answered = "" if "--program" in words or "--ask" in words else f" --answers {script}.stdout"
+                    _, _, said = run(f"{strict} {words}{answered}")
                     self.assertNotRegex(said, "ResourceWarning|Traceback|DeprecationWarning")
 
 
@@ -177,8 +177,8 @@ class CtrlC(unittest.TestCase):
                     while not (folder / "begun").exists():
                         time.sleep(0.1)
                     tool.send_signal(number)
-                    told = tool.communicate(timeout=30)[1]
-                self.assertEqual((tool.returncode, told), (1, f"check-growth: it was {said}\n"))
+                    found = tool.communicate(timeout=30)[1]
+                self.assertEqual((tool.returncode, found), (1, f"check-growth: it was {said}\n"))
                 self.assertEqual(list((folder / "files").iterdir()), [])
                 for begun in (folder / "begun").read_text().split():
                     self.assertRaises(ProcessLookupError, os.kill, int(begun), 0)

@@ -27,7 +27,8 @@ class Amounts:
         known = list(dict.fromkeys(column.name for column in columns))
         for name, _ in self.digits:
             if not any(Amounts([(name, 0)]).of(one) == 0 for one in known):
-                raise Misfit(f"--decimals {name}: no column of numbers, but {', '.join(known) or 'none is one'}")
+                there = f"those are {', '.join(known)}" if known else "there are none"
+                raise Misfit(f"--decimals {name}: not a column of numbers; {there}")
 
     def known_to(self, table: Table) -> "Amounts":
         """Only the columns that the table has."""

@@ -11,7 +11,7 @@ from ruzgalt.script import commands, records
 from ruzgalt.script.reader import Source
 
 
-NAMED_BY = "DIPQ in the environment, or --program, names it, or a dipq on the PATH is taken"
+NAMED_BY = "name it by --program or by DIPQ in the environment, or put dipq on the PATH"
 
 
 class Running:
@@ -34,7 +34,7 @@ class Running:
         with self.printed:
             status = self.process.wait()
             if status not in (0, 1):
-                raise Misfit(f"{self.program} ended with status {status}, so not all is answered")
+                raise Misfit(f"{self.program} ended with status {status} before all was answered")
             self.printed.seek(0)
             return self.printed.read()
 

@@ -6,7 +6,7 @@ from typing import Dict, Iterable, Iterator, List, NamedTuple, Optional, Sequenc
 from ruzgalt.answers import Answer, conditions, grouped
 from ruzgalt.errors import Misfit
 from ruzgalt.periods import amounts, pieces
-from ruzgalt.script.forms import at_second, print_point, read_point, seconds
+from ruzgalt.script.forms import POINTS, at_second, print_point, read_point, seconds
 from ruzgalt.script.reader import Row
 from ruzgalt.script.records import short
 from ruzgalt.script.schemas import PERIOD, Column, Kind, Table, unique
@@ -94,7 +94,7 @@ def rows_of(side: Side, values: grouped.Values, wish: Wish) -> Iterator[amounts.
 def summed_place(answer: Answer, name: str) -> int:
     place = grouped.place_of(answer, name)
     if answer.table.columns[place].kind is not Kind.INT:
-        raise Misfit(f"--sum {name}: a column of texts, and sums are of numbers")
+        raise Misfit(f"--sum {name}: a column of texts, and only numbers can be summed")
     return place
 
 
@@ -102,7 +102,7 @@ def refuse_points(wish: Wish) -> None:
     """Refuses a time to count that is none."""
     for word, point in (("from", wish.start), ("to", wish.end)):
         if point is not None and read_point(point) is None:
-            raise Misfit(f"--{word} {short(point)}: no point, as 2024-01-05 or 2024-01-05T08:30:00")
+            raise Misfit(f"--{word} {short(point)}: not a date or time, such as {POINTS}")
     if wish.start and wish.end and seconds(wish.start) >= seconds(wish.end):
         raise Misfit(f"--from {wish.start} isn't before --to {wish.end}")
 
@@ -114,9 +114,9 @@ def cuts(answer: Answer, records: Iterable[Sequence[str]], wish: Wish) -> Iterat
     for record in records:
         start, end = record[place], record[place + 1]
         if end >= NO_END and wish.end is None:
-            raise Misfit(f"{short(','.join(record))}: no end is known: --to says up to where it counts")
+            raise Misfit(f"{short(','.join(record))}: no end is known: give --to, up to which it counts")
         if start == BEGINNING and wish.start is None:
-            raise Misfit(f"{short(','.join(record))}: no start is known: --from says from where on it counts")
+            raise Misfit(f"{short(','.join(record))}: no start is known: give --from, from which on it counts")
         cut = max(seconds(start), first), min(seconds(end), last)
         if cut[0] < cut[1]:
             yield (*cut, record)

@@ -27,7 +27,7 @@ def between(before: Answer, after: Answer) -> Table:
         others = f"{','.join(names[0])} can't be compared with {','.join(names[1])}"
         raise Misfit(f"{both}: {others}: ask one question of two commits, or of two tables of the same columns")
     if point_of(before) != point_of(after):
-        raise Misfit(f"{both}: an `at` is of its point alone: ask both for that, or both by `rows`")
+        raise Misfit(f"{both}: an `at` is of one point alone: ask both for the same, or both by `rows`")
     columns = unique([Column("change", Kind.TEXT), *PERIOD, *kept[0][0]])
     is_aggregate = before.command.form.answered is Answered.STEPS
     found = sorted(changes(kept[0][1], kept[1][1]), key=order(kept[0][0], is_aggregate))
@@ -46,7 +46,7 @@ def compared(answer: Answer) -> Tuple[List[Column], List[Held]]:
     """The columns that are compared, and of each record the period and the values."""
     if answer.command.form.answered not in IDS:
         command = short(answer.command.text)
-        raise Misfit(f"{answer.place}: {command}: its records aren't periods with values, so none is compared")
+        raise Misfit(f"{answer.place}: {command}: its records aren't periods with values, so they can't be compared")
     table = answer.table
     start = table.names.index("valid_from")
     left_out = {start, start + 1, *(table.names.index(name) for name in IDS[answer.command.form.answered])}

@@ -3,15 +3,16 @@ from typing import List, Sequence, Tuple, Union
 
 from ruzgalt.answers.lists import FORMS
 from ruzgalt.errors import Misfit
+from ruzgalt.script.forms import POINTS
 from ruzgalt.script.records import visible
 from ruzgalt.script.schemas import Kind, Schema, Table
 
 # Names of columns, each with the value that a record is to have there.
 Where = Sequence[Tuple[str, str]]
-# What is wrong with a value that is none of its column's kind.
+# What is wrong with a value that isn't of its column's kind.
 NO_VALUE = {
-    Kind.INT: "no whole number in digits alone, as 480050 for cents, or -8",
-    Kind.POINT: "no point as it is printed, as 2024-01-05 or 2024-01-05T08:30:00; that of a midnight is its date",
+    Kind.INT: "not a whole number in digits alone, such as 480050 for cents, or -8",
+    Kind.POINT: f"not a date or time as it is printed, such as {POINTS}; a midnight is printed as its date",
 }
 
 

@@ -12,7 +12,7 @@ from ruzgalt.answers.shown import Look
 from ruzgalt.checking.queries import QUOTED, Made
 from ruzgalt.commands import files
 from ruzgalt.errors import Misfit
-from ruzgalt.script.forms import is_integer, printed, read_point
+from ruzgalt.script.forms import POINTS, is_integer, printed, read_point
 from ruzgalt.script.records import short, to_text
 from ruzgalt.script.schemas import Column, Kind, Table
 
@@ -33,11 +33,11 @@ class Wishes(NamedTuple):
 def refuse_words(name: str, wishes: Wishes, queries: Sequence[str]) -> None:
     """Refuses what can't be meant before anything is read or opened."""
     if picks.is_pick(name):
-        raise Misfit(f"{name}: the DATABASE is missing: it stands behind SCRIPT, and before the first PICK")
+        raise Misfit(f"{name}: the DATABASE is missing: it comes after SCRIPT, and before the first PICK")
     if not name.strip() or SQL.match(name):
-        raise Misfit(f"{short(name)}: no file of a database, which stands behind SCRIPT; SQL stands behind --query")
+        raise Misfit(f"{short(name)}: not the name of a DATABASE, which comes after SCRIPT; give SQL by --query")
     if wishes.day is not None and read_point(wishes.day) is None:
-        raise Misfit(f"--day {short(wishes.day)}: no point, as 2024-01-05 or 2024-01-05T08:30:00")
+        raise Misfit(f"--day {short(wishes.day)}: not a date or time, such as {POINTS}")
     if not all(query.strip("; \t\r\n") for query in queries):
         raise Misfit("--query: the query is empty")
 
@@ -62,7 +62,7 @@ def transaction(name: str) -> Iterator[sqlite3.Connection]:
         database.execute("begin immediate")
         yield database
         if not database.in_transaction:
-            raise Misfit("--query: a query has ended the transaction in which all is done: no commit, no rollback")
+            raise Misfit("--query: a query ended the transaction: leave out commit and rollback")
         database.execute("commit")
 
 
@@ -116,7 +116,7 @@ def refuse_present(found: Sequence[Pick], database: sqlite3.Connection, has_view
     names.extend(OF_DAY.format(pick.name) for pick in found if has_views and has_period(pick))
     for name in names:
         if name.casefold() in present:
-            raise Misfit(f"{name} is in the database, so no table was made: --replace replaces it")
+            raise Misfit(f"{name} is already in the database, so no table was made: --replace replaces it")
 
 
 def listing(found: Sequence[Pick]) -> str:
@@ -174,8 +174,8 @@ def ask(database: sqlite3.Connection, query: str, made: Sequence[Pick]) -> Asked
         tables = "; ".join(f"{pick.name}({', '.join(pick.answer.table.names)})" for pick in made)
         missing = re.fullmatch("no such column: (.*)", str(error), re.DOTALL)
         is_quoted = missing is not None and quoted(missing[1]) in query
-        remedy = "; a text stands in single quotes" if is_quoted else ""
-        raise Misfit(f"--query: {error}{remedy}; made were {short(tables)}") from None
+        remedy = "; put a text in single quotes" if is_quoted else ""
+        raise Misfit(f"--query: {error}{remedy}; the tables are {short(tables)}") from None
 
 
 def printed_field(field: object) -> str:

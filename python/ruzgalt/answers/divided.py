@@ -79,7 +79,7 @@ def counts_of(division: Table) -> List[Optional[str]]:
 
 def refuse_others(answer: Answer) -> None:
     if answer.command.word != "dip":
-        raise Misfit(f"{answer.place}: {short(answer.command.text)}: no division: ask by `dip`")
+        raise Misfit(f"{answer.place}: {short(answer.command.text)}: not a division: ask by `dip`")
 
 
 def schema_of(answer: Answer) -> Schema:

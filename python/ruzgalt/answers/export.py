@@ -37,9 +37,9 @@ def to_folder(picks: Sequence[Pick], folder: Path, is_replacing: bool, printed: 
     places = [folder / f"{pick.name}.csv" for pick in picks]
     for pick, file in zip(picks, places):
         if "/" in pick.name or pick.name.startswith(".") or not all(map(is_seen, pick.name)):
-            raise Misfit(f"{visible(pick.name)}: no name of a file")
+            raise Misfit(f"{visible(pick.name)}: not a file's name")
         if file.exists() and not is_replacing:
-            raise Misfit(f"{file} is there, so no file was written: --replace replaces it")
+            raise Misfit(f"{file} already exists, so no file was written: --replace replaces it")
     folder.mkdir(parents=True, exist_ok=True)
     with files.beside(places, is_replacing) as paths:
         for pick, path in zip(picks, paths):

@@ -34,7 +34,7 @@ def differences(kept: bytes, now: bytes, found: Sequence[Answer], places: Sequen
     shown = visible(odd.text) if odd.fields else "nothing"
     command = f"{answer.place}: {short(answer.command.text)}" if answer else "the answers"
     before = visible(was.text) if was else "none"
-    yield f"{command}: record {odd.number} of the kept answers is {before}, and now {shown}"
+    yield f"{command}: record {odd.number} of the kept answers is {before}, and is now {shown}"
 
 
 def edits(before: bytes, now: bytes) -> Iterator[str]:
@@ -43,7 +43,7 @@ def edits(before: bytes, now: bytes) -> Iterator[str]:
     for one in Reader(Source(before)):
         other = today.next()
         if other is None or list(one.fields) != list(other.fields):
-            place = f"line {other.line}" if other else "behind the last line"
+            place = f"line {other.line}" if other else "after the last line"
             shown = visible(other.text) if other else "nothing"
-            yield f"{place}: the script said {visible(one.text)} (line {one.line}), and says {shown}"
+            yield f"{place}: the script said {visible(one.text)} (line {one.line}), and now says {shown}"
             return

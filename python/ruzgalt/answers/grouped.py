@@ -54,7 +54,7 @@ def place_of(answer: Answer, name: str) -> int:
     """The place of a column, which isn't to be one of the period."""
     place = answer.table.place(name)
     if place - period_place(answer) in (0, 1):
-        raise Misfit(f"{name}: a start or an end, and records are counted for all of their time: another column")
+        raise Misfit(f"{name}: a start or an end, which make no groups: give another column")
     return place
 
 
@@ -62,8 +62,8 @@ def refuse_others(answer: Answer) -> None:
     """Refuses an answer whose records aren't periods."""
     which = f"{answer.place}: {short(answer.command.text)}"
     if answer.command.word == "at":
-        raise Misfit(f"{which}: an `at` is of its point alone: ask by `rows`")
+        raise Misfit(f"{which}: an `at` is of one point alone: ask by `rows`")
     if answer.command.form.answered is Answered.VERSIONS:
-        raise Misfit(f"{which}: its records are versions of several commits: ask by `rows`, as of one of them")
+        raise Misfit(f"{which}: its records are versions of several commits: ask by `rows` as of one commit")
     if answer.command.form.answered not in PERIODS:
         raise Misfit(f"{which}: its records aren't periods: ask by `rows`, `join`, `anti` or `agg`")

@@ -44,8 +44,8 @@ def of_table(
 def refuse_missing(found: Sequence[Answer], name: str) -> None:
     tables = found[-1].tables if found else {}
     if name not in tables:
-        there = ", ".join(tables)
-        raise Misfit(f"{name}: no table that is there{f': {there}' if there else ''}")
+        there = f"the tables are {', '.join(tables)}" if tables else "the script has none"
+        raise Misfit(f"{name}: no such table; {there}")
 
 
 def days_in(found: Sequence[Answer], diary: str) -> Days:
@@ -78,7 +78,7 @@ def days_of(schema: Schema, rows: Iterable[Sequence[str]]) -> Days:
     Its rows are given by start, end and values.
     """
     if not schema.columns or schema.columns[0].kind is not Kind.INT:
-        raise Misfit(f"{schema.name}: a diary's first column is an int, the newest commit from a row's start on")
+        raise Misfit(f"{schema.name}: a diary's first column must be an int, the newest commit from a row's start on")
     return sorted((start, int(newest)) for start, _, newest, *_ in rows)
 
 
@@ -98,7 +98,7 @@ def strange_commits(days: Days, newest: int) -> Iterator[str]:
     """Names a commit of a diary that isn't there."""
     strange = [number for _, number in days if not 0 <= number <= newest]
     if strange:
-        yield f"it names commit {strange[0]}, which isn't there: the newest is {newest}"
+        yield f"it names commit {strange[0]}, which doesn't exist: the newest is {newest}"
 
 
 def open_rows(replay: Replay, name: str) -> Iterator[List[str]]:

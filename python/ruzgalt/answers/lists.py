@@ -11,7 +11,7 @@ from ruzgalt.script.records import Record, short
 from ruzgalt.script.schemas import Column, Kind
 
 FORMS: Dict[Kind, Callable[[str], bool]] = {Kind.INT: is_sum, Kind.POINT: is_printed}
-# What forms.is_sum takes, several parted by commas.
+# What forms.is_sum takes, several separated by commas.
 SUM = r"(?:0|[1-9]\d{0,25}|-[1-9]\d{0,24})"
 SUMS = re.compile(f"{SUM}(?:,{SUM})*", re.ASCII)
 
@@ -49,9 +49,10 @@ class Checks:
                 text = record.fields[number]
                 if text != self.dash.get(number) and not FORMS[column.kind](text):
                     field = f"field {number + 1} ({column.name}) of the answer at line {record.line}, {short(text)}"
-                    return Misfit(f"{place}: {field}, is no {column.kind.value}")
+                    kind = "an int" if column.kind is Kind.INT else "a date or time"
+                    return Misfit(f"{place}: {field}, isn't {kind}")
             # The texts of points are in the order of time.
             if self.point and not record.fields[2] <= self.point < record.fields[3]:
                 other = f"the answer at line {record.line} is {short(record.text)}"
-                return Misfit(f"{place}: {other}, and not a row that holds at that point")
+                return Misfit(f"{place}: {other}, which isn't a row that holds at that point")
         return Misfit(f"{place}: the answer at line {first.line} has another form")

@@ -5,7 +5,7 @@ from typing import Iterator, List, NamedTuple, Sequence, Tuple
 from ruzgalt.answers import Answer
 from ruzgalt.answers.changes import IDS
 from ruzgalt.errors import Misfit
-from ruzgalt.script.forms import is_integer, is_name
+from ruzgalt.script.forms import NAME_HAS, is_integer, is_name
 from ruzgalt.script.reader import PIECE
 from ruzgalt.script.records import Printer, encode, short, to_record, visible
 from ruzgalt.script.schemas import PERIOD, Column, Kind, Schema
@@ -42,14 +42,14 @@ def schema_of(answer: Answer, wish: Wish) -> Tuple[List[int], Schema]:
     """The places of the columns that are taken, and the table that they make."""
     refuse_others(answer)
     if not is_name(wish.table):
-        raise Misfit(f"--table {visible(wish.table)}: no name of a table, as small letters, digits and _")
+        raise Misfit(f"--table {visible(wish.table)}: not a table's name, which has {NAME_HAS}")
     named = wish.columns or [(name, name) for name in own_names(answer, wish.has_ids)]
     places = [answer.table.place(name) for name, _ in named]
     names = [name for _, name in named]
     refuse_names(names)
     for name in wish.key:
         if name not in names:
-            raise Misfit(f"--key {short(name)}: none of the table's columns {', '.join(names)}")
+            raise Misfit(f"--key {short(name)}: not one of the table's columns {', '.join(names)}")
     columns = (Column(name, kind_of(answer, place)) for name, place in zip(names, places))
     return places, Schema(wish.table, tuple(columns), tuple(map(names.index, wish.key)))
 
@@ -71,12 +71,12 @@ def refuse_names(names: Sequence[str]) -> None:
     """Refuses names that a table's columns can't have."""
     for name in names:
         if not is_name(name):
-            why = "no name of a column, which has at most 32 of small letters, digits and _"
-            raise Misfit(f"{visible(name)}: {why}: --column {visible(name)}=NAME gives another")
+            why = f"not a column's name, which has {NAME_HAS}"
+            raise Misfit(f"{visible(name)}: {why}; --column {visible(name)}=NAME renames it")
         if names.count(name) > 1:
-            raise Misfit(f"{name} would be the name of two columns: --column COLUMN=NAME gives another")
+            raise Misfit(f"{name} would be the name of two columns: --column COLUMN=NAME renames one")
     if len(names) > MOST:
-        raise Misfit(f"{len(names)} columns, and a table has {MOST} at most: --column takes those that are wanted")
+        raise Misfit(f"{len(names)} columns, but a table has {MOST} at most: choose some by --column")
 
 
 def kind_of(answer: Answer, place: int) -> Kind:
@@ -90,4 +90,4 @@ def refuse_long_numbers(answer: Answer, records: Sequence[Sequence[str]], places
         for place in places:
             if not is_integer(record[place]):
                 what = f"{answer.table.names[place]} is {record[place]}, which has more than 64 bits"
-                raise Misfit(f"{short(to_record(record))}: {what}, and no table can have it")
+                raise Misfit(f"{short(to_record(record))}: {what}, too many for a table")

@@ -10,7 +10,7 @@ from ruzgalt.script.records import short
 
 HELP = (
     f"an answer: its NUMBER in `{called.ANSWERS} list`, @LINE of its command in the script, `last`, or `last-N` for "
-    "the N-th before that; with =NAME behind it, it gets that name"
+    "the N-th before that; =NAME after it gives it a name"
 )
 FORM = re.compile(r"(?P<number>\d{1,9})|@(?P<line>\d{1,9})|last(-(?P<back>\d{1,9}))?", re.ASCII)
 
@@ -43,7 +43,7 @@ def picked(answers: Sequence[Answer], word: str, names: Dict[int, str]) -> Pick:
     if answer.refusal:
         raise Misfit(f"{which}: {answer.place}: {short(answer.command.text)} was refused: {answer.refusal.name}")
     if mark and not name:
-        raise Misfit(f"{word}: no name behind the =")
+        raise Misfit(f"{word}: no name after the =")
     return Pick(name or names.get(answer.number, name_of(answer)), answer)
 
 
@@ -54,8 +54,8 @@ def refuse_twins(picks: Sequence[Pick]) -> None:
         twin = before.setdefault(one.name.casefold(), one)
         if twin is not one:
             both = [f"{pick.answer.place}, {short(pick.answer.command.text)}, as {pick.name}" for pick in (twin, one)]
-            remedy = f"give each its own, as {one.answer.number}={one.name}_{one.answer.number}"
-            raise Misfit(f"two answers have one name, capitals or not: {' and '.join(both)}; {remedy}")
+            remedy = f"give each its own, such as {one.answer.number}={one.name}_{one.answer.number}"
+            raise Misfit(f"two answers have the same name but for capitals: {' and '.join(both)}; {remedy}")
 
 
 def is_pick(word: str) -> bool:
@@ -77,12 +77,12 @@ def name_of(answer: Answer) -> str:
 def find(answers: Sequence[Answer], which: str) -> Answer:
     form = FORM.fullmatch(which)
     if not form:
-        raise Misfit(f"{which}: neither a number, nor @LINE, nor last or last-N")
+        raise Misfit(f"{which}: not a NUMBER, @LINE, last or last-N")
     if form["line"]:
         found = [answer for answer in answers if answer.line == int(form["line"])]
     else:
         place = int(form["number"]) - 1 if form["number"] else len(answers) - 1 - int(form["back"] or 0)
         found = [answers[place]] if 0 <= place < len(answers) else []
     if not found:
-        raise Misfit(f"{which}: no such answer; there are {len(answers)}, which `{called.ANSWERS} list` numbers")
+        raise Misfit(f"{which}: no such answer; there are {len(answers)}, which `{called.ANSWERS} list` lists")
     return found[0]

@@ -123,7 +123,7 @@ class Reading:
         try:
             columns = schemas.header(command, self.tables)
         except (KeyError, IndexError, Misfit):
-            raise misfit(command, "error,RECORD,NAME, as its tables, columns or point aren't there", first) from None
+            raise misfit(command, "error,RECORD,NAME, since its tables, columns or point don't exist", first) from None
         return Table(columns, READERS[answered](self, command, first, columns))
 
     def has_commits(self, command: Command) -> bool:
@@ -138,7 +138,7 @@ class Reading:
     def take(self, command: Command, wanted: str) -> Record:
         record = self.output.next()
         if record is None:
-            more = "; --answers is to have those to each --ask too" if command.record.is_asked else ""
+            more = "; --answers must have the answers to each --ask too" if command.record.is_asked else ""
             raise Misfit(f"{command.place}: {short(command.text)}: the answers end before {wanted}{more}")
         return record
 
@@ -153,7 +153,7 @@ class Reading:
         if list(record.fields) != ["ok", str(self.commits + 1)] or not command.is_ended:
             raise misfit(command, f"ok,{self.commits + 1}", record)
         if not is_doable(command, self.tables):
-            raise misfit(command, "error,RECORD,NAME, as its form is wrong, or its table isn't there", record)
+            raise misfit(command, "error,RECORD,NAME, since its form is wrong, or its table doesn't exist", record)
         if command.word == "table":
             self.tables = {**self.tables, command.record.fields[1]: Schema.read(command.record.fields)}
         self.commits += 1
@@ -201,7 +201,7 @@ class Reading:
                 raise misfit(command, f"part,{part} with ids", record)
             found += len(record.fields) - 2
         if found != int(count):
-            both = f"{count} rows are counted, and {found} stand in parts"
+            both = f"{count} rows are counted, but {found} are in parts"
             raise Misfit(f"{command.place}: {short(command.text)}: {both}")
         return Rows(found, lambda: parts_at(self.source, place, int(parts), instant))
 
@@ -294,5 +294,5 @@ def is_doable(command: Command, there: Dict[str, Schema]) -> bool:
 
 
 def misfit(command: Command, wanted: str, found: Record) -> Misfit:
-    other = f"the answer at line {found.line} is {short(found.text)}, and not {wanted}"
+    other = f"the answer at line {found.line} is {short(found.text)}, not {wanted}"
     return Misfit(f"{command.place}: {short(command.text)}: {other}")

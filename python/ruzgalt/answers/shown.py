@@ -34,7 +34,7 @@ class Look(NamedTuple):
         self.amounts.refuse_strangers(*tables)
         having = [table for table in tables if END in table.names] if self.has_last_days else []
         if self.has_last_days and not having:
-            raise Misfit(f"--last-day: no record has an end, since there is no column {END}")
+            raise Misfit(f"--last-day: the answer has no column {END}")
         for table in having:
             place = table.place(END)
             # All are looked at before anything is printed.
@@ -83,7 +83,7 @@ class OfColumn(NamedTuple):
             return text
         if self.digits is not None:
             if not INTEGER.fullmatch(text):
-                raise Misfit(f"--decimals {self.name}: {visible(text)} is no whole number")
+                raise Misfit(f"--decimals {self.name}: {visible(text)} isn't a whole number")
             return self.amounts.plain(int(text), self.digits)
         return last_day(text) if self.is_end else text
 
@@ -93,5 +93,5 @@ def last_day(end: str) -> str:
     if end >= "9999":
         return end
     if not is_printed(end) or len(end) != 10:
-        raise Misfit(f"--last-day: {visible(end)} is no day, so no last day is before it")
+        raise Misfit(f"--last-day: {visible(end)} has a time, so there is no last day before it")
     return print_point(at_second(seconds(end) - DAY))

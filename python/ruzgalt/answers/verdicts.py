@@ -5,15 +5,15 @@ from ruzgalt.answers import Answer
 
 # By the reason of a `no`. Claimed are the command's number of parts and its instant.
 SENTENCES: Dict[str, str] = {
-    "WrongCount": "No: {parts} parts are claimed, and {count} are there.",
+    "WrongCount": "No: {parts} parts are claimed, but there are {count}.",
     "EmptyPart": "No: part {part} has no row.",
     "Unknown": "No: no row has the id {row_id}.",
-    "Twice": "No: row {row_id} stands twice.",
+    "Twice": "No: row {row_id} occurs twice.",
     "Missing": "No: row {row_id} is in no part.",
     "Overlap": "No: rows {row_id} and {other_row_id} are in one part, and overlap.",
 }
-YES = "Yes: no two rows of a part overlap, and fewer parts than {parts} can't do: {why}."
-NOT_CROWDED = "No: {parts} parts are enough, but {which}: it doesn't show that fewer can't do."
+YES = "Yes: no two rows of a part overlap, and fewer parts than {parts} aren't enough: {why}."
+NOT_CROWDED = "No: {parts} parts are enough, but {which}: it doesn't show that fewer aren't."
 
 
 def sentence_of(answer: Answer) -> str:
@@ -26,7 +26,7 @@ def sentence_of(answer: Answer) -> str:
 def sentence(reason: str, numbers: Mapping[str, object], parts: object, instant: str) -> str:
     """Of a verdict's reason, nothing of a `yes`; of its numbers by what they count; and of what is claimed."""
     if not reason:
-        why = "there are no rows" if instant == "-" else f"on {instant} as many rows hold"
+        why = "there are no rows" if instant == "-" else f"{parts} rows hold on {instant}"
         return YES.format(parts=parts, why=why)
     if reason == "NotCrowded":
         which = "no day is claimed" if instant == "-" else f"{instant} needs only {numbers['count']}"

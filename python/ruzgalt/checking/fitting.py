@@ -10,7 +10,7 @@ from ruzgalt.checking.replay import Replay, Row, behind
 from ruzgalt.errors import Misfit
 from ruzgalt.script.records import short, to_record
 
-REMEDY = "these are answers to another script or question: without --answers this script is answered anew"
+REMEDY = "these are answers to another script or question: leave out --answers to answer this script again"
 
 
 def refuse_unfit(found: Sequence[Answer], chosen: Sequence[Answer]) -> None:
@@ -40,10 +40,10 @@ def first_difference(found: Iterable[Texts], wanted: Iterable[Texts]) -> Optiona
         if one is None:
             return f"the answer lacks {short(to_record(other))}, which the changes before it give"
         if other is None:
-            return f"record {place} of the answer, {short(to_record(one))}, is more than the changes before it give"
+            return f"record {place} of the answer, {short(to_record(one))}, is one more than the changes before it give"
         if one != other:
-            shown = " and not ".join(short(to_record(record)) for record in (one, other))
-            return f"record {place} of the answer is {shown}, which the changes before it give"
+            shown, given = (short(to_record(record)) for record in (one, other))
+            return f"record {place} of the answer is {shown}, but the changes before it give {given}"
     return None
 
 
@@ -56,11 +56,11 @@ def of_join(replay: Replay, answer: Answer) -> Optional[str]:
         both = ones[one][1], others[other][1]
         shared = max(row.start for row in both), min(row.end for row in both)
         if not start < end or (start, end) != shared or tuple(values) != both[0].values + both[1].values:
-            return f"rows {one} and {other} have other values, or share another time"
+            return f"rows {one} and {other} have other values, or share another period"
     pairs = {(record[2], record[3]) for record in answer.table.texts()}
     wanted = sum(shared_times(left[key], right[key]) for key in left if key in right)
     count = len(pairs)
-    return None if count == wanted else f"it has {count} pairs of rows, and the changes before it give {wanted}"
+    return None if count == wanted else f"it has {count} pairs of rows, but the changes before it give {wanted}"
 
 
 def keys_by_id(keyed: Keyed) -> Dict[str, Tuple[Tuple[str, ...], Row]]:

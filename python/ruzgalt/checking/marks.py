@@ -82,7 +82,7 @@ class Marks:
     def look(self, answer: Answer, replay: Replay) -> None:
         word = answer.command.word
         if answer.number == 1 and is_answer(answer.command.record.fields):
-            self.add(answer, "these are answers, and no script: what they answer is to be given")
+            self.add(answer, "these are answers, not a script: give the script that they answer")
         # Why a block has no end its refusal says.
         if answer.command.is_ended:
             for note, kind in quoting.doubts_of(answer.command, bool(answer.refusal)):
@@ -112,7 +112,7 @@ class Marks:
         self.by_table.setdefault(table, Loads(answer.tables[table])).add(answer)
         line = self.loads.setdefault((table, hash(data)), answer.line)
         if line != answer.line and len(block) > 1:
-            self.add(answer, f"its rows are those of the load at line {line}, so each is there twice")
+            self.add(answer, f"its rows are those of the load at line {line}, so each occurs twice")
         # Most loads have days alone, which is seen at once.
         has_times = b":" in data
         if has_times and HOURS.search(data):
@@ -139,7 +139,7 @@ class Marks:
         loaded = {tuple(record.fields) for block in blocks for record in block}
         rows = [tuple(record.fields) for record in answer.command.rows if record != at_fault]
         count = sum(row not in loaded for row in rows)
-        return f"it was refused whole, and {count} of its other rows stand in no later load" if count else None
+        return f"it was refused whole, and {count} of its other rows are in no later load" if count else None
 
     def end(self, replay: Replay) -> List[Mark]:
         """All that is marked, by the answers' order; what changes touched is known now."""
@@ -174,7 +174,7 @@ def of_end(end: str) -> Optional[str]:
     if "T23:59" in end and not end.startswith("9999"):
         return f"{end} isn't in it: a day ends at the next one's midnight"
     if end < NO_END and is_month_end(end):
-        return f"{end} isn't in it: a portion ends before its TO, so one that has this day ends on the next"
+        return f"{end} isn't in it: a portion ends before its TO, so one with this day ends on the next"
     return None
 
 
@@ -187,7 +187,7 @@ def of_reach(answer: Answer, last: Optional[str]) -> Optional[str]:
     fields = answer.command.record.fields
     if fields[0] == "update" and last is not None and last < printed(fields[3]) < "9999":
         ends = f"each row that it changed ends by {last}, before {fields[3]}"
-        return f"{ends}: an update lengthens no row, and a load does"
+        return f"{ends}: an update can't lengthen a row; load the rest of the time"
     return None
 
 
@@ -195,10 +195,10 @@ def of_touched(fields: Sequence[str], count: int) -> Optional[str]:
     """What an update or a delete touched, where that was nothing, or all that there was."""
     has_where = bool(where_places(fields))
     if not count:
-        has_what = "of that time has what its `where` says" if has_where else "holds in that time"
+        has_what = "of that time matches its `where`" if has_where else "holds in that time"
         return f"no row {has_what}, so nothing was changed"
     if not has_where and count > 1:
-        return f"without a `where` it acts on all rows of that time: {count} were changed"
+        return f"it has no `where`, so it changed all rows of that time: {count}"
     return None
 
 
@@ -219,7 +219,7 @@ def of_overlap(schema: Schema, replay: Replay) -> Optional[str]:
     if found is None:
         return None
     names = " ".join(schema.names[place] for place in places)
-    both = f"rows {found.first} and {found.second}, equal in {names.replace(' ', ', ')}, hold at one time"
+    both = f"rows {found.first} and {found.second}, equal in {names.replace(' ', ', ')}, hold at the same time"
     question = f"`{called.ANSWERS} overlaps SCRIPT {names} --ask rows,{schema.name}` lists such rows"
     return f"{schema.name} has {'a key of all columns' if schema.key else 'no key'}, and {both}; {question}"
 
@@ -233,8 +233,8 @@ def of_join(answer: Answer, replay: Replay) -> Optional[str]:
         none = f"{front[1]} and {front[2]} have no value of these columns in common"
         return f"{none}, so no row matches{like(left, right)}"
     if front[0] == "anti" and left and not len(answer.table.records):
-        other = f"the rows of {front[2]} without one of {front[1]} are asked for by anti,{front[2]},{front[1]}"
-        return f"each row of {front[1]} is matched all the time; {other}"
+        other = f"for the rows of {front[2]} without one of {front[1]}, ask by anti,{front[2]},{front[1]}"
+        return f"each row of {front[1]} is matched for all of its time; {other}"
     pairs = like(left - right, right - left) if len(front) > 3 else ""
     return f"some values don't match{pairs}" if pairs else None
 

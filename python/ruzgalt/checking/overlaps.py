@@ -22,9 +22,9 @@ Spans = List[Tuple[str, str, str]]
 def by_key(answer: Answer, key: Sequence[str]) -> Tuple[List[Column], Dict[Tuple[str, ...], Spans]]:
     """The key's columns, and for each of its values the rows of the answer: start, end and id."""
     if answer.command.word == "at":
-        raise Misfit(f"{answer.place}: {answer.command.text}: an `at` is of its point alone: ask by `rows`")
+        raise Misfit(f"{answer.place}: {answer.command.text}: an `at` is of one point alone: ask by `rows`")
     if answer.command.word != "rows":
-        raise Misfit(f"{answer.place}: {answer.command.text}: no list of rows: ask by `rows`")
+        raise Misfit(f"{answer.place}: {answer.command.text}: not a list of rows: ask by `rows`")
     schema = answer.tables[answer.command.front[1]]
     places = [3 + schema.place(name) for name in key]
     found: Dict[Tuple[str, ...], Spans] = defaultdict(list)

@@ -19,13 +19,13 @@ DOUBTS = [(re.compile(form, re.IGNORECASE), doubt) for form, doubt in (
      "a record doesn't hold at its valid_to, which `>=` includes: valid_from <= '..' and '..' < valid_to"),
     (rf"{FROM}\s*<\s*('[^']*').*(?:\1\s*<\s*{TO}|{TO}\s*>\s*\1)",
      "a record holds at its valid_from, which `<` leaves out: valid_from <= '..' and '..' < valid_to"),
-    (rf"{TO}\s*-\s*{FROM}", "points are texts, and their difference is of years: julianday(..) of both has days"),
+    (rf"{TO}\s*-\s*{FROM}", "points are texts, so their difference is in years: take julianday(..) of both for days"),
     (rf"(?:{FROM}|{TO})\s*[<>=]+\s*\d|\d\s*[<>=]+\s*(?:{FROM}|{TO})",
-     "a point is a text, and is compared with a number: a day stands in single quotes, as '2024-01-31'"),
-    (r"\bdatetime\s*\(", "datetime(..) has a space before the time, where points have a T, or no time"),
+     "a point is a text, and is compared with a number: put a day in single quotes, such as '2024-01-31'"),
+    (r"\bdatetime\s*\(", "datetime(..) puts a space before the time, but points have a T, or no time"),
     (rf"(?:{FROM}|{TO})\s*=\s*'\d{{4}}(?:-\d\d)?'",
-     "a point has a day, so none is equal to a year or a month: valid_from >= '2024-01-01'"),
-    (r"[<>=]\s*null\b", "nothing is equal to NULL: `is null` asks for it"),
+     "a point has a day, so it never equals a year or a month: valid_from >= '2024-01-01'"),
+    (r"[<>=]\s*null\b", "nothing equals NULL: use `is null`"),
 )]
 # What a call has in its brackets, with two more pairs of them inside at most.
 WITHIN = r"(?:[^()]|\((?:[^()]|\([^()]*\))*\))*"
@@ -42,10 +42,10 @@ EDGE = re.compile(
 POINTED = re.compile(r"(?<!\w)(?:\d+\.|\.\d|\d+e\d)|\b(?:julianday|avg|total|round|real)\b", re.IGNORECASE)
 HALF, DIVISOR = re.compile(r"\+\s*([\w.]+)\s*\)*\s*$"), re.compile(r"(\d+)|\(\s*2\s*\*\s*([\w.]+)\s*\)")
 CUTS_OFF = (
-    "a division of whole numbers cuts off what is behind the point: (a + 50) / 100 rounds, and a / 100.0 keeps it"
+    "a division of whole numbers drops the fraction: (a + 50) / 100 rounds it, and a / 100.0 keeps it"
 )
 TEXT_BESIDE_NUMBER = (
-    "strftime(..), substr(..) and their like give texts, which are equal to no number: as '2025' it is a text too"
+    "strftime(..), substr(..) and the like give texts, which never equal a number: compare with a text such as '2025'"
 )
 # What takes care of NULL.
 KNOWS_NULL = re.compile(r"\b(?:null|coalesce|ifnull|iif)\b", re.IGNORECASE)
@@ -87,14 +87,14 @@ def doubts_of(query: str, made: Made) -> Iterator[str]:
     """What may not be meant, for a person. Raises Misfit where a point has no quotes."""
     bare = BARE_POINT.search(QUOTED.sub("''", query))
     if bare:
-        raise Misfit(f"--query: {bare[0]} is a subtraction: a point stands in single quotes, as '{bare[0]}'")
+        raise Misfit(f"--query: {bare[0]} is a subtraction: put a point in single quotes, as '{bare[0]}'")
     line = " ".join(query.split())
     yield from (doubt for form, doubt in DOUBTS if form.search(line))
     is_beside = BESIDE_END.search(line) or LENGTH.search(line)
     if made.are_null and is_beside and not KNOWS_NULL.search(line):
-        yield "an end that isn't known is NULL by --open-null: no comparison holds for it, and no length or sum has it"
+        yield "an end that isn't known is NULL by --open-null: comparisons, lengths and sums leave it out"
     if made.are_current and BESIDE_CLOSED.search(line) and not KNOWS_NULL.search(line):
-        yield "sys_to is NULL of a version that no commit closed: no comparison holds for it"
+        yield "sys_to is NULL for a version that no commit closed: comparisons leave it out"
     plain = " ".join(QUOTED.sub(without_text, query).split())
     yield from doubts_of_records(plain, made.with_periods)
     if any(cuts_off(plain, found.start()) for found in re.finditer("/", plain)):
@@ -102,21 +102,21 @@ def doubts_of(query: str, made: Made) -> Iterator[str]:
     if NUMBER_BESIDE.search(plain):
         yield TEXT_BESIDE_NUMBER
     if made.are_open and LENGTH.search(line) and "9999" not in line and "min(" not in line.lower():
-        yield "a length up to 9999-12-31, where no end is known, is 8,000 years: cut it, as by min(valid_to, '..')"
+        yield "a length up to 9999-12-31, where no end is known, is 8,000 years: cut it by min(valid_to, '..')"
     for text in DAY.findall(query):
         if read_point(text) is None or printed(text) != text:
-            yield f"'{text}' is compared as a text: points are as '2024-01-31' or '2024-01-31T08:30:00' in the tables"
+            yield f"'{text}' is compared as a text: points are texts such as '2024-01-31' or '2024-01-31T08:30:00'"
 
 
 def doubts_of_records(plain: str, with_periods: Sequence[str]) -> Iterator[str]:
     """What may not be meant by which records are summed or joined."""
     if BESIDE_SUM.search(plain):
-        yield "a column beside a sum of all records is that of some record: `group by` sums for each of its values"
+        yield "a column beside a sum of all records is from some record: `group by` sums for each of its values"
     forms = (rf"(?<![\w.]){re.escape(name)}(?![\w.])" for name in with_periods)
     count = sum(bool(re.search(form, plain, re.IGNORECASE)) for form in forms)
     if count > 1 and JOINED.search(plain) and not BY_TIME.search(plain):
-        apart = "records that are joined without their times needn't hold together"
-        yield f"{apart}: a.valid_from < b.valid_to and b.valid_from < a.valid_to, or the language's join"
+        apart = "records that are joined without their times may not hold at the same time"
+        yield f"{apart}: add a.valid_from < b.valid_to and b.valid_from < a.valid_to, or ask by `join`"
 
 
 def without_text(found: "re.Match[str]") -> str:

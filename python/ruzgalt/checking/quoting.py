@@ -31,10 +31,10 @@ class Kind(NamedTuple):
 
 
 KINDS = [
-    Kind(TAKEN.search, "goes on to lines that look like records, which are a part of it: is its second quote missing?"),
-    Kind(BEHIND_BLANK.fullmatch, "has a blank before its quote, so blank and quotes belong to it"),
-    Kind(BLANK_AT_END.fullmatch, "has a blank at an end, which belongs to it", False),
-    Kind(SINGLE.fullmatch, "has single quotes, which belong to it: quotes of fields are double"),
+    Kind(TAKEN.search, "continues to lines that look like records: is its second quote missing?"),
+    Kind(BEHIND_BLANK.fullmatch, "has a blank before its quote, so blank and quotes are part of it"),
+    Kind(BLANK_AT_END.fullmatch, "has a blank at an end, which is part of it", False),
+    Kind(SINGLE.fullmatch, "has single quotes, which are part of it: fields are quoted by double quotes"),
 ]
 
 

@@ -8,7 +8,7 @@ from ruzgalt.answers.history import refuse_missing
 from ruzgalt.checking import replay
 from ruzgalt.errors import Misfit
 from ruzgalt.periods.rounding import Fraction, rounded
-from ruzgalt.script.forms import is_integer, printed, read_point
+from ruzgalt.script.forms import POINTS, is_integer, printed, read_point
 from ruzgalt.script.records import short
 from ruzgalt.script.schemas import Column, Kind, Schema, Table, ints, unique
 
@@ -66,11 +66,11 @@ class Raise:
     def step(self, amount: int, rows: int) -> Step:
         exact = amount * self.factor[0], self.factor[1]
         if exact[0] % exact[1] and self.wish.rounding is None:
-            what = f"{amount} comes to {decimal_of(exact)}, which is no whole number"
-            raise Misfit(f"{what}: --round says how it becomes one, as --round half-up")
+            what = f"{amount} comes to {decimal_of(exact)}, which isn't a whole number"
+            raise Misfit(f"{what}: say how it is rounded, for example by --round half-up")
         made = Step(amount, rows, exact, rounded(*exact, *filter(None, [self.wish.rounding])))
         if not is_integer(str(made.raised)):
-            raise Misfit(f"{amount} comes to {made.raised}, which is no number of a column: it has more than 64 bits")
+            raise Misfit(f"{amount} comes to {made.raised}, which has more than 64 bits, too many for a column")
         return made
 
     def updates(self) -> Iterator[List[str]]:
@@ -97,17 +97,17 @@ class Raise:
             yield f"{found:,} of {len(self.steps):,} amounts were rounded, {self.wish.rounding}"
         same = [step.amount for step in self.steps if step.raised == step.amount]
         if same:
-            yield f"{len(same):,} amounts stay what they are, as {same[0]}, and have no update"
+            yield f"{len(same):,} amounts stay as they are, such as {same[0]}, and have no update"
         if not self.steps:
             which = "".join(f", with {short(name)} {short(value)}" for name, value in self.wish.where)
-            yield f"no row of {self.wish.table} holds from {self.start} on and before {self.end}{which}"
+            yield f"no row of {self.wish.table} holds between {self.start} and {self.end}{which}"
 
 
 def factor_of(percent: str) -> Fraction:
     """What an amount is multiplied by."""
     found = PERCENT.fullmatch(percent)
     if found is None:
-        raise Misfit(f"--percent {short(percent)}: no number as 2.5 or -3")
+        raise Misfit(f"--percent {short(percent)}: not a number such as 2.5 or -3")
     whole = 10 ** len(found["decimals"] or "")
     more = int(percent.replace(".", ""))
     if more == 0 or more < -100 * whole:
@@ -126,13 +126,13 @@ def decimal_of(number: Fraction) -> str:
 def column_place(schema: Schema, name: str) -> int:
     place = schema.place(name)
     if schema.columns[place].kind is not Kind.INT:
-        raise Misfit(f"{name}: a column of texts, and amounts are numbers")
+        raise Misfit(f"{name}: a column of texts, and only numbers can be raised")
     return place
 
 
 def refuse_points(wish: Wish) -> None:
     for word, point in (("from", wish.start), ("to", wish.end)):
         if point is not None and read_point(point) is None:
-            raise Misfit(f"--{word} {short(point)}: no point, as 2024-01-05 or 2024-01-05T08:30:00")
+            raise Misfit(f"--{word} {short(point)}: not a date or time, such as {POINTS}")
     if wish.end is not None and printed(wish.start) >= printed(wish.end):
         raise Misfit(f"--from {wish.start} isn't before --to {wish.end}")

@@ -32,32 +32,32 @@ def reason(answer: Answer) -> str:
 def key_overlap(answer: Answer) -> str:
     schema = answer.tables[answer.command.record.fields[1]]
     key = ", ".join(schema.names[place] for place in schema.key)
-    about = f"two rows that are equal in the key ({key}) would hold at one point"
-    return f"{about}: end the one before the other starts, or change it by an update"
+    about = f"two rows with the same key ({key}) would hold at the same time"
+    return f"{about}: end one before the other starts, or change it by an update"
 
 
 def wrong_width(answer: Answer) -> str:
     record = answer.refused.record
     wanted = ",".join(["row", "FROM", "TO", *answer.tables[answer.command.record.fields[1]].names])
-    count = f"{len(record.fields)} fields, and not the {wanted.count(',') + 1} of {wanted}"
-    return f"{visible(record.text)} has {count}; a text with a comma stands in double quotes, right between commas"
+    count = f"{len(record.fields)} fields, not the {wanted.count(',') + 1} of {wanted}"
+    return f"{visible(record.text)} has {count}; put a text with a comma in double quotes, right between commas"
 
 
 def bad_command(answer: Answer) -> str:
     record, command = answer.refused.record, answer.command
     if record is not command.record:
         wanted = command.form.part
-        remedy = "; its end is the one word end" if is_like_end(record) else f"; each begins with the word {wanted}"
+        remedy = "; its end is the word end alone" if is_like_end(record) else f"; each begins with the word {wanted}"
         remedy = "; is its end missing before it?" if record.word in COMMANDS else remedy
-        return f"a {command.word} has {wanted} records alone, and not {visible(record.text)}{remedy}"
+        return f"a {command.word} has only {wanted} records, not {visible(record.text)}{remedy}"
     if command.word == "end":
         return "an end without a block"
     if command.word == "table" and wrong_kinds(record):
         place = wrong_kinds(record)[0]
-        return f"field {place + 1}, {visible(to_record([record.fields[place]]))}, is no KIND, int or text"
+        return f"field {place + 1}, {visible(to_record([record.fields[place]]))}, isn't a KIND, int or text"
     form = command.form.text
     if command.word == "agg" and "by" in command.front[3:-2]:
-        return f"the form is {form}; behind `by` stands one column: load one that has the values of both"
+        return f"the form is {form}; `by` takes one column: load one that has the values of both"
     return f"the form is {form}" if form else f"field 1, {visible(to_record([command.word]))}, {no_word(command.word)}"
 
 
@@ -65,33 +65,33 @@ def no_word(word: str) -> str:
     """Why a word is none of a command, and what is likely meant."""
     plain = word.strip(" \ufeff").lower()
     if word.startswith("\ufeff"):
-        return "begins with a byte order mark, which only a script's own beginning may have: `tail -c +4` leaves it out"
+        return "begins with a byte order mark, which only the start of a script may have: `tail -c +4` leaves it out"
     if word == "csv-to-load failed":
-        return f"stands in place of a load: {called.LOAD} has said why on standard error"
+        return f"is in place of a load: {called.LOAD} has reported why on standard error"
     if plain in COMMANDS:
-        return f"is no command, but {plain} is"
+        return f"isn't a command; {plain} is"
     if "\0" in word:
-        return "isn't UTF-8; `iconv -f UTF-16 -t UTF-8` makes it of a file from Windows"
+        return "isn't UTF-8; `iconv -f UTF-16 -t UTF-8` converts a file from Windows"
     mark = next((one for one in ";\t" if one in word), None)
     if mark and word.partition(mark)[0] in COMMANDS:
-        return "is no command: commas part the fields"
+        return "isn't a command: separate fields by commas"
     if plain.startswith(("#", "--", "//")):
-        return "is no command: a script has no comments"
+        return "isn't a command: a script has no comments"
     if plain.startswith("sep="):
-        return "is no command, but a spreadsheet's first line: leave it out"
+        return "isn't a command, but a spreadsheet's first line: leave it out"
     other = next((remedy for words, remedy in OTHER_WORDS if plain.split(" ")[0] in words), None)
-    known = f"is no command: these are {', '.join(COMMANDS)}"
-    return f"{known}; {other or f'of a CSV file with a header {called.LOAD} makes a load'}"
+    known = f"isn't a command; the commands are {', '.join(COMMANDS)}"
+    return f"{known}; {other or f'{called.LOAD} makes a load of a CSV file with a header'}"
 
 
 # Words of other languages, and what is done here.
 OTHER_WORDS = [
-    (("ok", "error", "version", "yes", "no"), "it is a word of answers, and a script is what they answer"),
-    (("select", "with", "from"), f"SQL is asked of answers, by `{called.ANSWERS} sqlite`"),
-    (("alter", "drop", "truncate", "rename"), "a table keeps its columns, and stays: a new one can have others"),
+    (("ok", "error", "version", "yes", "no"), "it is a word of answers, not of scripts"),
+    (("select", "with", "from"), f"`{called.ANSWERS} sqlite` takes SQL"),
+    (("alter", "drop", "truncate", "rename"), "a table can't be changed or removed: make a new one with other columns"),
     (("create",), "`table` makes a table"),
-    (("insert", "add", "row", "merge", "upsert"), "rows stand between `load,T` and `end`"),
-    (("set", "modify"), "`update` gives rows other values for a time"),
+    (("insert", "add", "row", "merge", "upsert"), "put rows between `load,T` and `end`"),
+    (("set", "modify"), "`update` changes the values of rows for a time"),
     (("begin", "commit", "rollback"), "each change is a commit, and a block of questions begins with `together`"),
 ]
 
@@ -106,14 +106,14 @@ def unended(answer: Answer) -> str:
     like = next((record for record in answer.command.block if is_like_end(record)), None)
     about = "the block has no end, so the rest of the script was skipped"
     if like:
-        return f"{about}; {like.place}, {visible(to_record(like.fields))}, isn't the one word end"
+        return f"{about}; {like.place}, {visible(to_record(like.fields))}, isn't the word end alone"
     broken = next((record for record in answer.command.block if any("\n" in field for field in record.fields)), None)
     if broken:
-        return f"{about}; is a second quote missing in {broken.place}? A field there goes on to other lines"
+        return f"{about}; is a second quote missing in {broken.place}? a field there continues to other lines"
     if answer.command.word == "load" and len(answer.command.record.fields) > 2:
-        return f"{about}; the form is load,T and then rows, since no file is read"
+        return f"{about}; the form is load,T and then rows: no file is read"
     has_inner = answer.command.word == "together" and any(record.word in BLOCKS for record in answer.command.block)
-    return f"{about}; a load or a check in it takes an end for itself" if has_inner else about
+    return f"{about}; a load or a check in it needs an end of its own" if has_inner else about
 
 
 def is_like_end(record: Record) -> bool:
@@ -123,8 +123,8 @@ def is_like_end(record: Record) -> bool:
 
 def not_in_block(answer: Answer) -> str:
     if answer.command.word == "load":
-        return "a second load between `together` and its `end`: put it behind, or its rows of one table into the first"
-    return f"{answer.command.word} isn't allowed between `together` and its `end`: put it before or behind"
+        return "a second load between `together` and its `end`: put it after, or its rows of one table into the first"
+    return f"{answer.command.word} isn't allowed between `together` and its `end`: put it before or after"
 
 
 OF_RECORDS: Dict[str, Callable[[Answer], str]] = {

@@ -204,15 +204,15 @@ class Beginnings:
         names = answer.command.front[1:1 + answer.command.form.tables]
         for name in dict.fromkeys(names):
             if self.made[name] > answer.commit:
-                yield f"{name} was made by commit {self.made[name]}, so commit {answer.commit} shows no row of it"
+                yield f"{name} was made by commit {self.made[name]}, so commit {answer.commit} has no row of it"
             elif self.filled.get(name, 0) > answer.commit:
-                yield f"{name} has rows from commit {self.filled[name]} on, and commit {answer.commit} shows none of it"
+                yield f"{name} has rows from commit {self.filled[name]} on, so commit {answer.commit} has no row of it"
 
 
 def rows_of(answers: Sequence[Answer], answer: Answer) -> List[Version]:
     """The rows that a query of one table reads: those of its commit."""
     texts = answer.command.front
     if len(texts) < 2 or texts[1] not in answer.tables:
-        raise Misfit(f"{answer.place}: {answer.command.text}: no query of a table")
+        raise Misfit(f"{answer.place}: {answer.command.text}: not a query of a table")
     before = [one for one in answers if one.number <= answer.number or one.commits <= answer.commit]
     return behind(before).rows(texts[1], answer.commit)

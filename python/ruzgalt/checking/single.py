@@ -20,7 +20,7 @@ def command_for(answers: Sequence[Answer], table: str, row_id: int, set_to: Sequ
     for other in there.values():
         meets = other.row.start < row.end and row.start < other.row.end
         if meets and other.row_id != row_id and other.row.values == row.values:
-            raise Misfit(f"row {other.row_id} has the values of row {row_id} too, and shares some of its time")
+            raise Misfit(f"row {other.row_id} has the same values as row {row_id}, and shares some of its time")
     for name, value in set_to:
         column = tables[table].columns[tables[table].place(name)]
         fault = refusals.fault_of_value(answers[-1], Field(0, value, Role.VALUE, tables[table], column))

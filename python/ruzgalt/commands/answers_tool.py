@@ -30,7 +30,7 @@ ABOUT = f"""Reads a script of dipq beside its answers, so that it knows of each 
 usage: {NAME} COMMAND SCRIPT ..
 
 SCRIPT is a file, or - for standard input. It is answered by {called.PROGRAM}, or the program that DIPQ names in the
-environment; or --answers names a file of its answers. A repository's ./dipq is proved and built at its first use.
+environment; or --answers gives a file of its answers. A repository's ./dipq is proved and built at its first use.
 
 {textwrap.fill(f"PICK is {picks.HELP}.", 110)}
 
@@ -70,11 +70,11 @@ def others(same: Sequence[marks.Mark]) -> str:
 
 def do_csv(options: Namespace) -> None:
     if options.replace and not options.folder:
-        raise Misfit("--replace replaces files of a --folder, and none is given: what is printed replaces no file")
+        raise Misfit("--replace needs --folder, whose files it replaces")
     if options.folder and (options.rows or options.by or options.counts):
-        raise Misfit("--rows, --by and --counts are of one division, and not of a --folder")
+        raise Misfit("--rows, --by and --counts can't be given with --folder")
     if options.rows and options.counts:
-        raise Misfit("--rows has a record for each row, and --counts one for all, or for each group: one of them")
+        raise Misfit("--rows can't be given with --counts")
     found = read(options)
     if options.folder:
         picked = chosen(found, options.pick)
@@ -91,7 +91,7 @@ def asked_table(options: Namespace, found: Found, answer: answers.Answer) -> Tab
     """The answer's table; or of a division that with its rows, or with those of each group, or its counts."""
     if options.by:
         if options.answers is not None:
-            raise Misfit("--by: each group's division is asked of the program, and with --answers none is run")
+            raise Misfit("--by can't be given with --answers: the program computes each group's division")
         by_groups = divided.counted_by_groups if options.counts else divided.by_groups
         return by_groups(found.answers, answer, options.by, options.program)
     if options.counts:
@@ -107,12 +107,11 @@ def do_sqlite(options: Namespace) -> None:
     wishes, look = databases.Wishes(options.replace, options.open_null, options.day), look_of(options)
     databases.refuse_words(options.database, wishes, options.query)
     if not options.query and not (look.is_plain and not options.german):
-        more = "tables have whole numbers and ends, to be computed with"
-        raise Misfit(f"--decimals, --german and --last-day are of what --query prints: {more}")
+        raise Misfit("--decimals, --german and --last-day need --query, whose answers they print")
     found = chosen(read(options), options.pick)
     with databases.opened(options.database) as database:
         for column in databases.make_tables(found, database, wishes):
-            warn(f"{column} has sums past SQLite's integers, so it is a text there, and isn't in the order of numbers")
+            warn(f"{column} has sums past SQLite's integers, so it is a text there, and isn't sorted as numbers")
         made = databases.made_of(found, database)
         replies = [asked(database, query, made, found) for query in options.query]
         shown = databases.shown(replies, look)
@@ -130,15 +129,15 @@ def asked(
         warn(f"--query: {doubt}")
     answer = databases.ask(database, query, found)
     for name in answer.twins():
-        warn(f"--query: several columns are called {records.visible(name)}: `as` gives each its own name")
+        warn(f"--query: several columns are called {records.visible(name)}: rename them by `as`")
     return answer
 
 
 def do_changed(options: Namespace) -> None:
     before, after = last(read(options), options.pick, 2)
     if before.commit > after.commit:
-        both = f"the first of the two reads commit {before.commit}, and the second {after.commit}"
-        warn(f"{both}: `-` is what the first has alone, which is later")
+        both = f"the first answer is of commit {before.commit}, the second of the earlier commit {after.commit}"
+        warn(f"{both}: `-` is what only the first has")
     printed.show(options, changes.between(before, after))
 
 
@@ -154,7 +153,7 @@ def do_gaps(options: Namespace) -> None:
 
 def do_history(options: Namespace) -> None:
     if options.retroactive and not options.diary:
-        raise Misfit("--retroactive: the days of commits are those of a --diary, and none is given")
+        raise Misfit("--retroactive needs --diary, which has the days of commits")
     found = read(options)
     if not found.is_own:
         fitting.refuse_unfit(found.answers, found.answers)
@@ -177,8 +176,8 @@ def commits_of(options: Namespace, newest: int) -> Optional[range]:
     first, last = options.commit
     last = newest if last is None else last
     if not 1 <= first <= last <= newest:
-        none = f"{first}: no commit that is" if first == last else f"{first}-{last}: no commits that are"
-        raise Misfit(f"--commit {none} there: the newest is {newest}")
+        none = f"{first}: no such commit" if first == last else f"{first}-{last}: no such commits"
+        raise Misfit(f"--commit {none}; the newest is {newest}")
     return range(first, last + 1)
 
 
@@ -186,7 +185,7 @@ def do_front(options: Namespace) -> int:
     """Reports what differs. The status is 1 where something does."""
     script, kept = bytes_of(options.script), bytes_of(options.kept)
     if script and not kept:
-        warn(f"{options.kept} is empty, and so the front of any answers")
+        warn(f"{options.kept} is empty, so any answers begin with it")
     lines = list(front.edits(bytes_of(options.before), script)) if options.before else []
     output = asking.output(options.program, script)
     found, places = [], []
@@ -240,7 +239,7 @@ def do_faulty(options: Namespace) -> int:
     streams.show_lines(lines)
     others = asking.refused_otherwise(options.program, script)
     if others:
-        more = f"{len(others)} refused for no row's fault; `{NAME} refusals` explains"
+        more = f"{len(others)} refused for reasons other than a row; `{NAME} refusals` explains"
         warn(f"{refusals.described(others[0])} ({more})")
     return 1 if lines or others else 0
 
@@ -251,22 +250,22 @@ def with_picks(parser: ArgumentParser, count: str = "*") -> None:
 
 def words_of_csv(parser: ArgumentParser) -> None:
     with_picks(parser)
-    parser.add_argument("--folder", metavar="FOLDER", help="a file NAME.csv for each answer there, and not one table")
+    parser.add_argument("--folder", metavar="FOLDER", help="writes a file NAME.csv for each answer to this folder")
     parser.add_argument("--replace", action="store_true", help="replaces files of these names in the folder")
-    parser.add_argument("--rows", action="store_true", help="of a division: each row's period and values too")
+    parser.add_argument("--rows", action="store_true", help="for a division: each row's period and values too")
     parser.add_argument(
         "--by", action="append", default=[], metavar="COLUMN",
-        help="of a division: the own division of each group of equal values, with rows",
+        help="for a division: one of its own for each value of this column, with rows; may be repeated",
     )
     parser.add_argument(
         "--counts", action="store_true",
-        help="of a division, or with --by of each group's: how many rows and parts it has, and its instant",
+        help="for a division, or with --by each group's: how many rows and parts it has, and its instant",
     )
     printed.words_of_tables(parser)
 
 
 def words_of_sqlite(parser: ArgumentParser) -> None:
-    parser.add_argument("database", metavar="DATABASE", help="a file, or :memory: for one that is gone afterwards")
+    parser.add_argument("database", metavar="DATABASE", help="a file, or :memory: for one that isn't kept")
     with_picks(parser)
     parser.add_argument(
         "--query", action="append", default=[], metavar="SQL",
@@ -286,19 +285,19 @@ def words_of_picture(parser: ArgumentParser) -> None:
 
 
 def words_of_page(parser: ArgumentParser) -> None:
-    parser.add_argument("pick", nargs="*", metavar="PICK=NAME", default=[], help="gives an answer's question a name")
-    parser.add_argument("--title", default="", metavar="TEXT", help="what stands above all")
-    parser.add_argument("--note", default="", metavar="TEXT", help="what is to be read first")
+    parser.add_argument("pick", nargs="*", metavar="PICK=NAME", default=[], help="names an answer's question")
+    parser.add_argument("--title", default="", metavar="TEXT", help="the page's title")
+    parser.add_argument("--note", default="", metavar="TEXT", help="a note at its top")
     parser.add_argument("--diary", metavar="TABLE", help="a table whose first column is the newest commit of a time")
     parser.add_argument(
-        "--once", action="store_true", help="doesn't do the program's answers again, and the page says so",
+        "--once", action="store_true", help="doesn't compute the answers a second time, and the page says so",
     )
-    words_of_looks(parser, "amounts are as 1.234,50")
+    words_of_looks(parser, "amounts such as 1.234,50")
 
 
 def words_of_overlaps(parser: ArgumentParser) -> None:
     parser.add_argument("column", nargs="+", metavar="COLUMN", help="a column of the key")
-    parser.add_argument("--of", action="append", default=[], metavar="PICK", help="the answer, where it isn't the last")
+    parser.add_argument("--of", action="append", default=[], metavar="PICK", help="the answer, if it isn't the last")
     printed.words_of_tables(parser)
 
 
@@ -313,22 +312,22 @@ def words_of_history(parser: ArgumentParser) -> None:
     parser.add_argument("--diary", metavar="TABLE", help="a table whose first column is the newest commit of a time")
     parser.add_argument(
         "--commit", type=some_commits, metavar="N",
-        help="only what this commit changed; as N-M those from N to M, as N- all from N on",
+        help="only what this commit changed; N-M for those from N to M, N- for all from N on",
     )
     parser.add_argument("--retroactive", action="store_true", help="only the time before the day that the diary has")
     printed.words_of_tables(parser)
 
 
 def words_of_front(parser: ArgumentParser) -> None:
-    parser.add_argument("kept", metavar="KEPT", help="answers of an earlier time")
-    parser.add_argument("--before", metavar="SCRIPT", help="the script of that time: what was edited in it is named")
+    parser.add_argument("kept", metavar="KEPT", help="earlier answers")
+    parser.add_argument("--before", metavar="SCRIPT", help="the script of those: what was edited in it is shown")
 
 
 def words_of_only(parser: ArgumentParser) -> None:
     parser.add_argument("table", metavar="TABLE", help="a table of the script")
-    parser.add_argument("row_id", type=int, metavar="ID", help="the id of a row that is there at its end")
+    parser.add_argument("row_id", type=int, metavar="ID", help="the id of a row that the table has at the end")
     parser.add_argument(
-        "--set", type=pair, action="append", default=[], metavar="COLUMN=VALUE", help="an update, and no delete",
+        "--set", type=pair, action="append", default=[], metavar="COLUMN=VALUE", help="an update in place of a delete",
     )
 
 
@@ -345,13 +344,14 @@ class Tool(NamedTuple):
     more: str = ""
 
 
-OF_LIST = "A refusal's name stands in the place of an answer. The status is then 1, as dipq's, and with --go-on 0."
-OF_CHANGED = """The first of the two is what was before: `-` is what it has alone, `+` what the second has alone.
-Records are by their values, columns from the left and numbers by size, and then by start; those of aggregates by
-group and then by start, `-` first."""
-OF_PAGE = f"""It is one file that asks no network: `{called.ANSWERS} page SCRIPT > audit.html`. It has what was refused
-and what touched nothing, commits, questions with tables and pictures, what was said then beside what is said now, and
-what each table held. Each answer is done again, and where one differs no page is made. The status is that of `list`."""
+OF_LIST = "A refused command has the refusal's name in place of an answer. The status is then 1, or 0 with --go-on."
+OF_CHANGED = """The first of the two is the one before: `-` is what only it has, `+` what only the second has. Records
+are sorted by their values, columns from the left and numbers by size, and then by start; those of aggregates by group
+and then by start, `-` first."""
+OF_PAGE = f"""It is one file that needs no network: `{called.ANSWERS} page SCRIPT > audit.html`. It has what was refused
+and what changed nothing, commits, questions with tables and pictures, what was said then beside what is said now, and
+what each table held. Each answer is computed a second time, and if one differs no page is made. The status is that of
+`list`."""
 TOOLS: Dict[str, Tool] = {
     "list": Tool(do_list, "lists each answer with its number, its line and its command", more=OF_LIST),
     "csv": Tool(do_csv, "prints an answer (the last) as CSV with a header, or writes files", words_of_csv),
@@ -375,11 +375,11 @@ TOOLS: Dict[str, Tool] = {
     "front": Tool(
         do_front, "says whether answers that were kept are still the front of the script's", words_of_front, False,
     ),
-    "page": Tool(do_page, "prints one page of HTML with all answers, for a browser", words_of_page, more=OF_PAGE),
-    "refusals": Tool(do_refusals, "explains each refusal by its field and its reason; of keys, by the rows"),
+    "page": Tool(do_page, "prints one HTML page with all answers, for a browser", words_of_page, more=OF_PAGE),
+    "refusals": Tool(do_refusals, "explains each refusal by its field and its reason, or by the rows for a key"),
     "only": Tool(do_only, "prints the command that deletes or updates the row of an id, and no other", words_of_only),
     "raise": Tool(
-        going_on.do_raise, "prints the updates that raise amounts by a part of themselves", going_on.words_of_raise,
+        going_on.do_raise, "prints the updates that raise amounts by some per cent", going_on.words_of_raise,
         more=going_on.OF_RAISE,
     ),
     "next": Tool(
@@ -397,24 +397,24 @@ def parser_of(name: str, tool: Tool) -> ArgumentParser:
     tool.words(parser)
     parser.add_argument(
         "--program", default=which.program(), metavar="PROGRAM",
-        help=f"what answers the script, in place of {called.PROGRAM}",
+        help=f"the program that answers the script, in place of {called.PROGRAM}",
     )
     if tool.has_answers:
         parser.add_argument("--answers", metavar="FILE", help="the answers, or - for standard input; no program is run")
         parser.add_argument(
             "--ask", action="append", default=[], metavar="[NAME=]COMMAND",
-            help="puts a command behind the script; its answer is taken beside those that are picked; as NAME=COMMAND "
-            "it gets that name, which may have blanks, but no comma",
+            help="adds a command after the script, whose answer is taken beside those that are picked; NAME=COMMAND "
+            "gives it a name, which may have blanks, but no comma",
         )
-        parser.add_argument("--go-on", action="store_true", help="goes on where commands were refused")
+        parser.add_argument("--go-on", action="store_true", help="continues if commands were refused")
     return parser
 
 
 def usage() -> str:
     return ABOUT + "".join(f"  {name:10}{tool.about}\n" for name, tool in TOOLS.items()) + (
-        f"\n{NAME} COMMAND --help lists the words of each. The status is 2 where the words are wrong, and 1 where"
-        "\nsomething isn't understood, or a command was refused; with --go-on that is 1 only of `refusals`, or where"
-        "\nan --ask was refused, which `list` shows in its place.\n"
+        f"\n{NAME} COMMAND --help lists the options of each. The status is 2 if the arguments are wrong, and 1 if"
+        "\nsomething can't be read, or a command was refused; with --go-on a refusal counts only for `refusals`, or if"
+        "\nit is of an --ask, which `list` shows in its place.\n"
     )
 
 
@@ -441,7 +441,7 @@ def main(words: Sequence[str]) -> int:
     except MemoryError:
         return fail("out of memory")
     except UnicodeEncodeError as error:
-        return fail(f"SQLite has UTF-8 alone, and none is {records.visible(error.object)}")
+        return fail(f"SQLite takes only UTF-8, which this isn't: {records.visible(error.object)}")
 
 
 def fail(why: str) -> int:

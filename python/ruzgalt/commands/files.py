@@ -29,6 +29,6 @@ def beside(places: Sequence[Path], is_replacing: bool) -> Iterator[List[Path]]:
 def put(path: Path, place: Path, is_replacing: bool) -> None:
     if place.exists():
         if not is_replacing:
-            raise Misfit(f"{place} has come there meanwhile, so it wasn't replaced")
+            raise Misfit(f"{place} was made meanwhile, so it wasn't replaced")
         shutil.copymode(place, path)
     os.replace(path, place)

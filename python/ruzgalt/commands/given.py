@@ -12,7 +12,7 @@ from ruzgalt.errors import Misfit
 from ruzgalt.script import questions, records
 
 
-EMPTY = "the script is empty: no command stands in it"
+EMPTY = "the script is empty: it has no command"
 
 
 class Found(NamedTuple):
@@ -33,7 +33,7 @@ def read(options: Namespace, shows_refusals: bool = False, script: Optional[byte
     A question that is asked just now isn't passed over, since another one's answer would stand in its place.
     """
     if options.script == options.answers == "-":
-        raise Misfit("standard input is the script, or its answers, and not both")
+        raise Misfit("standard input can't be both the script and its answers")
     named = [questions.named(word) for word in options.ask]
     options.ask = [question for _, question in named]
     script = bytes_of(options.script) if script is None else script
@@ -57,7 +57,7 @@ def read(options: Namespace, shows_refusals: bool = False, script: Optional[byte
         raise Misfit(f"{refusals.described(refused[0])} ({more})")
     for answer in refused:
         if answer.command.record.is_asked:
-            raise Misfit(f"{refusals.described(answer)} (--go-on passes over no question that is asked)")
+            raise Misfit(f"{refusals.described(answer)} (--go-on doesn't pass over a question of --ask)")
     asked = [answer for answer in found if answer.command.record.is_asked]
     names = names_of(asked, [name for name, _ in named], questions.lines_of(options.ask, own_lines or 0))
     return Found(found, asked, options.answers is None, names, output)
@@ -69,7 +69,7 @@ def names_of(asked: Sequence[Answer], names: Sequence[str], lines: Sequence[int]
     for answer in asked:
         if name and answer.line not in begun:
             text = records.short(answer.command.text)
-            raise Misfit(f"--ask {name}=..: a name is of one question, and {text} stands behind it")
+            raise Misfit(f"--ask {name}=..: a name is for one question, but {text} follows it")
         name = begun.get(answer.line, "")
         if name:
             found[answer.number] = name
@@ -85,7 +85,7 @@ def chosen(found: Found, words: Sequence[str]) -> List[picks.Pick]:
     some = picked(found, words)
     look_at(found, [pick.answer for pick in some])
     if not some:
-        warn("none of the answers is more than an `ok`, so there is no table: ask by --ask, as --ask rows,T")
+        warn("none of the answers is more than an `ok`, so there is no table: ask for one, for example by --ask rows,T")
     return some
 
 
@@ -107,11 +107,12 @@ def last(found: Found, words: Sequence[str], count: int) -> List[Answer]:
     """So many answers: those that were picked or asked, or else the last that are more than an `ok`."""
     some = picked(found, words)
     if len(some) < count and not words:
-        raise Misfit(f"{count} wanted, and {len(some)} of the answers more than an `ok`: ask by --ask, as --ask rows,T")
+        more = f"{len(some)} of the answers are more than an `ok`, but it takes {count}"
+        raise Misfit(f"{more}: ask for more, for example by --ask rows,T")
     if len(some) != count and (words or found.asked):
         several = ": `csv --folder`, `sqlite` and `json` take several" if count == 1 else ""
-        remedy = ": one more PICK or --ask is wanted" if len(some) < count else several
-        raise Misfit(f"{len(some)} answer{'s' * (len(some) != 1)}, and not {count}{remedy}")
+        remedy = ": give one more PICK or --ask" if len(some) < count else several
+        raise Misfit(f"{len(some)} answer{'s' * (len(some) != 1)} given, but it takes {count}{remedy}")
     taken = [pick.answer for pick in some[-count:]]
     look_at(found, taken)
     return taken

@@ -11,21 +11,21 @@ from ruzgalt.periods.rounding import ROUNDINGS
 from ruzgalt.script import records
 
 OF_NEXT = """Its records are rows of the table, for their own time, in their order. Ids are those of this script, and
-are left out where --ids doesn't take them."""
-OF_RAISE = """It is an update for each amount that rows have, from a point on: of a row that began before, only its
-time from there on. The updates are in an order in which none touches what another one has raised. Put behind the script
-they are the raise."""
+are left out without --ids."""
+OF_RAISE = """There is an update for each amount that rows have, from a point on: of a row that began before, only its
+time from there on. The updates are in an order in which none touches what another one has raised. Append them to the
+script."""
 
 
 def words_of_next(parser: ArgumentParser) -> None:
-    parser.add_argument("pick", nargs="?", metavar="PICK", help="the answer, where it isn't the last")
+    parser.add_argument("pick", nargs="?", metavar="PICK", help="the answer, if it isn't the last")
     parser.add_argument("--table", required=True, metavar="NAME", help="the name of the table that it becomes")
     parser.add_argument(
         "--column", type=named, action="append", default=[], metavar="COLUMN[=NAME]",
-        help="only these of its columns, in this order, each under its name or another one",
+        help="only these of its columns, in this order, under their names or others",
     )
     parser.add_argument("--key", action="append", default=[], metavar="COLUMN", help="a column of the table's key")
-    parser.add_argument("--ids", action="store_true", help="takes the ids as columns too")
+    parser.add_argument("--ids", action="store_true", help="keeps the ids as columns")
 
 
 def named(word: str) -> Tuple[str, str]:
@@ -44,8 +44,8 @@ def words_of_raise(parser: ArgumentParser) -> None:
     parser.add_argument("table", metavar="TABLE", help="a table of the script")
     parser.add_argument("column", metavar="COLUMN", help="its column of the amounts")
     parser.add_argument("--percent", required=True, metavar="NUMBER", help="how much more, as 2.5, or less, as -3")
-    parser.add_argument("--from", dest="start", required=True, metavar="POINT", help="from when on")
-    parser.add_argument("--to", dest="end", metavar="POINT", help="up to when, where not for good")
+    parser.add_argument("--from", dest="start", required=True, metavar="POINT", help="from this point on")
+    parser.add_argument("--to", dest="end", metavar="POINT", help="up to this point, if not for good")
     words_of_where(parser)
     parser.add_argument(
         "--round", dest="rounding", choices=ROUNDINGS, metavar="HOW",

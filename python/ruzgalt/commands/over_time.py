@@ -9,27 +9,27 @@ from ruzgalt.commands.words import words_of_where
 from ruzgalt.errors import Misfit
 from ruzgalt.periods import pieces
 
-OF_MONTHS = """An amount is what a record comes to in each whole month (or other piece of the calendar) that it holds;
-in one that it holds in part, it comes to that part, by days. The sums of a group are whole numbers that add up to its
-exact sum, rounded once, half up: what rounding leaves over goes to those with the largest remainders. With --less they
-are differences: for each group and each month that a record of one of the two answers touches, the exact sum of the
-answer less that of the other."""
-OF_COALESCE = """The periods are as long as can be. Without a COLUMN all records are one group."""
+OF_MONTHS = """An amount counts once for each whole month (or other piece of the calendar) that its record holds, and in
+part, by days, for one that it holds in part. The sums of a group are whole numbers that add up to its exact sum,
+rounded once, half up: what rounding leaves over goes to those with the largest remainders. With --less they are
+differences: for each group and each month that a record of one of the two answers touches, the exact sum of the answer
+less that of the other."""
+OF_COALESCE = """The periods are as long as possible. Without a COLUMN all records are one group."""
 
 
 def words_of_months(parser: ArgumentParser) -> None:
-    parser.add_argument("pick", nargs="?", metavar="PICK", help="the answer, where it isn't the last")
+    parser.add_argument("pick", nargs="?", metavar="PICK", help="the answer, if it isn't the last")
     parser.add_argument("--sum", required=True, metavar="COLUMN", help="the column of the amounts")
     parser.add_argument(
-        "--by", action="append", default=[], metavar="COLUMN", help="sums for each of its values; it may stand again",
+        "--by", action="append", default=[], metavar="COLUMN", help="sums for each of its values; may be repeated",
     )
     parser.add_argument("--each", choices=pieces.EACH, default="month", help="the pieces; weeks begin on Mondays")
     parser.add_argument("--from", dest="start", metavar="POINT", help="counts from there on")
-    parser.add_argument("--to", dest="end", metavar="POINT", help="counts up to there: wanted where an end isn't known")
+    parser.add_argument("--to", dest="end", metavar="POINT", help="counts up to there; needed if an end isn't known")
     words_of_where(parser)
     parser.add_argument(
         "--less", metavar="ANSWER",
-        help="takes from each sum what this answer comes to: a PICK, or a question, as rows,T,asof,3",
+        help="subtracts from each sum that of this answer: a PICK, or a question such as rows,T,asof,3",
     )
     printed.words_of_tables(parser)
 
@@ -64,7 +64,7 @@ def summed(options: Namespace) -> Tuple[Answer, Optional[Answer]]:
     less = found.asked[0] if is_question else picks.picked(found.answers, options.less, found.names).answer
     others = [one for one in found.answers if one is not less and picks.is_asked(one)]
     if options.pick and picks.find(found.answers, options.pick.partition("=")[0]) is less:
-        raise Misfit(f"--less {options.less}: that is the answer whose amounts are summed")
+        raise Misfit(f"--less {options.less}: that is the answer whose amounts are summed; give another")
     if not words and all(one is less for one in found.asked):
         words = [str(one.number) for one in others[-1:]]
     both = last(found, [*words, str(less.number)], 2)
@@ -73,7 +73,7 @@ def summed(options: Namespace) -> Tuple[Answer, Optional[Answer]]:
 
 def words_of_coalesce(parser: ArgumentParser) -> None:
     parser.add_argument("column", nargs="*", metavar="COLUMN", help="a column whose values make the groups")
-    parser.add_argument("--of", action="append", default=[], metavar="PICK", help="the answer, where it isn't the last")
+    parser.add_argument("--of", action="append", default=[], metavar="PICK", help="the answer, if it isn't the last")
     printed.words_of_tables(parser)
 
 

@@ -14,7 +14,7 @@ from ruzgalt.pictures import figures, svg, terminal
 def words_of_picture(parser: ArgumentParser) -> None:
     parser.add_argument("--svg", action="store_true", help="prints SVG for a browser, and not text")
     parser.add_argument("--by", metavar="COLUMN", help="a lane for each of its values (of the first column)")
-    parser.add_argument("--label", metavar="COLUMN", help="what stands in the bars")
+    parser.add_argument("--label", metavar="COLUMN", help="the column that labels the bars")
     words_of_where(parser)
     parser.add_argument("--from", dest="start", metavar="POINT", help="the first point that is shown")
     parser.add_argument("--to", dest="end", metavar="POINT", help="the end of what is shown")
@@ -32,7 +32,7 @@ def words_of_picture(parser: ArgumentParser) -> None:
 
 def pixels(word: str) -> int:
     if not word.isdigit() or not 40 <= int(word) <= 100_000:
-        raise ArgumentTypeError(f"{word}: no number from 40 to 100000")
+        raise ArgumentTypeError(f"{word}: not a number from 40 to 100000")
     return int(word)
 
 

@@ -16,13 +16,13 @@ def words_of_tables(parser: ArgumentParser) -> None:
         "--for-spreadsheet", action="store_true",
         help="puts an apostrophe before texts that a spreadsheet would run as formulas, and a byte order mark in front",
     )
-    words_of_looks(parser, "decimals are as 1234,50; beside --for-spreadsheet: semicolons between fields")
+    words_of_looks(parser, "decimals such as 1234,50; with --for-spreadsheet also semicolons between fields")
 
 
 def refuse_words(options: Namespace) -> None:
     """Refuses what no table would be printed by. Tools that have other words pass."""
     if "for_spreadsheet" in options and options.german and not (options.for_spreadsheet or options.decimals):
-        raise Misfit("--german is of a spreadsheet or of decimals, and stands beside --for-spreadsheet or --decimals")
+        raise Misfit("--german needs --for-spreadsheet or --decimals")
 
 
 def show(options: Namespace, table: Table) -> None:
@@ -43,4 +43,4 @@ def warn_of_formulas(options: Namespace, tables: Sequence[Table]) -> None:
     if found:
         count = sum(run.fields for run in found)
         fields = f"{count} fields, the first" if count > 1 else "a field,"
-        warn(f"a spreadsheet would run {fields} {visible(found[0].first)}: --for-spreadsheet guards against it")
+        warn(f"a spreadsheet would run {fields} {visible(found[0].first)}: --for-spreadsheet prevents it")

@@ -27,7 +27,7 @@ def words_of_where(parser: ArgumentParser) -> None:
     """Which records are looked at."""
     parser.add_argument(
         "--where", type=pair, action="append", default=[], metavar="COLUMN=VALUE",
-        help="only records with this value; it may stand again",
+        help="only records with this value; may be repeated",
     )
 
 
@@ -35,7 +35,7 @@ def some_commits(word: str) -> Tuple[int, Optional[int]]:
     """N, or FIRST-LAST of several, or FIRST- of all from there on: the first, and the last where it is given."""
     first, mark, last = word.partition("-")
     if not (first + last).isdigit() or not first:
-        raise ArgumentTypeError(f"{word}: not N, FIRST-LAST or FIRST-, as 7, 7-9 or 7-")
+        raise ArgumentTypeError(f"{word}: not N, FIRST-LAST or FIRST-, such as 7, 7-9 or 7-")
     return int(first), int(last) if last else None if mark else int(first)
 
 
@@ -43,7 +43,7 @@ def decimals(word: str) -> Tuple[str, int]:
     """COLUMN=DIGITS, as a pair."""
     name, _, digits = word.rpartition("=")
     if not name or not digits.isdigit() or len(digits) > 2:
-        raise ArgumentTypeError(f"{word}: not COLUMN=DIGITS, as Pay=2")
+        raise ArgumentTypeError(f"{word}: not COLUMN=DIGITS, such as Pay=2")
     return name, int(digits)
 
 

@@ -19,7 +19,7 @@ def named(word: str) -> Tuple[str, str]:
     if not mark or "," in name:
         return "", word
     if not name.isprintable() or name != name.strip() or not name:
-        raise Misfit(f"--ask {short(word)}: no name before the =, which has letters, signs and blanks between them")
+        raise Misfit(f"--ask {short(word)}: no name of letters, signs, and blanks between them before the =")
     return name, question
 
 
@@ -51,7 +51,7 @@ def refuse_taken(source: Source, begun: List[Command], questions: Sequence[str],
     for question, line in zip(questions, lines_of(questions, own_lines)):
         if line not in own:
             taker = taker_of(list(Reader(source)), begun, line)
-            raise Misfit(f"--ask {short(question)}: the question was taken into {taker}")
+            raise Misfit(f"--ask {short(question)}: the question became part of {taker}")
 
 
 def lines_of(questions: Sequence[str], own_lines: int) -> List[int]:
