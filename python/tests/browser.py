@@ -1,4 +1,4 @@
-"""A browser without a window, told what to do over a pipe by the messages of its developers' tools."""
+"""A browser without a window, driven over a pipe by the messages of its developers' tools."""
 import base64
 import json
 import os
@@ -63,13 +63,13 @@ class Browser:
             message["sessionId"] = self.session
         os.write(self.writes, json.dumps(message).encode() + b"\0")
         while True:
-            told = self.next()
-            if told.get("id") == self.number:
-                if "error" in told:
-                    raise RuntimeError(f"{method}: {told['error']}")
-                result: Dict[str, Any] = told["result"]
+            found = self.next()
+            if found.get("id") == self.number:
+                if "error" in found:
+                    raise RuntimeError(f"{method}: {found['error']}")
+                result: Dict[str, Any] = found["result"]
                 return result
-            self.events.append(told)
+            self.events.append(found)
 
     def next(self) -> Dict[str, Any]:
         while b"\0" not in self.rest:
@@ -80,8 +80,8 @@ class Browser:
                 raise RuntimeError("the browser has ended")
             self.rest += more
         message, _, self.rest = self.rest.partition(b"\0")
-        told: Dict[str, Any] = json.loads(message)
-        return told
+        found: Dict[str, Any] = json.loads(message)
+        return found
 
     def open(self, file: Path) -> None:
         """Opens a file, and waits until it is shown."""
@@ -92,13 +92,13 @@ class Browser:
 
     def value(self, code: str) -> Any:
         """What a piece of the page's language comes to, waited for."""
-        told = self.ask("Runtime.evaluate", expression=code, returnByValue=True, awaitPromise=True, userGesture=True)
-        if "exceptionDetails" in told:
-            raise RuntimeError(f"{code}: {told['exceptionDetails']}")
-        return told["result"].get("value")
+        found = self.ask("Runtime.evaluate", expression=code, returnByValue=True, awaitPromise=True, userGesture=True)
+        if "exceptionDetails" in found:
+            raise RuntimeError(f"{code}: {found['exceptionDetails']}")
+        return found["result"].get("value")
 
     def faults(self) -> List[str]:
-        """What the console told of errors, and each thing that was asked for beside the page itself."""
+        """What the console reported of errors, and each thing that was asked for beside the page itself."""
         wrong = [event for event in self.events if event["method"] in ("Runtime.exceptionThrown", "Log.entryAdded")]
         asked = [event["params"]["request"]["url"] for event in self.events if event["method"] == WILL_ASK]
         return [json.dumps(event["params"]) for event in wrong] + [url for url in asked[1:] if is_asked(url)]
@@ -118,14 +118,14 @@ class Browser:
 
     def picture(self) -> bytes:
         """All of the page as PNG."""
-        told = self.ask("Page.captureScreenshot", format="png", captureBeyondViewport=True)
-        return base64.b64decode(told["data"])
+        found = self.ask("Page.captureScreenshot", format="png", captureBeyondViewport=True)
+        return base64.b64decode(found["data"])
 
     def paper(self) -> bytes:
         """The page as it is printed on A4, as PDF."""
         self.ask("Emulation.setEmulatedMedia", media="")
-        told = self.ask("Page.printToPDF", preferCSSPageSize=True, printBackground=False)
-        return base64.b64decode(told["data"])
+        found = self.ask("Page.printToPDF", preferCSSPageSize=True, printBackground=False)
+        return base64.b64decode(found["data"])
 
 
 WILL_ASK = "Network.requestWillBeSent"

@@ -27,9 +27,9 @@ HOSTILE = [
 TIME = "2024-01-01,2024-02-01"
 
 
-def page_of(script: str, told: str, *words: str) -> str:
+def page_of(script: str, given: str, *words: str) -> str:
     """The page of a script that has these answers. Raises Misfit where there is none."""
-    with kept(script) as name, kept(told) as answers:
+    with kept(script) as name, kept(given) as answers:
         status, printed, said = run(["tools/answers", "page", name, "--answers", answers, "--go-on", *words])
     if status:
         raise Misfit(said)
@@ -37,8 +37,8 @@ def page_of(script: str, told: str, *words: str) -> str:
 
 
 def example(name: str, *words: str) -> str:
-    told = f"examples/{name}.csv.stdout"
-    status, printed, said = run(["tools/answers", "page", f"examples/{name}.csv", "--answers", told, "--go-on", *words])
+    file = f"examples/{name}.csv.stdout"
+    status, printed, said = run(["tools/answers", "page", f"examples/{name}.csv", "--answers", file, "--go-on", *words])
     if status:
         raise Misfit(said)
     return printed
@@ -94,11 +94,11 @@ class Documents(unittest.TestCase):
                 self.assertNotRegex(document.read(name), r"(?i)</(script|style)|<!--|innerHTML|\{\{")
 
     def test_the_same_script_gives_the_same_page_wherever_it_stands(self) -> None:
-        script, told = (Path(TOP, "examples", name).read_bytes() for name in ("pay.csv", "pay.csv.stdout"))
+        script, found = (Path(TOP, "examples", name).read_bytes() for name in ("pay.csv", "pay.csv.stdout"))
         pages = set()
         for _ in range(2):
             with tempfile.TemporaryDirectory() as folder:
-                for name, text in (("pay.csv", script), ("pay.csv.stdout", told)):
+                for name, text in (("pay.csv", script), ("pay.csv.stdout", found)):
                     Path(folder, name).write_bytes(text)
                 words = ["tools/answers", "page", f"{folder}/pay.csv", "--answers", f"{folder}/pay.csv.stdout"]
                 pages.add(run(words)[1])
@@ -122,7 +122,7 @@ def is_opened(answer: Answer) -> bool:
 
 
 def contrast(one: str, other: str) -> float:
-    """How many times as light the one colour is as the other, as WCAG tells it."""
+    """How many times as light the one colour is as the other, as WCAG defines it."""
     lights = sorted(luminance(colour) + 0.05 for colour in (one, other))
     return lights[1] / lights[0]
 
@@ -139,27 +139,27 @@ class Contents(ToolCase):
             with self.subTest(script.name):
                 words = [str(script), "--answers", f"{script}.stdout", "--go-on"]
                 status, page, said = run(["tools/answers", "page", *words])
-                empty = "answers: the script is empty: no command stands in it\n"
+                empty = "answers: the script is empty: it has no command\n"
                 self.assertEqual((status, said), (0, "" if script.read_bytes() else empty))
                 data = data_of(page)["data"]
-                told = len(data["commits"]) + len(data["questions"]) + len(data["refused"])
+                found = len(data["commits"]) + len(data["questions"]) + len(data["refused"])
                 blocks = sum(map(is_opened, found_in(script)))
-                self.assertEqual(told + blocks, data["answers"])
+                self.assertEqual(found + blocks, data["answers"])
 
-    def test_the_head_tells_the_script_and_who_answered(self) -> None:
+    def test_the_head_has_the_script_and_who_answered(self) -> None:
         data = data_of(example("pay"))["data"]
         script = Path(TOP, "examples/pay.csv").read_bytes()
-        told = {"name": "pay.csv", "size": len(script), "sha256": sha256(script).hexdigest()}
-        self.assertEqual(data["script"], told)
+        found = {"name": "pay.csv", "size": len(script), "sha256": sha256(script).hexdigest()}
+        self.assertEqual(data["script"], found)
         self.assertEqual([file["name"] for file in data["files"]], ["pay.csv.stdout"])
         self.assertEqual((data["isOwn"], data["isDoneAgain"], data["hasPrinted"]), (False, True, False))
 
-    def test_the_words_that_make_it_are_told(self) -> None:
+    def test_the_words_that_make_it_are_shown(self) -> None:
         page = page_of("table,t,newest,int\n", "ok,1\nend,0\n", "--ask", "a=rows,t", "--diary", "t")
         wanted = r"tools/answers page \S+ --answers \S+ --diary t --ask a=rows,t"
         self.assertRegex(data_of(page)["data"]["command"], f"^{wanted}$")
-        told = data_of(example("pay"))["data"]["command"]
-        self.assertEqual(told, "tools/answers page pay.csv --answers pay.csv.stdout")
+        found = data_of(example("pay"))["data"]["command"]
+        self.assertEqual(found, "tools/answers page pay.csv --answers pay.csv.stdout")
 
     def test_its_words_make_it_again_in_a_shell_whatever_its_files_are_called(self) -> None:
         for name in ("a b", "-x", "$(touch made)", "it's; echo \\n", "`id`", "\x1b[2J\n\u202e\u3164\udcffz"):
@@ -184,20 +184,20 @@ class Contents(ToolCase):
     def test_refusals_have_their_reasons_and_of_a_key_the_rows(self) -> None:
         data = data_of(example("payroll"))["data"]
         [refused] = data["refused"]
-        told = [refused[name] for name in ("place", "command", "name")]
-        self.assertEqual(told, ["line 38", "load,pay", "KeyOverlap"])
+        found = [refused[name] for name in ("place", "command", "name")]
+        self.assertEqual(found, ["line 38", "load,pay", "KeyOverlap"])
         self.assertIn('person "Adeyemi, Folake": both hold from 2024-09-01 to 9999-12-31', refused["more"])
 
     def test_commits_have_their_counts_and_the_days_of_a_diary(self) -> None:
         script = Path(TOP, "examples/pay.csv").read_text() + "table,diary,newest,int\nload,diary\n"
         script += "row,2024-01-02,2024-08-20,2\nrow,2024-08-20,9999-12-31,3\nend\n"
-        told = Path(TOP, "examples/pay.csv.stdout").read_text() + "ok,4\nok,5\n"
-        commits = data_of(page_of(script, told, "--diary", "diary"))["data"]["commits"]
+        answered = Path(TOP, "examples/pay.csv.stdout").read_text() + "ok,4\nok,5\n"
+        commits = data_of(page_of(script, answered, "--diary", "diary"))["data"]["commits"]
         self.assertEqual(commits[1], ["2", "2024-01-02", "line 2", "load,pay (2 rows)", "2", "0"])
         self.assertEqual([commit[1] for commit in commits], ["2024-01-02", "2024-01-02", "2024-08-20", "", ""])
         self.assertEqual(commits[2][4:], ["2", "1"])
         words = ["examples/pay.csv", "--answers", "examples/pay.csv.stdout", "--diary", "x"]
-        self.check(["tools/answers", "page", *words], "", 1, "answers: x: no table that is there")
+        self.check(["tools/answers", "page", *words], "", 1, "answers: x: no such table; ")
 
     def test_then_and_now_are_the_questions_that_are_asked_twice(self) -> None:
         data = data_of(example("payroll"))["data"]
@@ -218,8 +218,8 @@ class Contents(ToolCase):
 
     def test_a_question_has_the_name_that_it_was_asked_by(self) -> None:
         questions = data_of(page_of("table,t\n", "ok,1\nend,0\n", "--ask", "all=rows,t"))["data"]["questions"]
-        told = [(one["name"], one["place"], one["command"]) for one in questions]
-        self.assertEqual(told, [("all", "--ask", "rows,t")])
+        found = [(one["name"], one["place"], one["command"]) for one in questions]
+        self.assertEqual(found, [("all", "--ask", "rows,t")])
 
     def test_a_question_of_the_script_gets_a_name(self) -> None:
         words = ["tools/answers", "page", "examples/pay.csv", "--answers", "examples/pay.csv.stdout"]
@@ -229,7 +229,7 @@ class Contents(ToolCase):
         self.assertEqual([one["name"] for one in data["questions"]], ["august", "", "", ""])
         self.assertEqual((data["title"], data["note"]), ("<b>Löhne</b>", "First\nSecond"))
         self.assertIn("@7=august --answers pay.csv.stdout --title '<b>Löhne</b>' --note", data["command"])
-        self.check([*words, "@7"], "", 1, "answers: @7: the page has all answers, and @7=NAME names one of them")
+        self.check([*words, "@7"], "", 1, "answers: @7: the page has all answers; @7=NAME gives one a name")
         self.check([*words, "@99=x"], "", 1, "answers: @99: no such answer")
 
     def test_columns_say_how_their_fields_are_shown(self) -> None:
@@ -243,7 +243,7 @@ class Contents(ToolCase):
         commits = [["sys_from", "int"], ["sys_to", "int"]]
         self.assertEqual(data["tables"][0]["columns"], [["row_id", "int"], *shown, *commits, *values])
         self.assertTrue(data["command"].endswith("--decimals euros=2 --german --last-day"))
-        self.check([*words, "--decimals", "cents=2"], "", 1, "--decimals cents: no column of numbers, but row_id")
+        self.check([*words, "--decimals", "cents=2"], "", 1, "cents: not a column of numbers; those are row_id")
 
     def test_checks_of_other_parts_are_no_pair(self) -> None:
         rows = f"table,t\nload,t\nrow,{TIME}\nend\nload,t\nrow,{TIME}\nend\n"
@@ -263,9 +263,9 @@ class Contents(ToolCase):
              'no row has "byron, ada" as person then, but "Byron, Ada", which looks alike'),
             (f"delete,pay,{TIME},where,person,\"Byron, Ada\",euros,6", "no row has all of these values"),
             ('update,pay,2024-03-01,2024-04-01,set,euros,7,where,euros,5',
-             "the rows that it names hold at other times: 2024-01-01 to 2024-02-01"),
+             "the rows that it matches hold at other times: 2024-01-01 to 2024-02-01"),
             ("delete,pay,2024-03-01,2024-04-01",
-             "the rows that it names hold at other times: 2024-01-01 to 2024-02-01, 2024-01-01 to 2024-02-01"),
+             "the rows that it matches hold at other times: 2024-01-01 to 2024-02-01, 2024-01-01 to 2024-02-01"),
         ]:
             with self.subTest(change):
                 [idle] = data_of(page_of(f"{pay}{change}\n", "ok,1\nok,2\nok,3\n"))["data"]["idle"]
@@ -277,10 +277,10 @@ class Contents(ToolCase):
         self.assertEqual((idle["place"], idle["reason"]), ("line 6", "no row has 1 as a then"))
 
     def test_answers_that_the_changes_do_not_give_make_no_page(self) -> None:
-        told = Path(TOP, "examples/pay.csv.stdout").read_text().replace(",5400", ",5401")
+        answered = Path(TOP, "examples/pay.csv.stdout").read_text().replace(",5400", ",5401")
         words = ["tools/answers", "page", "examples/pay.csv", "--answers", "-"]
-        self.check(words, told, 1, "answers: line 7: at,pay,")
-        self.check([*words, "--once"], told, 1, "answers: line 7: at,pay,")
+        self.check(words, answered, 1, "answers: line 7: at,pay,")
+        self.check([*words, "--once"], answered, 1, "answers: line 7: at,pay,")
 
     def test_the_status_is_that_of_a_list(self) -> None:
         words = ["examples/payroll.csv", "--answers", "examples/payroll.csv.stdout"]
@@ -289,15 +289,15 @@ class Contents(ToolCase):
 
 
 class Limits(unittest.TestCase):
-    def test_what_has_no_room_is_left_out_and_told(self) -> None:
+    def test_what_has_no_room_is_left_out_and_reported(self) -> None:
         rows = [f"{TIME},{number}" for number in range(1500)]
         script = "table,t,a,int\nload,t\n" + "".join(f"row,{row}\n" for row in rows) + "end\nrows,t\n"
         listed = "".join(f"row,{number},{row}\n" for number, row in enumerate(rows, 1))
-        told = f"ok,1\nok,2\n{listed}end,1500\n"
-        whole = data_of(page_of(script, told))
+        answered = f"ok,1\nok,2\n{listed}end,1500\n"
+        whole = data_of(page_of(script, answered))
         self.assertEqual((len(whole["records-3"]), whole["data"]["leftOut"]), (1500, []))
         with mock.patch.object(contents, "ROOM", 50_000):
-            cut = data_of(page_of(script, told))
+            cut = data_of(page_of(script, answered))
         self.assertEqual((len(cut["records-3"]), "versions-0" in cut), (1000, False))
         self.assertEqual(cut["data"]["leftOut"], [
             "of line 1504, rows,t: 500 of 1,500 records", "the 1,500 versions of t, and so what held on each day",
@@ -307,7 +307,7 @@ class Limits(unittest.TestCase):
         script = "table,t\n" + "rows,t\n" * 1200
         data = data_of(page_of(script, "ok,1\n" + "end,0\n" * 1200))["data"]
         self.assertEqual((len(data["questions"]), data["questions"][0]["shown"]), (1000, 1000))
-        self.assertEqual(data["leftOut"], ["200 questions behind the first 1,000"])
+        self.assertEqual(data["leftOut"], ["200 questions after the first 1,000"])
         with mock.patch.object(contents, "AT_ONCE", 22):
             [question, *others] = data_of(example("pay"))["data"]["questions"]
             self.assertEqual(question["shown"], 1000)
@@ -325,13 +325,13 @@ class Limits(unittest.TestCase):
         with mock.patch.object(contents, "PICTURES", 1):
             data = data_of(example("audit"))["data"]
         self.assertEqual(sum(question["picture"] is not None for question in data["questions"]), 1)
-        self.assertIn("stand before", data["questions"][-1]["noPicture"])
+        self.assertIn("the page has", data["questions"][-1]["noPicture"])
 
     def test_many_commits_are_cut(self) -> None:
         with mock.patch.object(contents, "COMMITS", 2):
             data = data_of(example("pay"))["data"]
         self.assertEqual((len(data["commits"]), data["newest"]), (2, 3))
-        self.assertEqual(data["leftOut"], ["1 commits behind the first 2"])
+        self.assertEqual(data["leftOut"], ["1 commits after the first 2"])
 
     def test_a_picture_of_many_records_is_left_to_the_tool(self) -> None:
         with mock.patch.object(drawings, "MOST", 1):
@@ -350,11 +350,11 @@ class Limits(unittest.TestCase):
 
 
 class Programs(unittest.TestCase):
-    def sources(self, script: str, told: str, ask: Optional[List[str]] = None, once: bool = False) -> sources.Sources:
+    def sources(self, script: str, given: str, ask: Optional[List[str]] = None, once: bool = False) -> sources.Sources:
         """What a page is made of, where a program answers so."""
         with tempfile.TemporaryDirectory() as folder, kept(script) as name:
             program = Path(folder, "dipq")
-            program.write_text(FAKE.format(told))
+            program.write_text(FAKE.format(given))
             program.chmod(0o700)
             words = {"program": str(program), "go_on": True, "ask": ask or [], "once": once}
             looks = Namespace(decimals=[], german=False, last_day=False, title="", note="", pick=[])
@@ -365,19 +365,19 @@ class Programs(unittest.TestCase):
             "between,t,0,1000000", "between,u,0,1000000",
         ])
         script = f"table,t,a,int\nload,t\nrow,{TIME},5\nend\nrows,t\n"
-        told = f"ok,1\nok,2\nrow,1,{TIME},5\nend,1\nversion,1,{TIME},2,-,5\nend,1\n"
-        found = self.sources(script, told)
+        answered = f"ok,1\nok,2\nrow,1,{TIME},5\nend,1\nversion,1,{TIME},2,-,5\nend,1\n"
+        found = self.sources(script, answered)
         self.assertEqual([",".join(record) for record in found.versions["t"].texts()], [f"1,{TIME},2,,5"])
         self.assertEqual((found.has_printed, len(found.answers), found.files[0].name), (True, 3, "dipq"))
 
     def test_versions_that_the_changes_do_not_give_make_no_page(self) -> None:
         script = f"table,t,a,int\nload,t\nrow,{TIME},5\nend\n"
-        told = f"ok,1\nok,2\nversion,1,{TIME},2,-,6\nend,1\n"
-        with self.assertRaisesRegex(Misfit, "the program answers otherwise than the changes, done again"):
-            self.sources(script, told)
-        self.assertFalse(self.sources(script, told, once=True).is_done_again)
+        answered = f"ok,1\nok,2\nversion,1,{TIME},2,-,6\nend,1\n"
+        with self.assertRaisesRegex(Misfit, "the program's answer differs from what its changes give, done again"):
+            self.sources(script, answered)
+        self.assertFalse(self.sources(script, answered, once=True).is_done_again)
 
-    def test_the_program_that_a_command_runs_is_told_beside_it(self) -> None:
+    def test_the_program_that_a_command_runs_is_shown_beside_it(self) -> None:
         with tempfile.TemporaryDirectory() as folder:
             files = [Path(folder, "dipq"), Path(folder, sources.PROGRAMS[0])]
             for file in files:

@@ -97,10 +97,10 @@ class Texts(BrowserCase):
             self.assertEqual(self.value(code), f"Answers to {seen}")
         word = "$'a\\xe2\\x80\\xae\\xe3\\x85\\xa4\\xc2\\xa0;$(id).csv'"
         codes = self.value("[...document.querySelectorAll('main code')].map((one) => one.textContent)")
-        told = [one for one in codes if "$(id)" in one]
+        found = [one for one in codes if "$(id)" in one]
         wanted = [f"tools/answers changed {word} 3 4", f"tools/answers csv {word} --ask at,t,DAY,asof,N"]
-        self.assertEqual(told[:2], wanted)
-        self.assertTrue(told[2].startswith(f"sha256sum {word}\ntools/answers page {word} --answers $'a"))
+        self.assertEqual(found[:2], wanted)
+        self.assertTrue(found[2].startswith(f"sha256sum {word}\ntools/answers page {word} --answers $'a"))
         self.assertIn("made by tools/answers of a clone", self.value("document.querySelector('#about').textContent"))
 
     def test_each_example_is_shown_without_a_fault(self) -> None:
@@ -165,8 +165,8 @@ class Grids(BrowserCase):
         for letter in "gupta":
             self.browser.press(letter, ord(letter.upper()), letter)
         self.assertEqual([row[3] for row in self.cells("#questions")], ["Gupta, Rohan"])
-        told = self.value(GRID.format("#questions", 0) + ".querySelector('output').textContent")
-        self.assertEqual(told, "1 record found")
+        listed = self.value(GRID.format("#questions", 0) + ".querySelector('output').textContent")
+        self.assertEqual(listed, "1 record found")
 
     def test_a_click_on_a_field_finds_what_has_it_and_another_shows_all_again(self) -> None:
         self.open(example("payroll"))
@@ -184,8 +184,8 @@ class Grids(BrowserCase):
         page = self.numbers(1500)
         self.open(page)
         self.assertEqual(len(self.cells("#questions")), 1000)
-        told = self.value(GRID.format("#questions", 0) + ".querySelector('output').textContent")
-        self.assertEqual(told, "first 1,000 of 1,500 records; on paper the first 100")
+        found = self.value(GRID.format("#questions", 0) + ".querySelector('output').textContent")
+        self.assertEqual(found, "first 1,000 of 1,500 records; on paper the first 100")
         self.value(CATCH)
         self.value(GRID.format("#questions", 0) + ".querySelector('.tools button:last-child').click()")
         text, name = self.value("Promise.all(saved)")
@@ -211,15 +211,15 @@ class Grids(BrowserCase):
         rows = "".join(f"row,{number},{TIME},{text},-5\n" for number, text in enumerate(texts, 1))
         choices: List[List[str]] = [[], ["--for-spreadsheet"], ["--for-spreadsheet", "--german"]]
         script = f"table,t,a,text,b,int\nload,t\n{loaded}end\nrows,t\n"
-        with kept(script) as name, kept(f"ok,1\nok,2\n{rows}end,{len(texts)}\n") as told:
-            self.open(run(["tools/answers", "page", name, "--answers", told])[1])
+        with kept(script) as name, kept(f"ok,1\nok,2\n{rows}end,{len(texts)}\n") as answered:
+            self.open(run(["tools/answers", "page", name, "--answers", answered])[1])
             for choice, words in enumerate(choices):
                 self.value(CATCH)
                 choose = "document.querySelector('header select')"
                 self.value(f"{choose}.selectedIndex = {choice}, {choose}.dispatchEvent(new Event('change'))")
                 tools = GRID.format("#questions", 0) + ".querySelector('.tools')"
                 self.value(f"{tools}.querySelector('button:last-child').click()")
-                _, printed, said = run(["tools/answers", "csv", name, "--answers", told, *words])
+                _, printed, said = run(["tools/answers", "csv", name, "--answers", answered, *words])
                 # A text that is read of a blob has no mark of its byte order any more.
                 self.assertEqual(self.value("saved[0]"), printed.lstrip("\ufeff"))
                 heard = self.value(f"{tools}.querySelector('output:nth-last-child(2)').textContent")
@@ -256,14 +256,14 @@ class Times(BrowserCase):
         code = f"""(() => {{
           const fields = document.querySelectorAll('#tables article')[{place}].querySelector('fieldset');
           const [day, commit] = fields.querySelectorAll('input[type=range]');
-          const exact = fields.querySelector('input[type=text]'), told = [];
+          const exact = fields.querySelector('input[type=text]'), found = [];
           const move = (input, value) => {{ input.value = value; input.dispatchEvent(new Event('input')); }};
           for (let d = 0; d <= Number(day.max); d += 1) for (let c = 0; c <= Number(commit.max); c += 1) {{
             move(day, d); move(commit, c);
             const rows = [...fields.querySelectorAll('tbody tr')];
-            told.push([exact.value, c, rows.map((row) => row.cells[0].textContent)]);
+            found.push([exact.value, c, rows.map((row) => row.cells[0].textContent)]);
           }}
-          return told;
+          return found;
         }})()"""
         return {(point, commit): ids for point, commit, ids in self.value(code)}
 
@@ -272,8 +272,8 @@ class Times(BrowserCase):
         self.value("document.querySelectorAll('#tables input[type=range]')[1].focus()")
         self.browser.press("ArrowLeft", 37)
         self.assertEqual([row[-1] for row in self.cells("#tables")], ["5000", "4800"])
-        told = self.value("document.querySelectorAll('#tables .slider span')[1].textContent")
-        self.assertEqual(told, "commit 2: load,pay (2 rows)")
+        found = self.value("document.querySelectorAll('#tables .slider span')[1].textContent")
+        self.assertEqual(found, "commit 2: load,pay (2 rows)")
 
     def test_another_day_is_typed(self) -> None:
         self.open(example("pay"))
@@ -310,7 +310,7 @@ class Times(BrowserCase):
         self.assertEqual({row[5] for row in self.cells("#tables", 1)}, {"1"})
         self.assertIn("Its key is row_id_.", self.value("document.querySelector('#tables').textContent"))
 
-    def test_a_fact_is_told_by_the_key_or_another_column(self) -> None:
+    def test_a_fact_is_named_by_the_key_or_another_column(self) -> None:
         self.open(example("audit"))
         self.assertEqual({row[4] for row in self.cells("#tables", 1)}, {"D05"})
         self.choose(0, 1)
@@ -324,14 +324,14 @@ class Times(BrowserCase):
         for place, only in enumerate(("only then", "only now")):
             rows = self.cells("#pairs", place)
             self.assertEqual([row[0] for row in rows], [only] * 4)
-        told = self.value("document.querySelector('#pairs article p').textContent")
-        self.assertEqual(told, "9 records said both times, 4 only then, 4 only now.")
+        found = self.value("document.querySelector('#pairs article p').textContent")
+        self.assertEqual(found, "9 records said both times, 4 only then, 4 only now.")
         self.value("document.querySelector('#pairs input[type=checkbox]').click()")
         self.assertEqual([[row[0] for row in self.cells("#pairs", place)].count("") for place in (0, 1)], [9, 9])
 
     def test_then_and_now_are_headed_by_a_name(self) -> None:
         script = f"table,t\nload,t\nrow,{TIME}\nend\nrows,t,asof,1\nrows,t\n"
-        told = f"ok,1\nok,2\nend,0\nrow,1,{TIME}\nend,1\n"
+        answered = f"ok,1\nok,2\nend,0\nrow,1,{TIME}\nend,1\n"
         parts = "[...document.querySelectorAll('#pairs h3, #pairs h4, #pairs article > p')]"
         then, now = "Then: commit 1 ({}line 5)", "Now: commit 2 ({}line 6)"
         cases: List[Tuple[List[str], List[str]]] = [
@@ -340,7 +340,7 @@ class Times(BrowserCase):
             (["3=as it was"], ["as it was", "rows,t", then.format("as it was, "), now.format("")]),
         ]
         for words, wanted in cases:
-            self.open(page_of(script, told, *words))
+            self.open(page_of(script, answered, *words))
             found = self.value(f"{parts}.map((one) => one.textContent)")
             self.assertEqual([one for one in found if "said both" not in one], wanted)
 
@@ -364,9 +364,9 @@ class Shown(BrowserCase):
 
     def of(self, *words: str) -> None:
         rows = "row,2024-01-01,2024-03-01,1234567\nrow,2024-03-01,9999-12-31,-5\n"
-        told = "row,1,2024-01-01,2024-03-01,1234567\nrow,2,2024-03-01,9999-12-31,-5\nend,2\n"
+        answered = "row,1,2024-01-01,2024-03-01,1234567\nrow,2,2024-03-01,9999-12-31,-5\nend,2\n"
         script = f"table,t,cents,int\nload,t\n{rows}end\nrows,t\n"
-        self.open(page_of(script, f"ok,1\nok,2\n{told}", "--decimals", "cents=2", "--last-day", *words))
+        self.open(page_of(script, f"ok,1\nok,2\n{answered}", "--decimals", "cents=2", "--last-day", *words))
 
     def test_amounts_and_last_days_stand_in_all_tables(self) -> None:
         self.of()
@@ -452,8 +452,8 @@ class Looks(BrowserCase):
             self.open(page)
             drawn = [one["number"] for one in data_of(page)["data"]["questions"] if one["picture"]]
             self.assertEqual(self.value("document.querySelectorAll('#questions figure svg').length"), len(drawn))
-            told = self.value("document.querySelectorAll('#questions figure svg rect title').length")
-            self.assertGreater(told, len(drawn))
+            found = self.value("document.querySelectorAll('#questions figure svg rect title').length")
+            self.assertGreater(found, len(drawn))
 
 
 if __name__ == "__main__":

@@ -16,14 +16,14 @@ TABLE = "table,t,flat,text,cents,int\nload,t\n"
 def rows_of(rows: List[str]) -> Tuple[str, str]:
     """A script that loads the rows and asks for all, and its answers."""
     script = TABLE + "".join(f"row,{row}\n" for row in rows) + "end\nrows,t\n"
-    told = "".join(f"row,{number},{row}\n" for number, row in enumerate(rows, 1))
-    return script, f"ok,1\nok,2\n{told}end,{len(rows)}\n"
+    answered = "".join(f"row,{number},{row}\n" for number, row in enumerate(rows, 1))
+    return script, f"ok,1\nok,2\n{answered}end,{len(rows)}\n"
 
 
-def picture(script: str, told: str, *words: str) -> str:
+def picture(script: str, given: str, *words: str) -> str:
     """What the tool draws of the last answer, or says where it draws nothing."""
     with kept(script) as name:
-        _, printed, said = run(["tools/answers", "picture", name, "--answers", "-", *words], told)
+        _, printed, said = run(["tools/answers", "picture", name, "--answers", "-", *words], given)
     return printed + said
 
 
@@ -40,9 +40,9 @@ class Titles(unittest.TestCase):
         self.assertEqual(printed[:len(wanted)], wanted)
 
     def test_a_long_title_takes_several_lines_of_a_drawing(self) -> None:
-        script, told = rows_of(["2024-01-01,2024-02-01,A,5"])
+        script, answered = rows_of(["2024-01-01,2024-02-01,A,5"])
         value = "word " * 60 + "end"
-        drawn = picture(script, told, "--svg", "--where", f"flat={value}")
+        drawn = picture(script, answered, "--svg", "--where", f"flat={value}")
         lines = re.findall(r'<text x="12" y="\d+" text-anchor="start" fill="#000">(.*)</text>', drawn)
         self.assertIn("rows,t: 0 records by flat, where flat is word word", lines[0])
         self.assertGreater(len(lines), 2)
@@ -50,8 +50,8 @@ class Titles(unittest.TestCase):
 
 class Ends(unittest.TestCase):
     def test_an_open_end_has_a_point_inside_of_the_frame(self) -> None:
-        script, told = rows_of(["2024-01-01,9999-12-31,A,5", "2024-01-01,2024-02-01,B,5"])
-        drawn = picture(script, told, "--svg")
+        script, answered = rows_of(["2024-01-01,9999-12-31,A,5", "2024-01-01,2024-02-01,B,5"])
+        drawn = picture(script, answered, "--svg")
         [points] = re.findall(r'<polygon points="([^"]*)"', drawn)
         width, _ = size_of(drawn)
         places = [float(point.split(",")[0]) for point in points.split()]
@@ -65,8 +65,8 @@ class Ends(unittest.TestCase):
 
     def test_a_step_that_goes_on_has_an_arrow(self) -> None:
         script, _ = rows_of(["2024-01-01,9999-12-31,A,5"])
-        told = "ok,1\nok,2\nrow,1,2024-01-01,9999-12-31,A,5\nend,1\nrow,2024-01-01,9999-12-31,5\nend,1\n"
-        self.assertIn("<polygon", picture(script + "agg,t,sum,cents\n", told, "--svg"))
+        answered = "ok,1\nok,2\nrow,1,2024-01-01,9999-12-31,A,5\nend,1\nrow,2024-01-01,9999-12-31,5\nend,1\n"
+        self.assertIn("<polygon", picture(script + "agg,t,sum,cents\n", answered, "--svg"))
 
 
 class Labels(unittest.TestCase):
@@ -74,8 +74,8 @@ class Labels(unittest.TestCase):
 
     def versions(self, change: str, version: str) -> str:
         script, _ = rows_of(["2024-01-01,2025-01-01,A,5"])
-        told = "ok,1\nok,2\nrow,1,2024-01-01,2025-01-01,A,5\nend,1\n"
-        return picture(f"{script}{change}\nbetween,t,2,3\n", f"{told}ok,3\n{self.VERSIONS}{version}\nend,2\n")
+        answered = "ok,1\nok,2\nrow,1,2024-01-01,2025-01-01,A,5\nend,1\n"
+        return picture(f"{script}{change}\nbetween,t,2,3\n", f"{answered}ok,3\n{self.VERSIONS}{version}\nend,2\n")
 
     def test_versions_are_labelled_by_the_values_that_changed(self) -> None:
         drawn = self.versions("update,t,2024-01-01,2025-01-01,set,cents,6", "version,2,2024-01-01,2025-01-01,3,-,A,6")
@@ -89,8 +89,8 @@ class Labels(unittest.TestCase):
 
     def test_a_single_version_is_labelled_by_its_values(self) -> None:
         script, _ = rows_of(["2024-01-01,2025-01-01,A,5"])
-        told = "ok,1\nok,2\nrow,1,2024-01-01,2025-01-01,A,5\nend,1\nversion,1,2024-01-01,2025-01-01,2,-,A,5\nend,1\n"
-        self.assertIn("\ncommit 2 [A 5==", picture(f"{script}between,t,2,2\n", told))
+        output = "ok,1\nok,2\nrow,1,2024-01-01,2025-01-01,A,5\nend,1\nversion,1,2024-01-01,2025-01-01,2,-,A,5\nend,1\n"
+        self.assertIn("\ncommit 2 [A 5==", picture(f"{script}between,t,2,2\n", output))
 
     def test_a_day_has_its_label_beside_it(self) -> None:
         rows = ["2024-01-01,2024-01-02,A,5", "2024-12-31,2025-01-01,A,6", "2024-01-01,2025-01-01,B,7"]
@@ -108,21 +108,21 @@ class Labels(unittest.TestCase):
 
 class Sums(unittest.TestCase):
     ROWS = ["2024-01-01,2024-02-01,A,123450", "2024-01-01,2024-02-01,B,5000"]
-    TOLD = "row,A,2024-01-01,2024-02-01,123450\nrow,B,2024-01-01,2024-02-01,5000\nend,2\n"
+    SUMS = "row,A,2024-01-01,2024-02-01,123450\nrow,B,2024-01-01,2024-02-01,5000\nend,2\n"
 
     def sums(self, *words: str) -> str:
-        script, told = rows_of(self.ROWS)
-        return picture(f"{script}agg,t,sum,cents,by,flat\n", told + self.TOLD, *words)
+        script, answered = rows_of(self.ROWS)
+        return picture(f"{script}agg,t,sum,cents,by,flat\n", answered + self.SUMS, *words)
 
     def test_sums_by_a_column_are_steps_of_each_group(self) -> None:
         drawn = self.sums()
         self.assertIn("agg,t,sum,cents,by,flat: 2 periods by flat\nA\n100,000 ####", drawn)
         self.assertIn("\nB\n100,000\n 50,000 ....", drawn)
 
-    def test_one_group_is_drawn_where_it_is_told(self) -> None:
+    def test_one_group_is_drawn_where_it_is_given(self) -> None:
         self.assertNotIn("\nB\n", self.sums("--where", "flat=A"))
 
-    def test_bars_are_drawn_of_them_where_labels_are_told(self) -> None:
+    def test_bars_are_drawn_of_them_where_labels_are_given(self) -> None:
         self.assertIn("\nA [123,450==", self.sums("--label", "sum_cents"))
 
     def test_thousands_are_parted_and_cents_are_euros(self) -> None:
@@ -131,38 +131,38 @@ class Sums(unittest.TestCase):
         self.assertIn('text-anchor="end" fill="#000">1,000</text>', drawn)
         self.assertIn("; cents with 2 decimals</text>", drawn)
         self.assertIn(">1.234,50</text>", self.sums("--svg", "--decimals", "cents=2", "--german"))
-        # A bar or a step tells the record as the answer has it.
+        # A bar or a step shows the record as the answer has it.
         self.assertIn("sum_cents: 123450</title>", drawn)
 
     def test_decimals_of_no_column_are_refused(self) -> None:
-        told = "answers: --decimals euros: no column of numbers, but sum_cents\n"
-        self.assertIn(told, self.sums("--decimals", "euros=2"))
+        reason = "answers: --decimals euros: not a column of numbers; those are sum_cents\n"
+        self.assertIn(reason, self.sums("--decimals", "euros=2"))
 
-    def test_a_table_s_numbers_are_parted_where_that_is_told(self) -> None:
-        script, told = rows_of(self.ROWS)
-        self.assertIn("[123450==", picture(script, told))
-        self.assertIn("[123,450==", picture(script, told, "--decimals", "cents=0"))
+    def test_a_table_s_numbers_are_parted_where_that_is_asked(self) -> None:
+        script, answered = rows_of(self.ROWS)
+        self.assertIn("[123450==", picture(script, answered))
+        self.assertIn("[123,450==", picture(script, answered, "--decimals", "cents=0"))
 
 
 class Limits(unittest.TestCase):
     def test_a_picture_is_1600_pixels_wide_and_4000_tall_at_most(self) -> None:
         years = [(year, flat) for year in range(1900, 1962) for flat in range(210)]
-        script, told = rows_of([f"{year}-01-01,{year + 1}-01-01,flat {flat},{year}" for year, flat in years])
-        drawn = picture(script, told, "--svg")
+        script, answered = rows_of([f"{year}-01-01,{year + 1}-01-01,flat {flat},{year}" for year, flat in years])
+        drawn = picture(script, answered, "--svg")
         width, height = size_of(drawn)
         self.assertLessEqual((width, height), (1600, 4000))
         self.assertEqual(width, 1600)
         self.assertLessEqual(height, 4000)
         self.assertIn("of 210 lanes: --height PIXELS has room for more", drawn)
-        width, height = size_of(picture(script, told, "--svg", "--width", "2000", "--height", "8000"))
+        width, height = size_of(picture(script, answered, "--svg", "--width", "2000", "--height", "8000"))
         self.assertEqual(width, 2000)
         self.assertGreater(height, 4200)
 
     def test_groups_keep_to_4000_pixels(self) -> None:
         names = [f"{number:03}" for number in range(90)]
-        script, told = rows_of([f"2024-01-01,2024-02-01,{name},5" for name in names])
+        script, answered = rows_of([f"2024-01-01,2024-02-01,{name},5" for name in names])
         more = "".join(f"row,{name},2024-01-01,2024-02-01,5\n" for name in names) + "end,90\n"
-        drawn = picture(f"{script}agg,t,sum,cents,by,flat\n", told + more, "--svg")
+        drawn = picture(f"{script}agg,t,sum,cents,by,flat\n", answered + more, "--svg")
         self.assertLessEqual(size_of(drawn)[1], 4000)
         self.assertIn("of 90 groups: --height PIXELS has room for more", drawn)
 

@@ -16,7 +16,7 @@ from ruzgalt.script.schemas import Schema, Table
 
 # So many records of a table are shown; so many questions, pictures, commits, and parts of a check are there at most.
 SHOWN, QUESTIONS, PICTURES, COMMITS, PARTS = 1_000, 1_000, 200, 50_000, 1_000
-NO_ROOM = drawings.Drawing(None, f"No picture: {PICTURES} stand before.")
+NO_ROOM = drawings.Drawing(None, f"No picture: the page has {PICTURES} before it.")
 # All records of answers, and all versions, have so many characters in the page; versions of a table are there whole or
 # not at all.
 ROOM = 14_000_000
@@ -89,7 +89,7 @@ class Parts:
     def first(self, things: List[Thing], most: int, what: str) -> List[Thing]:
         """So many of them at most."""
         if len(things) > most:
-            self.left_out.append(f"{len(things) - most:,} {what} behind the first {most:,}")
+            self.left_out.append(f"{len(things) - most:,} {what} after the first {most:,}")
         return things[:most]
 
     def questions(self, kept: Sequence[Answer]) -> Iterator[Data]:
@@ -214,9 +214,9 @@ def parts_of(answer: Answer) -> List[List[str]]:
 def sentence_of_division(table: Table) -> str:
     records = list(table.texts())
     if not records:
-        return "No rows, so no part."
+        return "No rows, so no parts."
     parts, instant = int(records[-1][0]) + 1, records[-1][2]
-    return f"{len(records):,} rows in {parts:,} parts. No fewer can do: at {instant} as many rows hold."
+    return f"{len(records):,} rows in {parts:,} parts. There can't be fewer: {parts:,} rows hold at {instant}."
 
 
 def pairs_of(kept: Sequence[Answer]) -> Iterator[Tuple[Answer, Answer]]:

@@ -38,7 +38,7 @@ def of(sources: Sources, counts: Tally) -> Findings:
     refused, doubtful = refused_and_doubtful(sources.answers)
     changes = [answer for answer in sources.answers if is_idle(answer, counts)]
     idle = [finding(one, "", why_idle(one, sources)) for one in changes[:LOOKED_AT]]
-    idle.extend(finding(one, "", "no row that it names holds in that time") for one in changes[LOOKED_AT:])
+    idle.extend(finding(one, "", "no row that it matches holds in that time") for one in changes[LOOKED_AT:])
     kinds = refused, idle, doubtful
     left_out = sum(max(len(kind) - LISTED, 0) for kind in kinds)
     return Findings(refused[:LISTED], idle[:LISTED], doubtful[:LISTED], left_out)
@@ -87,7 +87,7 @@ def why_idle(answer: Answer, sources: Sources) -> str:
         return "no row has all of these values" if wanted else f"{texts[1]} had no row then"
     times = sorted(f"{row[1]} to {row[2]}" for row in held)
     more = f", and {len(times) - 3} more" if len(times) > 3 else ""
-    return f"the rows that it names hold at other times: {', '.join(times[:3])}{more}"
+    return f"the rows that it matches hold at other times: {', '.join(times[:3])}{more}"
 
 
 def shown(table: Table, commit: int) -> Iterator[Sequence[Optional[str]]]:

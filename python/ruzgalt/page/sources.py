@@ -123,7 +123,7 @@ def named_by(found: Sequence[Answer], words: Sequence[str], names: Dict[int, str
     given = dict(names)
     for word in words:
         if "=" not in word:
-            raise Misfit(f"{word}: the page has all answers, and {word}=NAME names one of them")
+            raise Misfit(f"{word}: the page has all answers; {word}=NAME gives one a name")
         one = picks.picked(found, word, names)
         given[one.answer.number] = one.name
     return given
@@ -155,7 +155,7 @@ def refuse_others(found: Found, replay: Replay) -> None:
         difference = None if answer.refusal else fitting.fault(found.answers, replay, answer)
         if difference:
             text = f"{answer.place}: {short(answer.command.text)}: {difference}"
-            raise Misfit(f"{text}: the program answers otherwise than the changes, done again")
+            raise Misfit(f"{text}: the program's answer differs from what its changes give, done again")
 
 
 def done_again(replay: Replay, schema: Schema) -> Table:

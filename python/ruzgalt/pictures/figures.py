@@ -29,7 +29,7 @@ def of(answers: Sequence[Answer], answer: Answer, wish: Wish) -> Picture:
         return division(answers, answer, wish)
     if not is_drawn(answer):
         drawn = "a division, rows, a join, an aggregate or versions"
-        raise Misfit(f"{answer.place}: {short(answer.command.text)}: no picture; what is drawn is {drawn}")
+        raise Misfit(f"{answer.place}: {short(answer.command.text)}: no picture can be drawn of it, only of {drawn}")
     wish.amounts.refuse_strangers(answer.table)
     if answered is Answered.VERSIONS:
         return square(answer, wish)
@@ -60,7 +60,7 @@ def refuse_unused(answer: Answer, wish: Wish) -> None:
         unused = ["by", "label", "where"]
     for word in unused:
         if getattr(wish, word):
-            raise Misfit(f"{answer.place}: {short(answer.command.text)}: its picture has no use for --{word}")
+            raise Misfit(f"{answer.place}: {short(answer.command.text)}: its picture can't be drawn with --{word}")
 
 
 def division(answers: Sequence[Answer], answer: Answer, wish: Wish) -> Bars:

@@ -82,7 +82,7 @@ class Groups:
 
 Picture = Union[Bars, Steps, Groups]
 # Stands in place of a picture without anything in it.
-NOTHING = "nothing to draw: no record that is asked for holds in what is shown"
+NOTHING = "nothing to draw: no chosen record holds in the time that is shown"
 
 
 def is_empty(picture: Picture) -> bool:

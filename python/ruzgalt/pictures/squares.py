@@ -65,4 +65,4 @@ def refuse_overlaps(answer: Answer, bars: List[Bar]) -> None:
         for one, other in zip(inside, inside[1:]):
             if other.start < one.end:
                 both = f"{short(one.record)} and {short(other.record)}"
-                raise Misfit(f"{answer.place}: {both} hold together: choose one fact by --where")
+                raise Misfit(f"{answer.place}: {both} hold at the same time: choose one fact by --where")

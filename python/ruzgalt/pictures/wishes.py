@@ -7,9 +7,9 @@ from ruzgalt.answers.amounts import Amounts
 from ruzgalt.errors import Misfit
 from ruzgalt.pictures.shapes import Bar
 from ruzgalt.pictures.timeline import Span, span_of
-from ruzgalt.script.forms import printed, read_point, seconds
+from ruzgalt.script.forms import POINTS, printed, read_point, seconds
 from ruzgalt.script.records import visible
-from ruzgalt.script.schemas import Table
+from ruzgalt.script.schemas import Table, listed
 
 Record = Dict[str, str]
 
@@ -30,7 +30,7 @@ class Wish:
         """The seconds of the first point that is shown, and of the end."""
         for point in (self.start, self.end):
             if point is not None and read_point(point) is None:
-                raise Misfit(f"{point}: no point, as 2024-01-05 or 2024-01-05T08:30:00")
+                raise Misfit(f"{point}: not a date or time, such as {POINTS}")
         start, end = (None if point is None else seconds(point) for point in (self.start, self.end))
         if start is not None and end is not None and end <= start:
             raise Misfit(f"{self.start} isn't before {self.end}")
@@ -61,7 +61,7 @@ class Wish:
         """The record's values of these columns."""
         missing = [name for name in names if name not in record]
         if missing:
-            raise Misfit(f"there is no column {missing[0]}, but {', '.join(record)}")
+            raise Misfit(f"there is no column {missing[0]}; {listed(list(record))}")
         return " ".join(" ".join(self.amounts.printed(name, record[name]).split()) for name in names)
 
 
