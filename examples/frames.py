@@ -178,4 +178,4 @@ booked = plans.rows("desk").rename(columns={"Platz": "part"})[["part", "row_id"]
 print(plans.check("desk", booked, count=5, instant="2024-03-07"))
 print(plans.check("desk", plans.dip("desk")))
 # | No: rows 7 and 8 are in one part, and overlap.
-# | Yes: no two rows of a part overlap, and fewer parts than 4 can't do: on 2024-03-07 as many rows hold.
+# | Yes: no two rows of a part overlap, and fewer parts than 4 aren't enough: 4 rows hold on 2024-03-07.

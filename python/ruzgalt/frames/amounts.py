@@ -59,7 +59,7 @@ def spread(frame: Frame, column: Any, *, each: str = MONTH, by: Names = None, wi
     exact : bool, default False
         Sums come as Fractions, which aren't rounded.
     period : pair of names, or name, default ("from", "to")
-        The columns of a row's start and of its end, the first point behind it; or one of intervals.
+        The columns of a row's start and of its end, the first point after it; or one of intervals.
     open_end : bool, default False
         A missing end stands for 9999-12-31, and comes back as missing.
     last_day : bool, default False
@@ -87,10 +87,10 @@ def spread(frame: Frame, column: Any, *, each: str = MONTH, by: Names = None, wi
     Raises
     ------
     Refused
-        Where the frame or an option is none that can be taken, or a value would be lost or changed; of a row without an
+        If the frame or an option can't be taken, or a value would be lost or changed; of a row without an
         end where `within` has none; and of times in a time zone.
     Stopped
-        Where the program ended without all answers.
+        If the program ended without all answers.
 
     Warns
     -----
@@ -144,11 +144,11 @@ def spread_in(frame: Any, side: Side, options: Options) -> Any:
     rows = shown(counted(side, options), options)
     codes, firsts = groups.group_codes(rows, len(by))
     found = split.agg(replace(rows, columns=[codes, rows.columns[-1]]), "sum", options.workers)
-    told = shares.of_sums(found, pieces.calendar(PIECES[options.each]))
-    columns = Columns(groups.groups_at(frame, by, rows.places[firsts[told.group]]))
-    times = [zones.begins_of(walls, zone) for walls in (told.start, told.end)]
+    sums = shares.of_sums(found, pieces.calendar(PIECES[options.each]))
+    columns = Columns(groups.groups_at(frame, by, rows.places[firsts[sums.group]]))
+    times = [zones.begins_of(walls, zone) for walls in (sums.start, sums.end)]
     columns.add(pairs.period_of(times[0], times[1], [side], options, options.form))
-    columns.add([(amount.name, (fractions if options.exact else wholes)(told, amount))])
+    columns.add([(amount.name, (fractions if options.exact else wholes)(sums, amount))])
     return columns.frame()
 
 
@@ -159,8 +159,8 @@ def counted(side: Side, options: Options) -> Side:
         side = side.clipped(*instants.span(start, end, options.form, side.kind.zone))
     is_endless = side.end >= NO_END
     if is_endless.any():
-        told = "no end is known; within=(START, END) says up to where it counts"
-        raise Refused("BadPoint", told, options.period[-1], label_at(is_endless, side.labels[side.places]))
+        reason = "no end is known; give within=(START, END), up to whose end it counts"
+        raise Refused("BadPoint", reason, options.period[-1], label_at(is_endless, side.labels[side.places]))
     return side
 
 
@@ -172,8 +172,8 @@ def shown(side: Side, options: Options) -> Side:
     for name, seconds in zip((options.period[0], options.period[-1]), (side.start, side.end)):
         has_time = zones.has_time(seconds, zone)
         if has_time.any():
-            told = f"in {zone} days have 23 to 25 hours, so points are days; .dt.floor('D') drops a time"
-            raise Refused("BadPoint", told, name, label_at(has_time, side.labels[side.places]))
+            reason = f"in {zone} days have 23 to 25 hours, so points must be days; .dt.floor('D') drops the time"
+            raise Refused("BadPoint", reason, name, label_at(has_time, side.labels[side.places]))
     return side.during(zones.walls_of(side.start, zone), zones.walls_of(side.end, zone))
 
 

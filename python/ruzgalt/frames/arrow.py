@@ -34,19 +34,19 @@ def is_point(dtype: Any) -> bool:
 
 def datetimes_of(column: Any) -> Any:
     """A column of points as one of datetime64 of their unit, in their zone."""
-    pyarrow, told = import_module("pyarrow"), column.dtype.pyarrow_dtype
-    unit = DATES[str(told)] if is_date(column.dtype) else told.unit
+    pyarrow, dtype = import_module("pyarrow"), column.dtype.pyarrow_dtype
+    unit = DATES[str(dtype)] if is_date(column.dtype) else dtype.unit
     numbers = pyarrow.array(column.array).cast(pyarrow.timestamp(unit)).cast(pyarrow.int64())
     missing = column.isna().to_numpy()
     cells = numbers.fill_null(0).to_numpy(zero_copy_only=False).view(f"M8[{unit}]")
     made = pd.Series(np.where(missing, np.datetime64("NaT", unit), cells), column.index, name=column.name)
-    zone = getattr(told, "tz", None)
+    zone = getattr(dtype, "tz", None)
     return made if zone is None else made.dt.tz_localize("UTC").dt.tz_convert(zone)
 
 
 def points_of(cells: Cells, missing: Marks, dtype: Any) -> Any:
     """Datetimes in UTC as an array of the dtype."""
-    pyarrow, told = import_module("pyarrow"), dtype.pyarrow_dtype
+    pyarrow, own = import_module("pyarrow"), dtype.pyarrow_dtype
     unit = np.datetime_data(cells.dtype)[0]
-    made = pyarrow.array(cells.view("i8"), mask=missing).cast(pyarrow.timestamp(unit, getattr(told, "tz", None)))
-    return pd.arrays.ArrowExtensionArray(made.cast(told))
+    made = pyarrow.array(cells.view("i8"), mask=missing).cast(pyarrow.timestamp(unit, getattr(own, "tz", None)))
+    return pd.arrays.ArrowExtensionArray(made.cast(own))

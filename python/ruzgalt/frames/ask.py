@@ -10,20 +10,20 @@ from ruzgalt.frames.errors import Refused, Stopped
 from ruzgalt.frames.output import Output
 from ruzgalt.frames.script import Command
 from ruzgalt.frames.sides import Side
-from ruzgalt.script import records
+from ruzgalt.script import forms, records
 
 # The columns of an answer: start, end, and what its rows differ in.
 Found = Tuple[Cells, ...]
 
 REMEDIES = {
-    "BadName": "a name has 1 to 32 of a to z, 0 to 9 and _, the first a letter",
-    "BadPeriod": "a start comes before its end, which is the first point behind",
-    "BadPoint": "a point is as 2024-01-05 or 2024-01-05T08:30:00, of the years 0001 to 9999",
+    "BadName": f"a name has {forms.NAME_HAS}",
+    "BadPeriod": "a start must be before its end, which is the first point after the row",
+    "BadPoint": f"must be a date or time, such as {forms.POINTS}, of the years 0001 to 9999",
     "Full": "a table has at most 1,000,000 versions of rows, of all commits",
     "Future": "log() lists the commits",
     "TableExists": "load() adds rows to a table",
     "TooMany": "a table has at most 16 columns, a store 64 tables",
-    "TwiceNamed": "each name once",
+    "TwiceNamed": "each name can be given once",
 }
 
 
@@ -43,17 +43,17 @@ def output_of(commands: Sequence[Command], workers: int) -> Output:
 def first_refused(output: Output, changes: Sequence[Command]) -> Optional[Tuple[int, Sequence[str]]]:
     """The place of the first change that isn't accepted, and its answer; else all their answers are read."""
     for place, _ in enumerate(changes):
-        told = output.record()
-        if told[0] != "ok":
-            return place, told
+        record = output.record()
+        if record[0] != "ok":
+            return place, record
     return None
 
 
-def refusal(command: Command, told: Sequence[str]) -> Exception:
+def refusal(command: Command, record: Sequence[str]) -> Exception:
     """Of an answer that is neither ok nor what was asked for."""
-    if told[0] != "error" or len(told) < 3:
-        return Stopped(f"the program answered {records.visible(records.to_record(told))} to {command.word}")
-    return Refused(told[2], REMEDIES.get(told[2], f"docs/LANGUAGE.md has it with {command.word}"), label=command.label)
+    if record[0] != "error" or len(record) < 3:
+        return Stopped(f"the program answered {records.visible(records.to_record(record))} to {command.word}")
+    return Refused(record[2], REMEDIES.get(record[2], f"see {command.word} in docs/LANGUAGE.md"), label=command.label)
 
 
 def loads(sides: Sequence[Side]) -> List[Command]:

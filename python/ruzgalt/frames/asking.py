@@ -50,9 +50,9 @@ class Asking:
         Raises
         ------
         Refused
-            Where the table or the commit isn't there, or an option is none that can be taken.
+            If the table or the commit doesn't exist, or an option can't be taken.
         Stopped
-            Where the program ended without all answers.
+            If the program ended without all answers.
 
         Examples
         --------
@@ -87,9 +87,9 @@ class Asking:
         Raises
         ------
         Refused
-            Where the table or the commit isn't there, or an option is none that can be taken.
+            If the table or the commit doesn't exist, or an option can't be taken.
         Stopped
-            Where the program ended without all answers.
+            If the program ended without all answers.
 
         Examples
         --------
@@ -119,9 +119,9 @@ class Asking:
         Raises
         ------
         Refused
-            Where the table isn't there, or an option is none that can be taken.
+            If the table doesn't exist, or an option can't be taken.
         Stopped
-            Where the program ended without all answers.
+            If the program ended without all answers.
 
         Examples
         --------
@@ -154,9 +154,9 @@ class Asking:
         Raises
         ------
         Refused
-            Where the table isn't there, or an option is none that can be taken.
+            If the table doesn't exist, or an option can't be taken.
         Stopped
-            Where the program ended without all answers.
+            If the program ended without all answers.
 
         Examples
         --------
@@ -182,7 +182,7 @@ class Asking:
             inner has the pairs; left has the left rows too, each for as long as no right row meets it, with missing
             cells in the right columns; right has the right rows so, and outer both.
         suffixes : pair of str or None, default ("_left", "_right")
-            What is put behind names that are taken, of the left table and of the right one; None for nothing.
+            What is added to names that are taken, of the left table and of the right one; None for nothing.
         points_as : str, optional
             ns, us, ms, s, D, S, date or datetime: the answer's points, where not of the tables' kind.
         as_of : int, str, date, datetime, Timestamp or Period, optional
@@ -199,9 +199,9 @@ class Asking:
         Raises
         ------
         Refused
-            Where the tables, a column or the commit isn't there, or an option is none that can be taken.
+            If the tables, a column or the commit don't exist, or an option can't be taken.
         Stopped
-            Where the program ended without all answers.
+            If the program ended without all answers.
 
         Warns
         -----
@@ -252,9 +252,9 @@ class Asking:
         Raises
         ------
         Refused
-            Where the tables, a column or the commit isn't there, or an option is none that can be taken.
+            If the tables, a column or the commit don't exist, or an option can't be taken.
         Stopped
-            Where the program ended without all answers.
+            If the program ended without all answers.
 
         Warns
         -----
@@ -304,9 +304,9 @@ class Asking:
         Raises
         ------
         Refused
-            Where the table, a column or the commit isn't there, or an option is none that can be taken.
+            If the table, a column or the commit doesn't exist, or an option can't be taken.
         Stopped
-            Where the program ended without all answers.
+            If the program ended without all answers.
 
         Warns
         -----
@@ -343,9 +343,9 @@ class Asking:
         Raises
         ------
         Refused
-            Where the table or the commit isn't there, or an option is none that can be taken.
+            If the table or the commit doesn't exist, or an option can't be taken.
         Stopped
-            Where the program ended without all answers.
+            If the program ended without all answers.
 
         Examples
         --------
@@ -383,15 +383,15 @@ class Asking:
         Raises
         ------
         Refused
-            Where the table or the commit isn't there, or an option is none that can be taken.
+            If the table or the commit doesn't exist, or an option can't be taken.
         Stopped
-            Where the program ended without all answers.
+            If the program ended without all answers.
 
         Examples
         --------
         >>> division = store.dip("pay")
         >>> store.check("pay", division)
-        Yes: no two rows of a part overlap, and fewer parts than 2 can't do: on 2024-03-01 as many rows hold.
+        Yes: no two rows of a part overlap, and fewer parts than 2 aren't enough: 2 rows hold on 2024-03-01.
         >>> store.check("pay", division.parts.assign(part=0), count=1, instant="2024-03-01")
         No: rows 3 and 2 are in one part, and overlap.
         """
@@ -409,7 +409,7 @@ class Asking:
         Raises
         ------
         Stopped
-            Where the program ended without all answers.
+            If the program ended without all answers.
 
         Examples
         --------
@@ -444,7 +444,7 @@ class Asking:
         Raises
         ------
         Refused
-            Where the commit isn't there.
+            If the commit doesn't exist.
 
         Examples
         --------
@@ -493,9 +493,9 @@ class Asking:
         Raises
         ------
         Refused
-            Where the table, a column or a commit isn't there, or an option is none that can be taken.
+            If the table, a column or a commit doesn't exist, or an option can't be taken.
         Stopped
-            Where the program ended without all answers.
+            If the program ended without all answers.
 
         Warns
         -----
@@ -534,9 +534,9 @@ class Asking:
         Raises
         ------
         Refused
-            Where the table or a commit isn't there, or an option is none that can be taken.
+            If the table or a commit doesn't exist, or an option can't be taken.
         Stopped
-            Where the program ended without all answers.
+            If the program ended without all answers.
 
         Warns
         -----

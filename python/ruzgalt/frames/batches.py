@@ -45,7 +45,7 @@ class Batch:
         self.store.lock.acquire()
         try:
             if self.store.draft is not None:
-                raise Refused("BadCommand", "a batch within a batch: end the outer one first")
+                raise Refused("BadCommand", "a batch can't begin within a batch: end the outer one first")
             self.store.book.diary.refuse(self.note)
         except Refused:
             self.store.lock.release()

@@ -50,8 +50,8 @@ class Book:
 
     def known(self, name: Any) -> Table:
         if not isinstance(name, str) or name not in self.tables:
-            there = ", ".join(self.tables) or "there is none"
-            raise Refused("NoTable", f"{checks.shown(name)} is no table that is there: {there}")
+            there = f"the tables are {', '.join(self.tables)}" if self.tables else "the store has none"
+            raise Refused("NoTable", f"{checks.shown(name)} isn't a table; {there}")
         return self.tables[name]
 
     def behind(self, change: Change, closed: int = 1) -> Book:

@@ -68,11 +68,11 @@ def join(left: Any, right: Any, on: Names = None, *, left_on: Names = None, righ
         inner has the pairs; left has the left rows too, each for as long as no right row meets it, with missing cells
         in the right columns; right has the right rows so, and outer both.
     period : pair of names, or name, default ("from", "to")
-        The columns of a row's start and of its end, the first point behind it; or one of intervals.
+        The columns of a row's start and of its end, the first point after it; or one of intervals.
     left_period, right_period : pair of names, or name, optional
         The same of the one frame, where they are others.
     keep_periods : bool, default False
-        Adds the periods of the left and of the right row behind that in which both hold.
+        Adds the periods of the left and of the right row after that in which both hold.
     open_end : bool or "left" or "right", default False
         A missing end stands for 9999-12-31, and comes back as missing; in both frames, or in the one that is named.
     last_day : bool or "left" or "right", default False
@@ -81,7 +81,7 @@ def join(left: Any, right: Any, on: Names = None, *, left_on: Names = None, righ
     decimals : dict, optional
         How many decimals are compared of a column of floats or Decimals, as `{"hours": 2}`.
     suffixes : pair of str or None, default ("_left", "_right")
-        What is put behind names that are taken, of the left frame and of the right one; None for nothing.
+        What is added to names that are taken, of the left frame and of the right one; None for nothing.
     labels : bool, default False
         Adds the index labels of each pair, as the columns left_label and right_label.
     points_as : str, optional
@@ -107,9 +107,9 @@ def join(left: Any, right: Any, on: Names = None, *, left_on: Names = None, righ
     Raises
     ------
     Refused
-        Where a frame or an option is none that can be taken, or a value would be lost or changed.
+        If a frame or an option can't be taken, or a value would be lost or changed.
     Stopped
-        Where the program ended without all answers.
+        If the program ended without all answers.
 
     Warns
     -----
@@ -189,7 +189,7 @@ def anti(left: Any, right: Any, on: Names = None, *, left_on: Names = None, righ
     left_on, right_on : name or list of names, optional
         The compared columns in place of `on`, where the two frames have different names for them.
     period : pair of names, or name, default ("from", "to")
-        The columns of a row's start and of its end, the first point behind it; or one of intervals.
+        The columns of a row's start and of its end, the first point after it; or one of intervals.
     left_period, right_period : pair of names, or name, optional
         The same of the one frame, where they are others.
     open_end : bool or "left" or "right", default False
@@ -220,9 +220,9 @@ def anti(left: Any, right: Any, on: Names = None, *, left_on: Names = None, righ
     Raises
     ------
     Refused
-        Where a frame or an option is none that can be taken, or a value would be lost or changed.
+        If a frame or an option can't be taken, or a value would be lost or changed.
     Stopped
-        Where the program ended without all answers.
+        If the program ended without all answers.
 
     Warns
     -----
@@ -286,7 +286,7 @@ def agg(frame: Any, function: Functions, column: Any = None, *, by: Names = None
     mean_as : str, default "float"
         As what a mean comes: the nearest float, the Fraction that it is, or the Decimal as Decimals divide.
     period : pair of names, or name, default ("from", "to")
-        The columns of a row's start and of its end, the first point behind it; or one of intervals.
+        The columns of a row's start and of its end, the first point after it; or one of intervals.
     open_end : bool, default False
         A missing end stands for 9999-12-31, and comes back as missing.
     last_day : bool, default False
@@ -316,9 +316,9 @@ def agg(frame: Any, function: Functions, column: Any = None, *, by: Names = None
     Raises
     ------
     Refused
-        Where the frame or an option is none that can be taken, or a value would be lost or changed.
+        If the frame or an option can't be taken, or a value would be lost or changed.
     Stopped
-        Where the program ended without all answers.
+        If the program ended without all answers.
 
     Warns
     -----
@@ -349,14 +349,14 @@ def agg(frame: Any, function: Functions, column: Any = None, *, by: Names = None
         "agg", by=by, mean_as=mean_as, period=period, open_end=open_end, last_day=last_day, decimals=decimals,
         points_as=points_as, workers=workers, parts=parts, progress=progress,
     )
-    told = measures.of_call(function, column)
+    measured = measures.of_call(function, column)
     if are_spread(frame=frame):
         intervals.refuse_spread(options.period)
         from ruzgalt.frames import partitions, slices
         asked = partitions.agg if options.by else slices.agg
-        return asked(frame, told, options)
+        return asked(frame, measured, options)
     with OfCall(options.call, options.progress):
-        return groups.agg(frame, told, options)
+        return groups.agg(frame, measured, options)
 
 
 def dip(frame: pd.DataFrame, by: Names = None, *, period: PeriodNames = PERIOD, open_end: bool = False,
@@ -371,7 +371,7 @@ def dip(frame: pd.DataFrame, by: Names = None, *, period: PeriodNames = PERIOD, 
     by : name or list of names, optional
         Columns whose equal values are a group; without any all rows are one.
     period : pair of names, or name, default ("from", "to")
-        The columns of a row's start and of its end, the first point behind it; or one of intervals.
+        The columns of a row's start and of its end, the first point after it; or one of intervals.
     open_end : bool, default False
         A missing end stands for 9999-12-31, and comes back as missing.
     last_day : bool, default False
@@ -396,9 +396,9 @@ def dip(frame: pd.DataFrame, by: Names = None, *, period: PeriodNames = PERIOD, 
     Raises
     ------
     Refused
-        Where the frame or an option is none that can be taken, as a frame of Dask, or a value would be lost or changed.
+        If the frame or an option can't be taken, as a frame of Dask, or a value would be lost or changed.
     Stopped
-        Where the program ended without all answers.
+        If the program ended without all answers.
 
     Warns
     -----
@@ -428,6 +428,6 @@ def dip(frame: pd.DataFrame, by: Names = None, *, period: PeriodNames = PERIOD, 
         progress=progress,
     )
     if are_spread(frame=frame):
-        raise Refused("BadCommand", f"dip of a frame of Dask: a division isn't that of its parts; {division.OTHERWISE}")
+        raise Refused("BadCommand", f"dip can't be called with a frame of Dask; {division.OTHERWISE}")
     with OfCall(options.call, options.progress):
         return division.dip_by(frame, options) if options.by else division.dip(frame, options)

@@ -81,7 +81,7 @@ class Change:
         """The table behind it."""
         found = self.made or table
         if found is None:
-            raise Refused("NoTable", f"{self.name!r} is no table that is there")
+            raise Refused("NoTable", f"{self.name!r} isn't a table")
         found = found.with_rows(self.side) if self.side is not None and len(self.side) else found
         return found.widened(self.portion) if closed else found
 
@@ -90,7 +90,7 @@ def making(name: Any, frame: Any, key: Names, options: Options) -> Change:
     """A table of a frame's columns, and its rows."""
     if not isinstance(name, str) or not forms.is_name(name):
         reason = "it is a word of the language" if name in forms.RESERVED else REMEDIES["BadName"]
-        raise Refused("BadName", f"{checks.shown(name)} is no name of a table: {reason}")
+        raise Refused("BadName", f"{checks.shown(name)} can't be the name of a table: {reason}")
     names = [column for column in names_of(frame) if column not in options.period]
     side = side_of(frame, names, options)
     doubts.of_decimals(options.decimals, frame)
@@ -117,14 +117,14 @@ def updating(table: Table, frame: Any, where: Names) -> Change:
     """An update for each row of a frame, of the rows that are equal in the columns `where`."""
     equal = checks.names("where", where) or table.key
     if not equal:
-        raise Refused("BadCommand", f"{table.name} has no key: where= names the columns by which rows are found")
+        raise Refused("BadCommand", f"{table.name} has no key: give by where= the columns by which rows are found")
     for name in equal:
         table.column(name)
     own = [*table.period, *equal]
     set_to = [column for column in names_of(checks.frame("frame", frame)) if column not in own]
     side = table.side_of(frame, [*set_to, *equal])
     if not set_to:
-        raise Refused("BadCommand", "the frame has no column but those of the period and of where=, so none to set")
+        raise Refused("BadCommand", "the frame has no column to set beside those of the period and of where=")
     warn_of_ends(table, side)
     rows = zip(*([(table.word(column.name), text) for text in column_texts(column)] for column in side.columns))
     pairs = [[text for pair in row for text in pair] for row in rows]

@@ -49,8 +49,8 @@ class Slices:
         held = Held(first[rows], behind[rows], len(self.lows))
         found = [held.together(function, numbers[rows]) for function, numbers in asked]
         there = np.flatnonzero(held.numbers(np.ones(len(rows), np.int64)))
-        told = [(one, *row) for one in there.tolist() for row in in_64_bits([numbers[one] for numbers in found], asked)]
-        place, *columns = np.array(told, np.int64).reshape(len(told), 1 + len(asked)).T
+        made = [(one, *row) for one in there.tolist() for row in in_64_bits([numbers[one] for numbers in found], asked)]
+        place, *columns = np.array(made, np.int64).reshape(len(made), 1 + len(asked)).T
         return [self.lows[place], self.highs[place], place, *columns]
 
 
@@ -95,8 +95,8 @@ class Held:
             half = 1 << (long - 1)
             better(best[long - 1], best[long], out=best[long - 1])
             better(best[long - 1, half:], best[long, :-half], out=best[long - 1, half:])
-        told: List[int] = best[0].tolist()
-        return told
+        each: List[int] = best[0].tolist()
+        return each
 
 
 def in_64_bits(numbers: Sequence[int], asked: Asked) -> List[Tuple[int, ...]]:

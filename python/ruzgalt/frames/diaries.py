@@ -52,7 +52,7 @@ class Note:
     def refuse_without_commit(self) -> None:
         """Raises Refused where a label has no commit to name."""
         if self.labels:
-            raise Refused("BadCommand", f"label={self.labels[0]!r} names a commit, and this change makes none")
+            raise Refused("BadCommand", f"label={self.labels[0]!r} would name a commit, but this change makes none")
 
 
 NO_NOTE = Note()
@@ -67,25 +67,25 @@ def note_of(label: Any, day: Any) -> Note:
 def second_of(day: Any) -> int:
     second = instants.second_of(day)
     if second >= points.NO_END:
-        raise Refused("BadPoint", f"day={day!r}: 9999-12-31 stands for no end, so it is no day of a commit")
+        raise Refused("BadPoint", f"day={day!r}: 9999-12-31 stands for no end, so it can't be the day of a commit")
     return second
 
 
 def label_of(given: Any) -> str:
     """The label. Raises Refused where it is no text of the store, or could be taken for a number or a day."""
     if not isinstance(given, str):
-        raise checks.wrong("label", given, "a text is wanted")
+        raise checks.wrong("label", given, "must be a text")
     label, shown = str.__str__(given), checks.shown(given)
     if not label.strip():
-        raise Refused("BadName", f"label={shown} is blank, so nobody would find it")
+        raise Refused("BadName", f"label={shown} is blank: give it some letters")
     if is_number(label):
-        raise Refused("BadName", f"label={shown} reads as the number of a commit: a word beside it, as 'run {label}'")
+        raise Refused("BadName", f"label={shown} looks like a commit's number: add a word, as in 'run {label}'")
     if forms.POINT.fullmatch(label.strip()):
-        raise Refused("BadName", f"label={shown} reads as a day: day= is for that, or a word beside it")
+        raise Refused("BadName", f"label={shown} looks like a day: give that by day=, or add a word")
     if not forms.is_utf8(label):
-        raise Refused("BadUtf8", f"label={shown} has half of a surrogate pair, so it is no text")
+        raise Refused("BadUtf8", f"label={shown} has half of a surrogate pair, so it isn't a text")
     if not forms.is_short(label):
-        raise Refused("TooLong", f"label={shown} has more than 4,096 bytes: a shorter one")
+        raise Refused("TooLong", f"label={shown} has more than 4,096 bytes: give a shorter one")
     return label
 
 
@@ -123,10 +123,10 @@ class Diary:
         for label in note.labels:
             if label in self.labels:
                 reason = f"label={checks.shown(label)} is that of commit {self.labels[label]}"
-                raise Refused("TwiceNamed", f"{reason}: another one; diary() lists them")
+                raise Refused("TwiceNamed", f"{reason}: give another one; diary() lists them")
         if note.second is not None and self.seconds and note.second < self.seconds[-1]:
             last = f"{points.text_of(self.seconds[-1])}, the day of commit {self.commits[-1]}"
-            raise Refused("BadPoint", f"day={points.text_of(note.second)} is before {last}: days don't go back")
+            raise Refused("BadPoint", f"day={points.text_of(note.second)} is before {last}: days can't go back")
 
     def commit_of(self, option: str, given: Any) -> int:
         """The commit that has a label, or the newest one of a day. Raises Refused."""
@@ -136,8 +136,8 @@ class Diary:
             return self.labels[given]
         if forms.read_point(given) is not None:
             return self.newest_at(option, given)
-        reason = f"{option}={checks.shown(given)} is no day, and no commit has this label{self.alike(given)}"
-        reason += f"; a commit's number is no text: {int(given)}" if is_number(given) else ""
+        reason = f"{option}={checks.shown(given)} isn't a day, and no commit has this label{self.alike(given)}"
+        reason += f"; give a commit's number as a number: {int(given)}" if is_number(given) else ""
         raise Refused("NoLabel", f"{reason}; {self.listed()}")
 
     def newest_at(self, option: str, day: Any) -> int:
@@ -146,7 +146,7 @@ class Diary:
             return self.commits[place - 1]
         given = f"{option}={str(day)!r}"
         if not self.seconds:
-            remedy = "day= of a change gives one, diary= of Store.from_script reads them"
+            remedy = "give days by day= of changes, or by diary= of Store.from_script"
             raise Refused("NoDay", f"{given}: no commit has a day; {remedy}")
         raise Refused("NoDay", f"{given}: the first day of a commit is {points.text_of(self.seconds[0])}")
 
@@ -158,10 +158,10 @@ class Diary:
 
     def listed(self) -> str:
         if not self.labels:
-            return "label= of a change gives one, diary= of Store.from_script reads them"
+            return "give labels by label= of changes, or by diary= of Store.from_script"
         newest = list(self.labels)[-LISTED:]
         more = f" and {len(self.labels) - LISTED} more" if len(self.labels) > LISTED else ""
-        return f"there are {', '.join(map(checks.shown, newest))}{more}; diary() lists them"
+        return f"the labels are {', '.join(map(checks.shown, newest))}{more}; diary() lists them"
 
     def days(self) -> history.Days:
         """The days, each with the newest commit from then on, as the tools have them of a table."""
@@ -235,4 +235,4 @@ def labels_in(columns: Mapping[str, Tuple[str, Any]], newest: Cells) -> Iterator
 def refuse_back(name: str, days: Sequence[Tuple[str, int]]) -> None:
     for (_, before), (day, commit) in zip(days, days[1:]):
         if commit < before:
-            raise Refused("BadNumber", f"{name}: commit {commit} is the newest from {day} on, and {before} before that")
+            raise Refused("BadNumber", f"{name}: commit {commit} is the newest from {day} on, but {before} before that")

@@ -19,7 +19,7 @@ from ruzgalt.script import forms
 
 # So many tables a run has, and of so many groups each is shown.
 TABLES, SHOWN = 64, 10
-OTHERWISE = "agg(frame, 'count') has how many parts it needs, the greatest count, and the instant, where that begins"
+OTHERWISE = "agg(frame, 'count') has the number of parts, its greatest count, and the instant, at which that begins"
 # A Series of a frame's division, a DataFrame of a store's.
 Parts = TypeVar("Parts")
 
@@ -113,11 +113,11 @@ def dip(frame: Any, options: Options) -> Division[Any]:
     side = sides.side_of(frame, [], options.period, options.form, {})
     doubts.of_ends(side, [], options.period[-1], options.form.has_last_days)
     if not split.means_of(options.workers).fits([side]):
-        limit = f"{len(side):,} rows, and a table has {split.ROWS:,}; a division isn't that of its parts"
+        limit = f"{len(side):,} rows, but a table can have {split.ROWS:,}, and a division can't be made in batches"
         raise Refused("Full", f"{limit}: {OTHERWISE}")
     parts = np.zeros(len(side), np.int64)
-    [told] = divided(side, [np.arange(len(side))], parts, options.workers)
-    return division_of(pd.Series(parts, frame.index, name="part"), told, side.kind)
+    [record] = divided(side, [np.arange(len(side))], parts, options.workers)
+    return division_of(pd.Series(parts, frame.index, name="part"), record, side.kind)
 
 
 def dip_by(frame: Any, options: Options) -> Division[Any]:
@@ -128,12 +128,12 @@ def dip_by(frame: Any, options: Options) -> Division[Any]:
     codes, firsts = groups.group_codes(side, len(options.by or ()))
     order = np.argsort(codes.codes, kind="stable")
     rows = np.split(order, np.flatnonzero(np.diff(codes.codes[order])) + 1) if len(order) else []
-    parts, told = np.zeros(len(side), np.int64), []
+    parts, records = np.zeros(len(side), np.int64), []
     for batch in batches(rows, split.means_of(options.workers).cap_of([side])):
-        told += divided(side, batch, parts, options.workers)
+        records += divided(side, batch, parts, options.workers)
     index = groups.index_at(frame, options.by or (), firsts[:len(rows)])
-    seconds = np.array([instants.second_of(one[3]) for one in told], np.int64)
-    count = pd.Series([int(one[2]) for one in told], index, dtype="int64", name="count")
+    seconds = np.array([instants.second_of(one[3]) for one in records], np.int64)
+    count = pd.Series([int(one[2]) for one in records], index, dtype="int64", name="count")
     series = pd.Series(parts, frame.index, name="part")
     return Division(series, count, points.series_of(seconds, side.kind, index).rename("instant"))
 
@@ -143,8 +143,8 @@ def batches(rows: Sequence[Ints], cap: int) -> Iterator[List[Ints]]:
     batch: List[Ints] = []
     for one in rows:
         if len(one) > cap:
-            told = f"a group of {len(one):,} rows, and a run takes {cap:,}; a division isn't that of its parts"
-            raise Refused("Full", f"{told}: {OTHERWISE}")
+            reason = f"a group of {len(one):,} rows, but a run takes {cap:,}, and a division can't be made in batches"
+            raise Refused("Full", f"{reason}: {OTHERWISE}")
         if len(batch) == TABLES or sum(map(len, batch)) + len(one) > cap:
             yield batch
             batch = []
@@ -168,13 +168,13 @@ def divided(side: Side, batch: Sequence[Ints], parts: Ints, workers: int) -> Lis
 
 def part_of(command: script.Command, output: Output, rows: Side, parts: Ints) -> Sequence[str]:
     """The record that begins a division, whose parts are written at the rows' places."""
-    told = output.record()
-    if told[0] != "dip":
-        raise ask.refusal(command, told)
+    record = output.record()
+    if record[0] != "dip":
+        raise ask.refusal(command, record)
     with reading():
-        for part in range(int(told[2])):
+        for part in range(int(record[2])):
             parts[rows.places[ask.rows_of(rows, ids_of(output))]] = part
-    return told
+    return record
 
 
 def ids_of(output: Output) -> Ints:
@@ -182,9 +182,9 @@ def ids_of(output: Output) -> Ints:
     return np.array(output.record()[2:], np.int64)
 
 
-def division_of(parts: Any, told: Sequence[str], kind: Kind) -> Division[Any]:
+def division_of(parts: Any, record: Sequence[str], kind: Kind) -> Division[Any]:
     """Of the record that begins an answer to `dip`, for rows whose points are of this kind."""
-    return Division(parts, int(told[2]), instant_of(told[3], kind))
+    return Division(parts, int(record[2]), instant_of(record[3], kind))
 
 
 def instant_of(text: str, kind: Kind) -> Optional[Any]:

@@ -44,7 +44,7 @@ class Verdict:
     commit 2: 2 added, 0 closed
     >>> division = store.dip("stay")
     >>> store.check("stay", division)
-    Yes: no two rows of a part overlap, and fewer parts than 2 can't do: on 2024-01-03 as many rows hold.
+    Yes: no two rows of a part overlap, and fewer parts than 2 aren't enough: 2 rows hold on 2024-01-03.
     >>> store.check("stay", division.parts.assign(part=0), count=1, instant="2024-01-01")
     No: rows 1 and 2 are in one part, and overlap.
     """
@@ -82,8 +82,8 @@ def check(asked: Asked, name: str, parts: Any, count: Any, instant: Any) -> Verd
         parts = parts.parts
     lists = lists_of(parts)
     if count is None:
-        wanted = "how many parts there are, and when as many rows hold"
-        raise Refused("BadCommand", f"count= and instant= are wanted: {wanted}")
+        wanted = "how many parts there are, and a point at which as many rows hold"
+        raise Refused("BadCommand", f"give count= and instant=: {wanted}")
     point = "-" if instant is None else instants.text_of(instant)
     claimed = checks.whole("count", count, 0)
     fields = ["check", name, str(claimed), point]
@@ -95,17 +95,17 @@ def check(asked: Asked, name: str, parts: Any, count: Any, instant: Any) -> Verd
 def lists_of(parts: Any) -> List[Ints]:
     """The ids of each part, by parts. Raises Refused where it is no frame of parts and ids."""
     if not isinstance(parts, pd.DataFrame):
-        wanted = "what Store.dip gives, or a frame of part and row_id, is wanted; ruzgalt.dip has labels, and no ids"
+        wanted = "must be what Store.dip gives, or a frame of part and row_id; ruzgalt.dip has labels, not ids"
         raise checks.wrong("parts", parts, wanted)
     part, row_id = (column_of(parts, name) for name in COLUMNS)
     if not len(parts):
         return []
     if not pd.api.types.is_integer_dtype(row_id.dtype):
-        raise Refused("WrongKind", f"{row_id.dtype}: ids are whole numbers, as Store.dip has them", "row_id")
+        raise Refused("WrongKind", f"{row_id.dtype}: ids must be whole numbers, as Store.dip has them", "row_id")
     ids = values.ints_of(row_id)
-    refuse(ids < 0, row_id, "BadNumber", "ids are numbers from 1 on")
+    refuse(ids < 0, row_id, "BadNumber", "ids must be numbers from 1 on")
     if pd.api.types.is_float_dtype(part.dtype):
-        raise Refused("WrongKind", f"{part.dtype}: parts are texts or whole numbers; .astype('Int64')", "part")
+        raise Refused("WrongKind", f"{part.dtype}: parts must be texts or whole numbers; .astype('Int64')", "part")
     ranks, _ = classes.numbered([values.values_of(part)], sort=True)
     order = np.argsort(ranks, kind="stable")
     return np.split(ids[order], np.flatnonzero(np.diff(ranks[order])) + 1)

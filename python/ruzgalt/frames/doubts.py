@@ -23,35 +23,35 @@ MOST_TEXTS, MOST_ROWS = 20_000, 4_000
 # Ends from the one on and before the other are those that files are doubted for (loading/dates.is_far_off).
 FAR, FARTHEST = map(instants.second_of, ("2099-01-01", "9999-01-01"))
 REMEDY = (
-    "but for spaces, capitals, zeros in front, or .0 behind they are equal: "
+    "they differ only in spaces, capitals, zeros in front, or .0 at the end: "
     ".str.strip(), .str.lower(), .str.lstrip('0'), .str.removesuffix('.0')"
 )
 
 
 def of_decimals(decimals: Mapping[Any, int], *frames: Any) -> None:
-    """Tells of decimals of no column."""
+    """Warns of decimals of no column."""
     there = list(dict.fromkeys(name for frame in frames for name in names_of(frame)))
     for name in decimals:
         if same(name) not in there:
-            doubt(f"decimals= has {name!r}, which is no column; there are {there}")
+            doubt(f"decimals= has {name!r}, which isn't a column; the columns are {there}")
 
 
 def of_no_columns(left: Iterable[Any], right: Collection[Any]) -> None:
-    """Tells of frames that aren't compared, and have one column in common, of these names."""
+    """Warns of frames that aren't compared, and have one column in common, of these names."""
     both = [name for name in left if name in right]
     if len(both) == 1:
         # As on= alone None is none, and a tuple several.
-        told = repr([both[0]] if both[0] is None or isinstance(both[0], tuple) else both[0])
-        doubt(f"both frames have {both[0]!r}, which isn't compared: on={told} does it, on=[] says that none is")
+        names = repr([both[0]] if both[0] is None or isinstance(both[0], tuple) else both[0])
+        doubt(f"both frames have {both[0]!r}, which isn't compared: give on={names} to compare it, or on=[] for none")
 
 
 def of_keys(left: Sequence[Values], right: Sequence[Values]) -> None:
-    """Tells of texts of both sides that meet no equal one, and one that looks like them."""
+    """Warns of texts of both sides that meet no equal one, and one that looks like them."""
     for one, other in zip(left, right):
         if one.kind == other.kind == "text":
             found = strangers(one.texts.cells, other.texts.cells)
             if found:
-                more = f", and so of {len(found) - 1} more" if len(found) > 1 else ""
+                more = f", nor do {len(found) - 1} more" if len(found) > 1 else ""
                 doubt(f"{one.name!r} has {found[0][0]!r} and {found[0][1]!r}, which don't meet{more}; {REMEDY}")
 
 
@@ -66,7 +66,7 @@ def alike(texts: Sequence[str], there: Set[str], others: Sequence[str]) -> List[
     """The texts that aren't there among the others, each with one of these that looks like it."""
     alone = [text for text in texts[:MOST_TEXTS] if text not in there]
     folds = {fold(text): text for text in others[:MOST_TEXTS]} if alone else {}
-    return [(text, folds[told]) for text, told in zip(alone, map(fold, alone)) if told in folds]
+    return [(text, folds[folded]) for text, folded in zip(alone, map(fold, alone)) if folded in folds]
 
 
 def of_no_value(name: Any, *sides: Sequence[str]) -> None:
@@ -75,11 +75,11 @@ def of_no_value(name: Any, *sides: Sequence[str]) -> None:
     found = next((text for text in texts if all(text in side for side in sides)), None)
     if found is not None:
         remedy = f".dropna(subset=[{name!r}]) before .astype(str) leaves such rows out"
-        doubt(f"{name!r} has {found!r}, which other programs write for no value, and rows of it are equal; {remedy}")
+        doubt(f"{name!r} has {found!r}, which other programs write for no value, and rows with it are equal; {remedy}")
 
 
 def of_groups(columns: Iterable[Values]) -> None:
-    """Tells of groups of texts that look alike, and of a text that stands for no value elsewhere."""
+    """Warns of groups of texts that look alike, and of a text that stands for no value elsewhere."""
     for column in columns:
         of_no_value(column.name, column.texts.cells)
         seen = LookAlikes()
@@ -100,12 +100,12 @@ class RowEnds(Ends):
 
     def remedy(self) -> str:
         if self.is_last_day:
-            return "last_day=True takes it for the last day of a row; without it, the day before is the last"
-        return "a row doesn't hold on that day any more; last_day=True takes it for the last one"
+            return "last_day=True reads it as the last day of a row; without it, the day before is the last"
+        return "a row no longer holds on that day; last_day=True reads it as the last one"
 
 
 def of_ends(side: Side, key: Sequence[Values], name: Any, is_last_day: bool) -> None:
-    """Tells of ends that look like last days where they aren't taken for such, or the other way round."""
+    """Warns of ends that look like last days where they aren't taken for such, or the other way round."""
     if side.kind.is_long or side.has_intervals:
         return
     walls = walls_of(side.end, side)
@@ -124,8 +124,8 @@ def of_ends(side: Side, key: Sequence[Values], name: Any, is_last_day: bool) -> 
     ends = RowEnds(str(name), ", ".join(str(column.name) for column in key), is_last_day)
     labels = list(side.labels[rows])
     ends.add(labels, keys.tolist(), points.texts_of(start), points.texts_of(end))
-    for told in ends.notes():
-        doubt(told)
+    for note in ends.notes():
+        doubt(note)
 
 
 def walls_of(seconds: Ints, side: Side) -> Ints:
@@ -141,15 +141,15 @@ def of_last_minutes(end: Ints, name: Any) -> None:
     """Warns of an end in the last minute of a day, as those have it who take an end for the last point."""
     late = end[(end % zones.DAY >= zones.DAY - 60) & (end < points.NO_END)]
     if len(late):
-        told = "a row doesn't hold at its end, and a day ends at the next one's midnight"
-        doubt(f"{name} is {points.text_of(int(late[0]))}: {told}; .dt.ceil('D') makes it that")
+        reason = "a row doesn't hold at its end, and a day ends at the next one's midnight"
+        doubt(f"{name} is {points.text_of(int(late[0]))}: {reason}; .dt.ceil('D') makes it so")
 
 
 def of_far_ends(end: Ints, name: Any) -> None:
     """Warns of an end that is far off, as databases have it for no end."""
     far = end[(end >= FAR) & (end < FARTHEST)]
     if len(far):
-        remedy = "where no end is known, a missing one with open_end=True says so"
+        remedy = "if its end isn't known, leave it missing, with open_end=True"
         doubt(f"{name} is {points.text_of(int(far[0]))}: a row ends there; {remedy}")
 
 

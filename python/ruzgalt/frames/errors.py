@@ -37,7 +37,7 @@ class Refused(ValueError):
     ...     ruzgalt.dip(pay)
     ... except ruzgalt.Refused as refused:
     ...     print(refused.name, refused.column, refused.label, refused.reason, sep=" | ")
-    BadPoint | to | Ada | no point; open_end=True takes a missing end for 9999-12-31
+    BadPoint | to | Ada | no date or time is given; open_end=True reads a missing end as 9999-12-31
     """
 
     def __init__(self, name: str, reason: str, column: Any = None, label: Any = None) -> None:
@@ -46,8 +46,8 @@ class Refused(ValueError):
         self.name, self.reason, self.column, self.label = name, reason, column, label
 
     def __str__(self) -> str:
-        told = [("column", self.column), ("row", self.label)]
-        place = ", ".join(f"{word} {value!r}" for word, value in told if value is not None)
+        named = [("column", self.column), ("row", self.label)]
+        place = ", ".join(f"{word} {value!r}" for word, value in named if value is not None)
         return f"{self.name}: {place + ': ' if place else ''}{self.reason}"
 
 
@@ -64,7 +64,7 @@ class Stopped(RuntimeError):
 
 
 class OutOfMemory(Stopped):
-    """The program ended for want of memory: with fewer rows it may not. Callers see a Stopped."""
+    """The program ran out of memory: with fewer rows it may not. Callers see a Stopped."""
 
 
 class Doubt(UserWarning):
@@ -85,13 +85,13 @@ class Doubt(UserWarning):
     """
 
 
-def doubt(told: str) -> None:
+def doubt(reason: str) -> None:
     """Warns of the line that called this package. A warning stands on the terminal where progress does."""
     progress.take_away()
     level, frame = 1, inspect.currentframe()
     while frame is not None and frame.f_code.co_filename.startswith(OURS):
         level, frame = level + 1, frame.f_back
-    warnings.warn(told, Doubt, stacklevel=level)
+    warnings.warn(reason, Doubt, stacklevel=level)
 
 
 def label_at(marked: Marks, index: Any) -> Optional[Any]:

@@ -18,28 +18,28 @@ from ruzgalt.script import forms
 def column_of(point: Any) -> Any:
     """A Series of the point alone. Raises Refused (BadPoint, WrongKind)."""
     if isinstance(point, str):
-        told = forms.read_point(point)
-        if told is None:
+        read = forms.read_point(point)
+        if read is None:
             raise Refused("BadPoint", f"{point!r}: {REMEDIES['BadPoint']}")
-        return pd.Series([told], dtype=object)
+        return pd.Series([read], dtype=object)
     if not pd.api.types.is_scalar(point):
-        raise Refused("WrongKind", f"{checks.shown(point)} is no point: {REMEDIES['BadPoint']}")
+        raise Refused("WrongKind", f"{checks.shown(point)}: {REMEDIES['BadPoint']}")
     if pd.isna(point):
-        raise Refused("BadPoint", f"{point!r} is no point: {REMEDIES['BadPoint']}")
+        raise Refused("BadPoint", f"{point!r}: {REMEDIES['BadPoint']}")
     if isinstance(point, np.datetime64):
         point = datetime_of(point)
     if isinstance(point, pd.Period) and points.kind_of_period(pd.PeriodDtype(point.freq)).is_long:
-        raise Refused("WrongKind", f"{point!r} is no point, but has many days: .asfreq('D', 'start') is the first")
+        raise Refused("WrongKind", f"{point!r} isn't a date or time: .asfreq('D', 'start') is its first day")
     # Objects for dates, datetimes and Timestamps; pandas finds the dtype of a Period itself.
     return pd.Series([point], dtype=object if isinstance(point, datetime.date) else None)
 
 
 def datetime_of(point: Any) -> datetime.datetime:
     """The datetime that a datetime64 is, which pandas takes to nanoseconds, so not all years."""
-    told = point.astype("M8[s]")
-    found = told.item()
-    if told != point or not isinstance(found, datetime.datetime):
-        raise Refused("BadPoint", f"{point!r} has a fraction of a second, or is outside of the years 0001 to 9999")
+    cut = point.astype("M8[s]")
+    found = cut.item()
+    if cut != point or not isinstance(found, datetime.datetime):
+        raise Refused("BadPoint", f"{point!r} has a fraction of a second, or is outside the years 0001 to 9999")
     return found
 
 
@@ -60,7 +60,7 @@ def second_in(point: Any, zone: Any) -> int:
     if own is None:
         return second_of(point) if zone is None else second_shown(second_of(point), point, zone)
     if zone is None:
-        raise Refused("WrongKind", f"{point!r}: points here have no time zone; .tz_localize(None) takes its zone away")
+        raise Refused("WrongKind", f"{point!r}: dates and times here have no time zone; .tz_localize(None) removes it")
     return second_of(pd.Timestamp(point).tz_convert(None))
 
 
@@ -72,7 +72,7 @@ def second_shown(wall: int, point: Any, zone: Any) -> int:
     found = near[zones.walls_of(near, zone) == wall]
     if len(found) != 1:
         times = "never" if not len(found) else "twice"
-        remedy = "a Timestamp with tz= says which is meant"
+        remedy = "give a Timestamp with tz="
         raise Refused("BadPoint", f"{point!r}: clocks in {zone} show it {times}; {remedy}")
     return int(found[0])
 
@@ -82,13 +82,13 @@ def span(start: Any, end: Any, form: Form, zone: Any) -> Tuple[int, int]:
     first = second_in(start, zone)
     behind = points.NO_END if end is None else second_in(end, zone)
     if form.has_last_days:
-        told = np.array([first, *([] if end is None else [behind])], np.int64)
-        if zones.has_time(told, zone).any():
-            raise Refused("BadPoint", f"{start!r} to {end!r}: with last_day=True points are days, without times")
-        behind = behind if end is None else int(zones.days_behind(told[1:], zone)[0])
+        seconds = np.array([first, *([] if end is None else [behind])], np.int64)
+        if zones.has_time(seconds, zone).any():
+            raise Refused("BadPoint", f"{start!r} to {end!r}: with last_day=True, both must be days, without times")
+        behind = behind if end is None else int(zones.days_behind(seconds[1:], zone)[0])
     if first >= behind:
-        last = "the last day" if form.has_last_days else "the first point behind"
-        raise Refused("BadPeriod", f"{start!r} to {end!r}: a start comes before its end, which is {last}")
+        last = "the last day" if form.has_last_days else "the first point after it"
+        raise Refused("BadPeriod", f"{start!r} to {end!r}: a start must be before its end, which is {last}")
     return first, behind
 
 
@@ -96,7 +96,7 @@ def portion(start: Any, end: Any, form: Form) -> Ints:
     """The seconds of a start, and of the first point behind an end as the form has it; None is no end."""
     first = second_of(start)
     if form.has_last_days and first % zones.DAY:
-        raise Refused("BadPoint", f"{start!r}: a start has no time where ends are last days")
+        raise Refused("BadPoint", f"{start!r}: with last_day=True, a start can't have a time")
     if end is None:
         return np.array([first, points.NO_END], np.int64)
     if not form.has_last_days:

@@ -10,7 +10,7 @@ from ruzgalt.frames.kinds import UNITS, Kind
 from ruzgalt.frames.named import column_of, levels_place, names_of, same
 
 # What remedies begin with: a column of intervals by its two sides.
-BY_SIDES = "as two columns, .array.left and .array.right of them, "
+BY_SIDES = "as two columns, their .array.left and .array.right, "
 SIDES = {"right": "the right", "both": "both sides", "neither": "no side"}
 
 
@@ -22,8 +22,8 @@ def are_in(period: Sequence[Any]) -> bool:
 def refuse_spread(*periods: Sequence[Any]) -> None:
     """Raises Refused for intervals of frames of Dask, which moves no rows that have any."""
     for period in filter(are_in, periods):
-        told = "Dask moves no rows with intervals"
-        raise Refused("BadCommand", f"period={period[0]!r}: {told}; {BY_SIDES}a period may be of its frames", period[0])
+        reason = "Dask can't move rows with intervals"
+        raise Refused("BadCommand", f"period={period[0]!r}: {reason}; {BY_SIDES}its frames can have one", period[0])
 
 
 def bounds_of(frame: Any, period: Sequence[Any]) -> Tuple[Any, Any]:
@@ -34,7 +34,7 @@ def bounds_of(frame: Any, period: Sequence[Any]) -> Tuple[Any, Any]:
     column = spans_of(frame, period[0])
     refuse_others(column)
     remedy = f".dropna(subset=[{column.name!r}]) leaves such rows out"
-    refuse(column.isna().to_numpy(), column, "BadPoint", f"no interval; {remedy}")
+    refuse(column.isna().to_numpy(), column, "BadPoint", f"no interval is given; {remedy}")
     left, right = (pd.Series(one, frame.index, name=column.name) for one in (column.array.left, column.array.right))
     return left, right
 
@@ -55,15 +55,15 @@ def refuse_others(column: Any) -> None:
     """Raises Refused where the column isn't of intervals that are closed on the left alone."""
     dtype = column.dtype
     if not isinstance(dtype, pd.IntervalDtype):
-        remedy = "pandas.arrays.IntervalArray(..) makes some of objects; period=('from', 'to') names two columns"
-        raise Refused("WrongKind", f"{dtype}: a period of one column is of intervals; {remedy}", column.name)
+        remedy = "pandas.arrays.IntervalArray(..) makes them of objects; period=('from', 'to') names two columns"
+        raise Refused("WrongKind", f"{dtype}: a period of one column must be of intervals; {remedy}", column.name)
     closed = column.array.closed
     if closed != "left":
-        remedy = ".array.set_closed('left') takes a start as in it, an end as the first point behind it"
+        remedy = ".array.set_closed('left') makes a start the first point, and an end the first point after it"
         if closed == "both":
-            remedy += f"; {BY_SIDES}last_day=True takes an end as the last day"
-        told = f"intervals closed on {SIDES[closed]}: periods are closed on the left; {remedy}"
-        raise Refused("WrongKind", told, column.name)
+            remedy += f"; {BY_SIDES}last_day=True reads an end as the last day"
+        reason = f"intervals closed on {SIDES[closed]}: they must be closed on the left; {remedy}"
+        raise Refused("WrongKind", reason, column.name)
 
 
 def kind_of(asked: Optional[str], joint: Kind, first: Kind) -> Kind:
@@ -71,7 +71,7 @@ def kind_of(asked: Optional[str], joint: Kind, first: Kind) -> Kind:
     if asked is None:
         return next((kind for kind in (joint, first) if kind.name in UNITS), Kind("ns", first.zone))
     if asked not in UNITS:
-        raise Refused("BadCommand", f"points_as={asked!r}: points of intervals come as one of {', '.join(UNITS)}")
+        raise Refused("BadCommand", f"points_as={asked!r}: for intervals it must be one of {', '.join(UNITS)}")
     return Kind(asked, first.zone)
 
 

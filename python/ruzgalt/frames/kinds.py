@@ -44,8 +44,8 @@ class Kind:
     def asked_as(self, name: str) -> Kind:
         """The kind of this name in the same zone. Raises Refused, since no other kind has a zone than datetime64."""
         if self.zone is not None and name not in UNITS:
-            told = f"points_as={name!r}: points in {self.zone} come as one of {', '.join(UNITS)}"
-            raise Refused("WrongKind", f"{told}; {WITHOUT_ZONE} takes the zone away before")
+            reason = f"points_as={name!r}: for points in {self.zone} it must be one of {', '.join(UNITS)}"
+            raise Refused("WrongKind", f"{reason}; {WITHOUT_ZONE} removes the zone before")
         return Kind(name, self.zone)
 
 
@@ -59,8 +59,8 @@ def refuse_two_zones(one: Kind, other: Kind, name: Any) -> None:
     """
     zones = [str(kind.zone or "no zone") for kind in (one, other)]
     if one.name and other.name and zones[0] != zones[1]:
-        told = f"points in {zones[1]} beside points in {zones[0]}: one zone, or none, in a call"
-        raise Refused("WrongKind", f"{told}; .dt.tz_convert(ZONE) of both, or {WITHOUT_ZONE} of both", name)
+        reason = f"points in {zones[1]} beside points in {zones[0]}: all of a call must be in one zone, or in none"
+        raise Refused("WrongKind", f"{reason}; .dt.tz_convert(ZONE) of both, or {WITHOUT_ZONE} of both", name)
 
 
 def joint_kind(*kinds: Kind) -> Kind:
@@ -72,9 +72,9 @@ def joint_kind(*kinds: Kind) -> Kind:
     return Kind(joint_name({kind.name for kind in there}), there[0].zone)
 
 
-def joint_name(told: Set[str]) -> str:
-    if len(told) == 1:
-        return "".join(told)
-    if told <= set(UNITS):
-        return max(told, key=list(UNITS).index)
-    return "datetime" if told == {"date", "datetime"} else "S"
+def joint_name(names: Set[str]) -> str:
+    if len(names) == 1:
+        return "".join(names)
+    if names <= set(UNITS):
+        return max(names, key=list(UNITS).index)
+    return "datetime" if names == {"date", "datetime"} else "S"

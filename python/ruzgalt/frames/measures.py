@@ -66,25 +66,26 @@ def of_call(function: Any, column: Any) -> List[Measure]:
         refuse_call(function, column)
         return [Measure(function, same(column), column is not None)]
     if column is not None:
-        raise checks.wrong("column", column, "a dict has columns of its own: agg(frame, {'cents': ['sum', 'max']})")
-    named = [(same(checks.name("column", name)), told) for name, told in function.items()]
-    found = [Measure(one, name) for name, told in named for one in functions(told)]
+        wanted = "can't be given with a dict, which has columns: agg(frame, {'cents': ['sum', 'max']})"
+        raise checks.wrong("column", column, wanted)
+    named = [(same(checks.name("column", name)), several) for name, several in function.items()]
+    found = [Measure(one, name) for name, several in named for one in functions(several)]
     if not found or len(set(found)) < len(found):
-        raise checks.wrong("function", function, "columns with functions are wanted, each once")
+        raise checks.wrong("function", function, "must be columns with functions, each once")
     return found
 
 
-def functions(told: Any) -> List[str]:
-    several = told if isinstance(told, (list, tuple)) else [told]
+def functions(given: Any) -> List[str]:
+    several = given if isinstance(given, (list, tuple)) else [given]
     return [checks.one_of("function", one, FUNCTIONS) for one in several]
 
 
 def refuse_call(function: Any, column: Any) -> None:
     checks.one_of("function", function, FUNCTIONS)
     if function == "count" and column is not None:
-        raise checks.wrong("column", column, "a count is of rows: agg(frame, 'count')")
+        raise checks.wrong("column", column, "a count is of rows, and takes no column: agg(frame, 'count')")
     if function != "count" and column is None:
-        raise Refused("BadCommand", f"{function} is of a column: agg(frame, {function!r}, COLUMN)")
+        raise Refused("BadCommand", f"{function} needs a column: agg(frame, {function!r}, COLUMN)")
     if column is not None:
         checks.name("column", column)
 
@@ -98,8 +99,8 @@ def refuse_texts(measures: Measures, columns: Mapping[Any, Values]) -> None:
     for one in measures:
         for name in one.amount:
             if columns[name].kind != "int":
-                told = f"{one.function} is of numbers, and these are texts; by= takes texts"
-                raise Refused("WrongKind", told, columns[name].name)
+                reason = f"{one.function} needs numbers, but these are texts; give texts by by="
+                raise Refused("WrongKind", reason, columns[name].name)
 
 
 def asks_of(measures: Measures) -> List[Ask]:
@@ -119,8 +120,8 @@ def measured(side: Side, columns: Mapping[Any, Values], measures: Measures, work
 def measured_by(answer: Callable[[Ask], Found], measures: Measures) -> Found:
     """The same of the program's answers. A mean is two values: a sum and a count, in lowest terms."""
     found: Dict[Ask, Found] = {asked: answer(asked) for asked in asks_of(measures)}
-    start, end, group, *told = cut_at_all(list(found.values()))
-    there = dict(zip(found, told))
+    start, end, group, *columns = cut_at_all(list(found.values()))
+    there = dict(zip(found, columns))
     values = [value for one in measures for value in in_lowest_terms(*(there[asked] for asked in one.asks))]
     return (start, end, group, *values) if len(found) == 1 else closed_up((start, end, group, *values))
 
@@ -177,22 +178,22 @@ def held_at(begins: Ints, count: int) -> Ints:
 
 def closed_up(found: Found) -> Found:
     """One row in place of several that follow one another, and differ in their periods alone."""
-    start, end, *told = found
+    start, end, *columns = found
     is_new = np.ones(len(start), bool)
     is_new[1:] = start[1:] != end[:-1]
-    for column in told:
+    for column in columns:
         is_new[1:] |= np.asarray(column[1:] != column[:-1], bool)
     firsts = np.flatnonzero(is_new)
     lasts = np.append(firsts, len(start))[1:] - 1
-    return (start[firsts], end[lasts], *(column[firsts] for column in told))
+    return (start[firsts], end[lasts], *(column[firsts] for column in columns))
 
 
 def columns_of(values: Sequence[Cells], measures: Measures, columns: Mapping[Any, Values],
                mean_as: str) -> List[Column]:
     """The values as columns of an answer."""
     left = iter(values)
-    told = [(one, [next(left) for _ in one.asks]) for one in measures]
-    return [(one.name, restored(own, one, columns, mean_as)) for one, own in told if one != HELD]
+    pairs = [(one, [next(left) for _ in one.asks]) for one in measures]
+    return [(one.name, restored(own, one, columns, mean_as)) for one, own in pairs if one != HELD]
 
 
 def restored(value: Sequence[Cells], measure: Measure, columns: Mapping[Any, Values], mean_as: str) -> Any:

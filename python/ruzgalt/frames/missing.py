@@ -56,8 +56,8 @@ def refuse_rounded(column: Any, rows: Ints, dtype: Any) -> None:
         return
     is_rounded = rounded(column.to_numpy()[rows])
     if is_rounded.any():
-        told = f"a missing cell beside it makes floats, of {BITS} bits, which don't hold it; .astype('Int64') has both"
-        raise Refused("BadNumber", told, column.name, label_at(is_rounded, column.index[rows]))
+        reason = f"a missing cell beside it makes floats, whose {BITS} bits can't hold it; .astype('Int64') can"
+        raise Refused("BadNumber", reason, column.name, label_at(is_rounded, column.index[rows]))
 
 
 def rounded(numbers: Any) -> Marks:

@@ -20,13 +20,13 @@ def names_of(frame: Any) -> List[Any]:
 
 def place_of(frame: Any, name: Any) -> int:
     """Where the column of this name stands. Raises Refused (NoColumn)."""
-    told, wanted = names_of(frame), same(name)
-    places = {one: place for place, one in enumerate(told)}
+    there, wanted = names_of(frame), same(name)
+    places = {one: place for place, one in enumerate(there)}
     if wanted not in places:
-        remedy = "; it is of the index, and .reset_index() makes it a column" if wanted in frame.index.names else ""
-        raise Refused("NoColumn", f"no such column; there are {told}{remedy}", name)
-    if wanted in naming.twice(told):
-        raise Refused("NoColumn", "several columns have this name; .rename(columns=..)", name)
+        remedy = "; it is in the index, and .reset_index() makes it a column" if wanted in frame.index.names else ""
+        raise Refused("NoColumn", f"no such column; the columns are {there}{remedy}", name)
+    if wanted in naming.twice(there):
+        raise Refused("NoColumn", "several columns have this name; .rename(columns=..) them", name)
     return places[wanted]
 
 
@@ -45,7 +45,7 @@ def with_levels(frame: Any, names: Sequence[Any]) -> Any:
     for name in found:
         if name in columns or name in naming.twice(levels):
             remedy = ".rename_axis(..) gives levels other names, .reset_index(drop=True) drops them"
-            raise Refused("NoColumn", f"of several columns and levels of the index: {remedy}", name)
+            raise Refused("NoColumn", f"several columns or levels of the index have this name: {remedy}", name)
     # A name of several parts is of columns alone.
     if not found or frame.columns.nlevels > 1:
         return frame
@@ -61,4 +61,4 @@ def levels_place(frame: Any, name: Any) -> int:
 
 def refuse_twice(frame: Any) -> None:
     for name in naming.twice(names_of(frame)):
-        raise Refused("TwiceNamed", "two columns of the frame have this name: .rename(columns=..)", name)
+        raise Refused("TwiceNamed", "two columns of the frame have this name: .rename(columns=..) one", name)

@@ -67,7 +67,7 @@ def answers_of(data: bytes, workers: int) -> List[Answer]:
 def bytes_of(given: Given) -> bytes:
     if isinstance(given, bytes):
         return given
-    wanted = "bytes of a script are wanted, or the path of the file that has it"
+    wanted = "must be the bytes of a script, or the path of its file"
     if not isinstance(given, (str, os.PathLike)):
         raise checks.wrong("script", given, wanted)
     try:
@@ -94,23 +94,24 @@ def command_of(answer: Answer) -> Command:
 def refuse_options(options: Any, schemas: Mapping[str, Schema]) -> None:
     """Raises Refused where options are no dict of dicts, or there is no such table."""
     if not isinstance(options, Mapping) or not all(isinstance(one, Mapping) for one in options.values()):
-        raise checks.wrong("options", options, "a dict of tables, each with a dict, as {'pay': {'open_end': True}}")
+        wanted = "must be a dict of tables, each with a dict, such as {'pay': {'open_end': True}}"
+        raise checks.wrong("options", options, wanted)
     for name in options:
         if name not in schemas:
-            raise Refused("NoTable", f"options= has {name!r}, and the script's tables are {', '.join(schemas)}")
+            raise Refused("NoTable", f"options= has {name!r}, but the script's tables are {', '.join(schemas)}")
 
 
 def table_of(schema: Schema, given: Mapping[str, Any]) -> Table:
     """A table of the script, by what is given of its frames. Raises Refused where it has no such columns."""
     of_frames = {option: value for option, value in given.items() if option != "names"}
     if not set(of_frames) <= set(OF_TABLE):
-        raise checks.wrong("options", given, f"of a table these can be given: {', '.join([*OF_TABLE, 'names'])}")
+        raise checks.wrong("options", given, f"the options of a table are {', '.join([*OF_TABLE, 'names'])}")
     options = options_of(**of_frames)
     names = names_of(schema, given["names"])
     kinds = dict(zip(names, (column.kind for column in schema.columns)))
     for name in options.decimals:
         if kinds.get(name) is not Kind.INT:
-            raise Refused("NoColumn", f"decimals= is of columns of numbers; {schema.name} has no such one", name)
+            raise Refused("NoColumn", f"decimals= needs a column of numbers; {schema.name} has none of this name", name)
     columns = {name: column_of(name, kind, options.decimals.get(name)) for name, kind in kinds.items()}
     key = [names[place] for place in schema.key]
     made = Table(schema.name, columns, key, options, dict(zip(names, schema.names)))
@@ -121,10 +122,10 @@ def table_of(schema: Schema, given: Mapping[str, Any]) -> Table:
 def names_of(schema: Schema, given: Any) -> List[Any]:
     """The names that the columns have in frames, of names= by those in the script. Raises Refused."""
     if not isinstance(given, Mapping) or not all(map(checks.is_name, given.values())):
-        raise checks.wrong("names", given, "a dict of the script's columns with their names in frames is wanted")
+        raise checks.wrong("names", given, "must be a dict of the script's columns with their names in frames")
     for word in given:
         if word not in schema.names:
-            reason = f"names= is of columns of the script, and {schema.name} has {listed(schema.names)}"
+            reason = f"names= has it, but the columns of {schema.name} in the script are {listed(schema.names)}"
             raise Refused("NoColumn", reason, word)
     names = [same(given.get(word, word)) for word in schema.names]
     for name in naming.twice(names):
@@ -142,7 +143,7 @@ def filled(book: Book) -> Book:
     asked = [script.command("between", name, "0", str(len(book.commands))) for name in book.tables]
     output = ask.output_of([*book.commands, LOG, *asked], book.workers)
     if ask.first_refused(output, book.commands):
-        raise Stopped("the program refuses a change that it took before")
+        raise Stopped("the program refuses a change that it accepted before")
     counts = counts_of(output)
     made, loads = {}, dict(enumerate(book.commands, 1))
     for name, table in book.tables.items():
@@ -158,7 +159,8 @@ def with_points(table: Table, cells: Sequence[Cells]) -> Table:
     start, end = cells[1:3]
     has_time = not points.has_all(kinds.Kind("D"), np.concatenate([start, end]))
     if has_time and table.form.has_last_days:
-        raise Refused("BadPoint", f"{table.name} has points with times, so its ends are no last days: no last_day=True")
+        reason = f"{table.name} has points with times, so its ends can't be last days: leave out last_day=True"
+        raise Refused("BadPoint", reason)
     side = Side(start, end, kind=kinds.Kind("S" if has_time else "D"))
     return table.with_rows(side) if len(start) else table
 

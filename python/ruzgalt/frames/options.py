@@ -116,7 +116,7 @@ def one_sided(option: str, given: Any) -> OneSided:
     if isinstance(given, str) and given in SIDES:
         return "left" if given == "left" else "right"
     if not checks.is_flag(given):
-        raise checks.wrong(option, given, "True or False is wanted, or 'left' or 'right' for the frame of which it is")
+        raise checks.wrong(option, given, "must be True or False, or 'left' or 'right' for one frame")
     return bool(given)
 
 
@@ -170,19 +170,19 @@ def refuse_beside_intervals(options: Options) -> None:
     """Raises Refused for options that are of two columns, where a period is one of intervals."""
     for period, form in zip(options.periods, options.forms):
         if form.has_last_days and intervals.are_in(period):
-            told = "last_day=True: intervals that are closed on the left end before their right side"
-            raise Refused("BadCommand", f"{told}; {intervals.BY_SIDES}ends may be last days")
+            reason = "last_day=True can't be given with intervals, which end before their right side"
+            raise Refused("BadCommand", f"{reason}; {intervals.BY_SIDES}ends can be last days")
     if options.open_end and intervals.are_in(options.periods[0]):
-        told = "open_end=True: intervals have no missing end"
-        raise Refused("BadCommand", f"{told}; {intervals.BY_SIDES}ends may be missing")
+        reason = "open_end=True can't be given with intervals, which have no missing end"
+        raise Refused("BadCommand", f"{reason}; {intervals.BY_SIDES}ends can be missing")
 
 
 def compared(on: Names, options: Options) -> Tuple[List[Any], List[Any]]:
     """The compared columns of the left frame and of the right one."""
-    told = checks.names("on", on)
-    if told is not None and (options.left_on, options.right_on) != (None, None):
-        raise Refused("BadCommand", "on= is for columns of one name, left_on= and right_on= for others")
-    left, right = (list(told if told is not None else other or ()) for other in (options.left_on, options.right_on))
+    names = checks.names("on", on)
+    if names is not None and (options.left_on, options.right_on) != (None, None):
+        raise Refused("BadCommand", "on= can't be given with left_on= or right_on=")
+    left, right = (list(names if names is not None else other or ()) for other in (options.left_on, options.right_on))
     if len(left) != len(right):
-        raise Refused("BadCommand", "left_on and right_on are as many columns, each beside its own")
+        raise Refused("BadCommand", "left_on= and right_on= must have as many columns, each beside its own")
     return left, right

@@ -62,8 +62,8 @@ def reading() -> Iterator[None]:
     try:
         yield
     except (IndexError, ValueError, OverflowError) as error:
-        told = "the answers can't be read: is the program dipq, and of this version? The variable DIPQ names it"
-        raise Stopped(f"{told} ({error})") from None
+        reason = "the answers can't be read: is the program that DIPQ names a dipq of this version?"
+        raise Stopped(f"{reason} ({error})") from None
 
 
 class Output:
@@ -91,7 +91,7 @@ class Output:
         parts = [self.part(begin, min(RECORDS, self.place + count - begin), kinds) for begin in steps]
         self.place += count
         if list(self.record()) != ["end", str(count)]:
-            raise Stopped("a list of the answers hasn't the end that it should have")
+            raise Stopped("a list of the answers has the wrong end")
         if not parts:
             return [EMPTY[kind] for kind in kinds if kind in EMPTY]
         return [joined(list(column)) for column in zip(*parts)]
@@ -101,7 +101,7 @@ class Output:
         marks = marks_of(self.data[low:high]) + low
         is_even = len(marks) % many == 0 and (self.data[marks.reshape(many, -1)[:, -1]] == LINE).all()
         if not is_even:
-            raise Stopped("records of one list of the answers have different numbers of fields")
+            raise Stopped("records of a list of the answers have different numbers of fields")
         marks = marks.reshape(many, -1)
         if marks.shape[1] <= len(kinds):
             raise Stopped("records of a list of the answers have too few fields")
@@ -134,10 +134,10 @@ def digits(data: Bytes, start: Ints, stop: Ints) -> Hashes:
         return digits(data, start, cut) * np.uint64(10**8) + digits(data, cut, stop)
     if int(stop.min()) < 8:
         raise IndexError("a number stands before all records")
-    told: Hashes = eights(data)[stop - 8] & LAST[count]
+    numbers: Hashes = eights(data)[stop - 8] & LAST[count]
     for bits, factor, places in STEPS:
-        told = ((told & bits) * factor) >> places
-    return told
+        numbers = ((numbers & bits) * factor) >> places
+    return numbers
 
 
 def long_ints(data: Bytes, start: Ints, stop: Ints) -> Cells:
@@ -166,8 +166,8 @@ def instants(data: Bytes, start: Ints, stop: Ints) -> Cells:
 
 def pairs(words: Hashes) -> Ints:
     """The four numbers of two digits that stand in eight bytes, a row of each."""
-    told: Ints = (words * STEPS[0][1]).view(np.uint8).reshape(-1, 8)[:, 1::2].astype(np.int64)
-    return told
+    numbers: Ints = (words * STEPS[0][1]).view(np.uint8).reshape(-1, 8)[:, 1::2].astype(np.int64)
+    return numbers
 
 
 def texts(data: Bytes, start: Ints, stop: Ints) -> Cells:

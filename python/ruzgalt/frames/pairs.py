@@ -203,8 +203,8 @@ def sides_of(frames: Sequence[Any], on: Names, options: Options) -> List[Side]:
     names = compared(on, options)
     for pair in zip(*([column_of(frame, name) for name in own] for frame, own in zip(frames, names))):
         refuse_float_beside_int(*pair)
-    told = zip(frames, names, options.periods, options.forms)
-    both = [sides.side_of(frame, own, period, form, options.decimals) for frame, own, period, form in told]
+    each = zip(frames, names, options.periods, options.forms)
+    both = [sides.side_of(frame, own, period, form, options.decimals) for frame, own, period, form in each]
     for one, other in zip(both[0].columns, both[1].columns):
         refuse_two_kinds(one, other)
     refuse_two_zones(both[0].kind, both[1].kind, options.periods[1][0])
@@ -215,20 +215,20 @@ def refuse_float_beside_int(one: Any, other: Any) -> None:
     """With decimals for the float alone the integer would be refused, and without them the float."""
     kinds = values.number_kind(one.dtype), values.number_kind(other.dtype)
     if set(kinds) == {"int", "float"}:
-        told = f"it is {one.dtype}, and {other.name!r} of the right frame {other.dtype}"
+        reason = f"it is {one.dtype}, but {other.name!r} of the right frame is {other.dtype}"
         others = f".astype('float64') of both with decimals={{{one.name!r}: 2}} those of two decimals"
-        raise Refused("WrongKind", f"{told}; .astype('Int64') of both takes whole numbers, {others}", one.name)
+        raise Refused("WrongKind", f"{reason}; .astype('Int64') of both takes whole numbers, {others}", one.name)
 
 
 def refuse_two_kinds(one: Values, other: Values) -> None:
     if one.kind != other.kind:
-        told = f"it is {one.kind}, and {other.name!r} of the right frame {other.kind}"
-        remedy = ".astype('int64') makes numbers of texts as '001', .astype(str) texts of numbers"
-        raise Refused("WrongKind", f"{told}; {remedy}", one.name)
+        reason = f"it is {one.kind}, but {other.name!r} of the right frame is {other.kind}"
+        remedy = ".astype('int64') makes numbers of texts such as '001', .astype(str) makes texts of numbers"
+        raise Refused("WrongKind", f"{reason}; {remedy}", one.name)
     if one.digits != other.digits:
         one_has, other_has = ("no" if column.digits is None else column.digits for column in (one, other))
-        told = f"it has {one_has} decimals, and {other.name!r} of the right frame {other_has}"
-        raise Refused("WrongKind", f"{told}; decimals= takes as many of both", one.name)
+        reason = f"it has {one_has} decimals, but {other.name!r} of the right frame has {other_has} decimals"
+        raise Refused("WrongKind", f"{reason}; give both the same decimals=", one.name)
 
 
 def period_of(start: Ints, end: Ints, both: Sequence[Side], options: Options, form: Form,

@@ -63,7 +63,7 @@ def paired(asked: Pairs, left: Any, right: Any, on: Names, options: Options) -> 
     """The answer of each partition; one of the frames may be of pandas."""
     names = compared(on, options)
     if not names[0]:
-        raise Refused("BadCommand", "of frames of Dask without compared columns each row may meet each: on= parts them")
+        raise Refused("BadCommand", "frames of Dask need on=: without it, each row may meet each")
     frames = [with_labels_flat(frame) for frame in (left, right)]
     doubts.of_decimals(options.decimals, *frames)
     metas = [frame._meta if isinstance(frame, dd.DataFrame) else frame.iloc[:0] for frame in frames]
@@ -99,16 +99,16 @@ def parted(frame: Any, asked: Callable[..., Any], *given: Any) -> Any:
         return frame.map_partitions(sent(asked, *given), meta=frame._meta)
 
 
-def grouped(asked: Callable[..., Any], frame: Any, told: Sequence[Any], options: Options) -> Any:
+def grouped(asked: Callable[..., Any], frame: Any, more: Sequence[Any], options: Options) -> Any:
     """What is asked of each group's rows: of a frame of pandas, what else there is, and options."""
     if not options.by:
-        raise Refused("BadCommand", "of a frame of Dask without groups all rows belong together: by= parts them")
+        raise Refused("BadCommand", "a frame of Dask needs by=: without it, all rows belong together")
     doubts.of_decimals(options.decimals, frame)
-    meta = asked(frame._meta, *told, options)
+    meta = asked(frame._meta, *more, options)
     with keeping_objects(meta, frame._meta):
         parts = options.parts or frame.npartitions
         rows = by_value(frame, options.by, options.decimals, parts)
-        each = sent(counted(asked, options, parts), *told, options)
+        each = sent(counted(asked, options, parts), *more, options)
         return rows.map_partitions(each, meta=meta, transform_divisions=False)
 
 
@@ -133,7 +133,7 @@ def refuse_names(frame: Any) -> None:
     """Dask finds no column of the name NaN, and others are added while rows are sent."""
     for name in (PART, LABEL, OF_DASK, np.nan):
         if name in names_of(frame):
-            raise Refused("BadName", "Dask takes no column of this name: .rename(columns=..)", name)
+            raise Refused("BadName", "Dask can't take a column of this name: .rename(columns=..) it", name)
 
 
 def with_part(frame: Any, names: List[Any], decimals: Mapping[Any, int], parts: int) -> Any:

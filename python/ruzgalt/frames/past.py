@@ -34,13 +34,13 @@ def history_of(asked: Asked, name: str, where: Any, commits: range, is_retroacti
     table, days = asked.book.known(name), asked.book.diary.days()
     wanted = condition(table, where)[1:]
     if is_retroactive and not days:
-        raise Refused("NoDay", "retroactive=True: no commit has a day; day= of a change gives one")
+        raise Refused("NoDay", "retroactive=True needs days of commits: give them by day= of changes")
     places = [(table.place(word), value) for word, value in zip(wanted[::2], wanted[1::2])]
     found = list(history.changes_of(schema_of(table), list(versions_of(asked, table, places)), []))
     entered = history.entered_on(days, (commit for commit, _ in found))
     whole = schemas.Table([*OWN, *history.CHANGE], [[str(one), "", entered[one], *change] for one, change in found])
     if wanted and not found:
-        doubt(f"history of {name}: no row ever had what where= has")
+        doubt(f"history of {name}: no row ever had the values of where=")
     if is_retroactive:
         for reason in history.doubts_of(whole, days, len(asked.book.commands)):
             doubt(f"history of {name}: {reason.replace('--retroactive', 'retroactive=True')}")
@@ -84,7 +84,7 @@ def changed(asked: Asked, name: str, commits: Tuple[str, str]) -> Any:
     """What is different between a table's rows of two commits."""
     table, (before, after) = asked.book.known(name), commits
     if int(before) > int(after):
-        doubt(f"changed of {name}: commit {before} is later than {after}: `-` is what the later one has alone")
+        doubt(f"changed of {name}: commit {before} is later than {after}: `-` is what only the later one has")
     output, _ = asked.book.run(*(script.command("rows", name, "asof", commit) for commit in commits))
     blocks = [output.block("-pp" + table.readers) for _ in commits]
     held = [list(rows_of(start, end, cells)) for start, end, *cells in blocks]

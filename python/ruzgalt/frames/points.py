@@ -63,9 +63,9 @@ class Form:
         known = ~self.are_open(seconds)
         refuse_times(seconds, kind, column, known)
         is_last = (seconds == NO_END) & known
-        refuse(is_last, column, "BadPoint", "no day is behind it; open_end=True takes it for no end")
-        told = "behind it is 9999-12-31, which stands for no end: an earlier day"
-        refuse((seconds == LAST_BUT_ONE) & self.is_open, column, "BadPoint", told)
+        refuse(is_last, column, "BadPoint", "there is no day after it; open_end=True reads it as no known end")
+        reason = "the day after it is 9999-12-31, which stands for no known end: give an earlier day"
+        refuse((seconds == LAST_BUT_ONE) & self.is_open, column, "BadPoint", reason)
         seconds[known] = zones.days_behind(seconds[known], kind.zone)
         return seconds, kind
 
@@ -79,8 +79,8 @@ class Form:
         ends = seconds[known]
         with_times = ends[zones.has_time(ends, kind.zone)]
         if len(with_times):
-            told = f"a row ends at {text_of(zones.walls_of(with_times, kind.zone)[0])}, so it has no last day"
-            raise Refused("BadPoint", f"{told}; without last_day=True ends are the first points behind rows")
+            reason = f"a row ends at {text_of(zones.walls_of(with_times, kind.zone)[0])}, so it has no last day"
+            raise Refused("BadPoint", f"{reason}; leave out last_day=True")
         lasts = seconds.copy()
         lasts[known] = zones.days_before(ends, kind.zone)
         return series_of(lasts, kind, index, self.is_open)
@@ -95,8 +95,8 @@ def refuse_times(seconds: Ints, kind: Kind, column: Any, known: Any = slice(None
     """Of the known ones; those left out stand for no point."""
     marked = np.zeros(len(seconds), bool)
     marked[known] = zones.has_time(seconds[known], kind.zone)
-    told = "with last_day=True points are days, and this has a time; .dt.floor('D') drops it"
-    refuse(marked, column, "BadPoint", told)
+    reason = "with last_day=True, points must be days, but this has a time; .dt.floor('D') drops it"
+    refuse(marked, column, "BadPoint", reason)
 
 
 def seconds_of(column: Any, is_open: bool = False) -> Tuple[Ints, Kind]:
@@ -118,8 +118,8 @@ def seconds_of(column: Any, is_open: bool = False) -> Tuple[Ints, Kind]:
     elif dtype == object:
         seconds, kind = of_dates(column)
     else:
-        remedy = "pandas.to_datetime makes points of texts, .dt.to_timestamp() of other periods"
-        raise Refused("WrongKind", f"{dtype} is none of datetime64, period[D], period[S], date; {remedy}", column.name)
+        remedy = "pandas.to_datetime converts texts, .dt.to_timestamp() other periods"
+        raise Refused("WrongKind", f"{dtype} isn't datetime64, period[D], period[S] or date; {remedy}", column.name)
     missing = seconds == NAT
     refuse_missing(missing, is_open, column)
     return np.where(missing, NO_END, seconds), kind
@@ -127,8 +127,8 @@ def seconds_of(column: Any, is_open: bool = False) -> Tuple[Ints, Kind]:
 
 def kind_of_period(dtype: Any) -> Kind:
     """Of pandas 2.2 on, seconds are `s`."""
-    told = str(dtype)[len("period["):-1] if isinstance(dtype, pd.PeriodDtype) else ""
-    return Kind("S" if told == "s" else told)
+    name = str(dtype)[len("period["):-1] if isinstance(dtype, pd.PeriodDtype) else ""
+    return Kind("S" if name == "s" else name)
 
 
 def of_long(column: Any, how: str) -> Tuple[Ints, Kind]:
@@ -142,19 +142,19 @@ def behind_of_long(column: Any, is_open: bool) -> Tuple[Ints, Kind]:
     lasts, kind = of_long(column, "end")
     missing = lasts == NAT
     refuse_missing(missing, is_open, column)
-    told = "behind it is 9999-12-31 or the year 10000: open_end=True takes a missing end for no end"
-    refuse(~missing & (lasts >= NO_END - 1), column, "BadPoint", told)
+    reason = "it ends at 9999-12-31 or later: leave it missing, with open_end=True, if no end is known"
+    refuse(~missing & (lasts >= NO_END - 1), column, "BadPoint", reason)
     return np.where(missing, NO_END, lasts + 1), kind
 
 
 def refuse_missing(missing: Marks, is_open: bool, column: Any) -> None:
     if not is_open:
-        refuse(missing, column, "BadPoint", "no point; open_end=True takes a missing end for 9999-12-31")
+        refuse(missing, column, "BadPoint", "no date or time is given; open_end=True reads a missing end as 9999-12-31")
 
 
 def of_arrow(column: Any) -> Tuple[Ints, Kind]:
-    told = arrow.datetimes_of(column)
-    seconds, kind = of_zone(told) if isinstance(told.dtype, pd.DatetimeTZDtype) else of_datetimes(told)
+    datetimes = arrow.datetimes_of(column)
+    seconds, kind = of_zone(datetimes) if isinstance(datetimes.dtype, pd.DatetimeTZDtype) else of_datetimes(datetimes)
     return seconds, Kind("date" if arrow.is_date(column.dtype) else kind.name, kind.zone, column.dtype)
 
 
@@ -163,8 +163,8 @@ def of_zone(column: Any) -> Tuple[Ints, Kind]:
     seconds, kind = of_datetimes(column.dt.tz_convert(None))
     first, last = ZONED[kind.name == "ns"]
     years = np.where(seconds == NAT, np.int64(0), seconds).view("M8[s]").astype("M8[Y]")
-    told = f"in a time zone points of this dtype are of the years {first} to {last}"
-    refuse((years < np.datetime64(first)) | (years > np.datetime64(last)), column, "BadPoint", told)
+    reason = f"in a time zone, points of this dtype must be in the years {first} to {last}"
+    refuse((years < np.datetime64(first)) | (years > np.datetime64(last)), column, "BadPoint", reason)
     return seconds, Kind(kind.name, column.dtype.tz)
 
 
@@ -187,14 +187,15 @@ def of_periods(column: Any) -> Tuple[Ints, Kind]:
 
 
 def refuse_outside(marked: Marks, column: Any) -> None:
-    refuse(marked, column, "BadPoint", "outside the years 0001 to 9999; a start or end within them")
+    refuse(marked, column, "BadPoint", "outside the years 0001 to 9999")
 
 
 def of_dates(column: Any) -> Tuple[Ints, Kind]:
     """Objects: dates or datetimes. Each that differs is looked at once."""
     inferred = pd.api.types.infer_dtype(column, skipna=True)
     if inferred not in ("date", "datetime", "empty"):
-        raise Refused("WrongKind", f"{inferred} is no date: pandas.to_datetime, or .astype('period[S]')", column.name)
+        reason = f"{inferred} isn't a date: pandas.to_datetime or .astype('period[S]') converts it"
+        raise Refused("WrongKind", reason, column.name)
     codes, found = pd.factorize(np.asarray(column, object))
     kinds = {"datetime" if isinstance(one, datetime.datetime) else "date" for one in found}
     if len(kinds) > 1:
@@ -202,8 +203,8 @@ def of_dates(column: Any) -> Tuple[Ints, Kind]:
     for place, one in enumerate(found):
         if not is_second(one):
             label = label_at(codes == place, column.index)
-            told = f"{one} has a zone or a fraction of a second; .replace drops it, pandas.to_datetime takes one zone"
-            raise Refused("BadPoint", told, column.name, label)
+            reason = f"{one} has a zone or a fraction of a second; .replace drops it, pandas.to_datetime takes one zone"
+            raise Refused("BadPoint", reason, column.name, label)
     table = np.array([second_of(one) for one in found] + [NAT], np.int64)
     return table[codes], Kind("".join(kinds))
 
@@ -236,7 +237,7 @@ def series_of(seconds: Ints, kind: Kind, index: Any = None, is_open: bool = Fals
     name, missing = kind.name, seconds == NO_END if is_open else np.zeros(len(seconds), bool)
     if name in DAYS and (seconds % DAY).any():
         point = texts_of(seconds[seconds % DAY > 0][:1])[0]
-        raise Refused("BadPoint", f"{point} is no day alone: points_as='S' asks for period[S]")
+        raise Refused("BadPoint", f"{point} isn't a day: points_as='S' gives period[S]")
     if kind.arrow is not None:
         cells = datetimes_of(seconds, missing, name if name in UNITS else "s")
         return pd.Series(arrow.points_of(cells, missing, kind.arrow), index)
@@ -260,7 +261,7 @@ def in_zone(cells: Cells, zone: Any, index: Any) -> Any:
         made = pd.Series(cells, index)
     except pd.errors.OutOfBoundsDatetime as error:
         # pandas 1.5 has no other unit than ns.
-        raise Refused("BadPoint", f"{error}: points_as='S' asks for period[S]") from None
+        raise Refused("BadPoint", f"{error}: points_as='S' gives period[S]") from None
     return made if zone is None else made.dt.tz_localize("UTC").dt.tz_convert(zone)
 
 
@@ -268,7 +269,7 @@ def datetimes_of(seconds: Ints, missing: Marks, kind: str) -> Cells:
     outside = (seconds < NS_RANGE[0]) | (seconds > NS_RANGE[1])
     if kind == "ns" and (outside & ~missing).any():
         point = texts_of(seconds[outside & ~missing][:1])[0]
-        raise Refused("BadPoint", f"datetime64[ns] has no {point}: points_as='S' asks for period[S]")
+        raise Refused("BadPoint", f"datetime64[ns] can't hold {point}: points_as='S' gives period[S]")
     numbers = np.where(missing, 0, seconds) * UNITS[kind]
     return np.where(missing, NAT, numbers).view(f"M8[{kind}]")
 
@@ -329,14 +330,14 @@ def table_of_days(days: Ints) -> Cells:
     day = (dates - months).astype(np.int64)
     table = np.empty(len(days), "S4,S6")
     table["f0"], table["f1"] = FOURS[number // 12], MONTH_DAYS[number % 12 * 31 + day]
-    told: Cells = table.view("S10")
-    return told
+    texts: Cells = table.view("S10")
+    return texts
 
 
 def table_of_times(times: Ints) -> Cells:
     """As T08:30:00, of seconds of a day."""
-    told = np.datetime_as_string(times.astype("M8[s]")).astype("S19")
-    return np.frombuffer(told.tobytes(), np.uint8).reshape(-1, 19)[:, 10:].copy().view("S9").ravel()
+    texts = np.datetime_as_string(times.astype("M8[s]")).astype("S19")
+    return np.frombuffer(texts.tobytes(), np.uint8).reshape(-1, 19)[:, 10:].copy().view("S9").ravel()
 
 
 def texts_of(seconds: Ints) -> List[str]:

@@ -42,9 +42,9 @@ def rows_of(fields: Sequence[Union[bytes, Printed]], count: int) -> Iterator[byt
     """So many rows of fields behind one another, some of which all rows share."""
     widths = [len(one) if isinstance(one, bytes) else one.table.itemsize for one in fields]
     whole = np.empty(min(count, CHUNK), ",".join(f"S{width}" for width in widths))
-    told = [(whole[name], one) for name, one in zip(whole.dtype.names or (), fields)]
-    varying = [(column, one) for column, one in told if isinstance(one, Printed)]
-    for column, one in told:
+    columns = [(whole[name], one) for name, one in zip(whole.dtype.names or (), fields)]
+    varying = [(column, one) for column, one in columns if isinstance(one, Printed)]
+    for column, one in columns:
         if isinstance(one, bytes):
             column[:] = one
     is_even = all(one.is_even for _, one in varying)
@@ -71,22 +71,22 @@ def digits_of(numbers: Ints) -> Cells:
     first = np.full(len(left), width - 1, np.uint8)
     for digits in range(1, width):
         first -= left >= np.uint64(10**digits)
-    told = fours_of(left, -(-width // 4))[:, -width:]
+    written = fours_of(left, -(-width // 4))[:, -width:]
     if first.any():
-        told = told * (np.arange(width, dtype=np.uint8) >= first[:, None])
+        written = written * (np.arange(width, dtype=np.uint8) >= first[:, None])
     if is_negative.any():
-        told = np.hstack([np.where(is_negative, np.uint8(ord("-")), np.uint8(0))[:, None], told])
-    return np.ascontiguousarray(told).view(f"S{told.shape[1]}").ravel()
+        written = np.hstack([np.where(is_negative, np.uint8(ord("-")), np.uint8(0))[:, None], written])
+    return np.ascontiguousarray(written).view(f"S{written.shape[1]}").ravel()
 
 
 def fours_of(numbers: Cells, count: int) -> Cells:
     """The last digits of unsigned numbers, four times so many, a row of bytes each."""
     words = FOURS.view(np.uint32)
-    told, left = np.empty((len(numbers), count), np.uint32), numbers
+    written, left = np.empty((len(numbers), count), np.uint32), numbers
     for place in reversed(range(count)):
         left, four = np.divmod(left, np.uint64(10_000))
-        told[:, place] = words[four]
-    return told.view(np.uint8)
+        written[:, place] = words[four]
+    return written.view(np.uint8)
 
 
 def texts_of(fields: List[Printed]) -> List[str]:

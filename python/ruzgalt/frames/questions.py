@@ -48,7 +48,7 @@ def commit(option: str, given: Any, book: Book, is_to_be_there: bool = True) -> 
     if isinstance(given, (str, *diaries.DAYS)) and not pd.isna(given):
         return str(book.diary.commit_of(option, given))
     if not checks.is_whole(given) or given < 0:
-        wanted = f"a commit's number is wanted, here 0 to {newest}, or its label, or a day"
+        wanted = f"must be a commit's number, here 0 to {newest}, or its label, or a day"
         raise Refused("BadNumber", f"{option}={checks.shown(given)}: {wanted}; log() and diary() list the commits")
     if is_to_be_there and given > newest:
         raise Refused("Future", f"{option}={given}: the commits are 0 to {newest}; log() lists them")
@@ -85,7 +85,7 @@ def versions(asked: Asked, word: str, name: str, first: Any, last: Any) -> Any:
     table = asked.book.known(name)
     numbers = [commit(option, one, asked.book, False) for option, one in zip(BOUNDS[word], (first, last))]
     if int(numbers[0]) > int(numbers[1]) or (word == "fromto" and numbers[0] == numbers[1]):
-        raise Refused("BadPeriod", f"{' to '.join(numbers)}: the first commit comes before the last")
+        raise Refused("BadPeriod", f"{' to '.join(numbers)}: the first commit must be before the last")
     cells = asked.block([word, name, *numbers], "ippcc" + table.readers)
     kind = asked.options.kind_of(table.period, table.kind)
     columns = Columns([("row_id", next(cells)), *table.period_cells(cells, kind)])
@@ -117,13 +117,13 @@ def on_of(tables: Sequence[Table], on: Any, options: Options) -> List[str]:
     names = compared(on, options)
     for name in names[0]:
         if isinstance(name, tuple) and name not in tables[0].columns:
-            wanted = "names of columns that both tables have; left_on= and right_on= are for others"
+            wanted = "must be names of columns that both tables have; give others by left_on= and right_on="
             raise checks.wrong("on", on, wanted)
     for pair in zip(*([table.column(name) for name in own] for table, own in zip(tables, names))):
         pairs.refuse_two_kinds(*pair)
     columns = [(table, name) for pair in zip(*names) for table, name in zip(tables, pair)]
     for table, name in columns:
-        table.refuse_missing(name, "would meet that of another row")
+        table.refuse_missing(name, "would match that of another row")
     return ["on", *(table.word(name) for table, name in columns)] if columns else []
 
 
@@ -205,7 +205,7 @@ def history(asked: Asked, name: str, where: Any, bounds: Tuple[AsOf, AsOf], is_r
     limits = zip(("first", "last"), bounds, (0, len(asked.book.commands)))
     first, last = (number(asked, *one) for one in limits)
     if first > last:
-        raise Refused("BadPeriod", f"{first} to {last}: the first commit comes before the last")
+        raise Refused("BadPeriod", f"{first} to {last}: the first commit is after the last")
     flag = checks.flag("retroactive", is_retroactive)
     return past.history_of(asked, name, where, range(first, last + 1), flag)
 

@@ -72,10 +72,10 @@ class Raising:
         Raises
         ------
         Refused
-            Where the table or a column isn't there, an option is none that can be taken, or an amount comes to a number
+            If the table or a column doesn't exist, an option can't be taken, or an amount comes to a number
             of more decimals than the column has, and `round` isn't given.
         Stopped
-            Where the program ended without all answers.
+            If the program ended without all answers.
 
         Warns
         -----

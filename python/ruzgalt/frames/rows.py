@@ -30,7 +30,7 @@ def at(frame: Frame, point: Any, *, period: PeriodNames = PERIOD, open_end: bool
     point : str, date, datetime, Timestamp or Period
         A day is its begin. Where the frame's points have a time zone, one without is what clocks show there.
     period : pair of names, or name, default ("from", "to")
-        The columns of a row's start and of its end, the first point behind it; or one of intervals.
+        The columns of a row's start and of its end, the first point after it; or one of intervals.
     open_end : bool, default False
         A missing end stands for 9999-12-31, and comes back as missing.
     last_day : bool, default False
@@ -44,7 +44,7 @@ def at(frame: Frame, point: Any, *, period: PeriodNames = PERIOD, open_end: bool
     Raises
     ------
     Refused
-        Where the frame, the point or an option is none that can be taken.
+        If the frame, the point or an option can't be taken.
 
     Warns
     -----
@@ -78,7 +78,7 @@ def during(frame: Frame, start: Any, end: Any, *, period: PeriodNames = PERIOD, 
         With `last_day` the end is the last day. None as the end is no end: 9999-12-31. Where the frame's points have a
         time zone, one without is what clocks show there.
     period : pair of names, or name, default ("from", "to")
-        The columns of a row's start and of its end, the first point behind it; or one of intervals.
+        The columns of a row's start and of its end, the first point after it; or one of intervals.
     open_end : bool, default False
         A missing end stands for 9999-12-31, and comes back as missing.
     last_day : bool, default False
@@ -92,7 +92,7 @@ def during(frame: Frame, start: Any, end: Any, *, period: PeriodNames = PERIOD, 
     Raises
     ------
     Refused
-        Where the frame, a point or an option is none that can be taken.
+        If the frame, a point or an option can't be taken.
 
     Warns
     -----

@@ -26,8 +26,8 @@ NO_ANSWER, OUT_OF_MEMORY = 3, "out of memory"
 def refuse_unbuilt(command: str, place: str) -> None:
     """A clone's ./dipq would build the program first, in silence and for many minutes."""
     if which.is_of_clone(command) and not which.is_built():
-        why = "the program isn't built yet, or from other sources than those that are here"
-        raise Stopped(f"{command}{place}: {why}; `{command} </dev/null` does it, in many minutes")
+        why = "the program isn't built from these sources"
+        raise Stopped(f"{command}{place}: {why}; `{command} </dev/null` builds it, in many minutes")
 
 
 def ending_with_us(words: List[str]) -> List[str]:
@@ -61,15 +61,15 @@ def memory_file(name: str) -> int:
 
 def answer(pieces: Iterable[bytes], workers: int) -> Bytes:
     """The answers' bytes. Raises Refused (Full) of a script that is too long, Stopped where a run doesn't end well."""
-    given, told = memory_file("script"), memory_file("answers")
+    given, answers = memory_file("script"), memory_file("answers")
     try:
         write(given, pieces)
-        run(given, told, workers)
-        count = os.fstat(told).st_size
-        return np.frombuffer(mmap.mmap(told, count), np.uint8) if count else np.empty(0, np.uint8)
+        run(given, answers, workers)
+        count = os.fstat(answers).st_size
+        return np.frombuffer(mmap.mmap(answers, count), np.uint8) if count else np.empty(0, np.uint8)
     finally:
         os.close(given)
-        os.close(told)
+        os.close(answers)
 
 
 def write(file: int, pieces: Iterable[bytes]) -> None:
@@ -77,7 +77,7 @@ def write(file: int, pieces: Iterable[bytes]) -> None:
     for part in slices(pieces):
         size += len(part)
         if size > LIMIT:
-            raise Refused("Full", f"the script has more than {LIMIT:,} bytes: fewer rows, fewer columns, shorter texts")
+            raise Refused("Full", f"the script has more than {LIMIT:,} bytes: give fewer rows or shorter texts")
         while len(part):
             part = part[os.write(file, part):]
     os.lseek(file, 0, os.SEEK_SET)
@@ -89,15 +89,15 @@ def slices(pieces: Iterable[bytes]) -> Iterator[memoryview]:
         yield from (view[place:place + SLICE] for place in range(0, len(view), SLICE))
 
 
-def run(given: int, told: int, workers: int) -> None:
+def run(given: int, answers: int, workers: int) -> None:
     command, place = which.program(), worker.place()
     refuse_unbuilt(command, place)
     if shutil.which(command) is None:
         missing = f"{command}{place}: no such program"
-        raise Stopped(f"{missing}; `make install` makes one, and the variable DIPQ names another")
+        raise Stopped(f"{missing}; `make install` installs one, or name one by the variable DIPQ")
     asked = within([*which.words_of(command), "--workers", str(workers)], worker.memory())
     try:
-        ran = subprocess.run(ending_with_us(asked), stdin=given, stdout=told, stderr=subprocess.PIPE)
+        ran = subprocess.run(ending_with_us(asked), stdin=given, stdout=answers, stderr=subprocess.PIPE)
     except OSError as error:
         raise Stopped(f"{command}{place}: {error.strerror}") from None
     if ran.returncode not in (0, 1):

@@ -98,6 +98,6 @@ def side_of(frame: Any, names: Sequence[Any], period: Period, form: Form, decima
 def refuse_empty(marked: Marks, starts: Any, ends: Any) -> None:
     if marked.any():
         place = int(marked.argmax())
-        told = f"it starts at {starts.iloc[place]} and ends at {ends.iloc[place]}"
-        remedy = "an end is the first point behind a row, and last_day=True takes it for the last day"
-        raise Refused("BadPeriod", f"{told}: {remedy}", ends.name, label_at(marked, ends.index))
+        reason = f"it starts at {starts.iloc[place]} and ends at {ends.iloc[place]}"
+        remedy = "an end is the first point after a row; last_day=True reads it as the last day"
+        raise Refused("BadPeriod", f"{reason}: {remedy}", ends.name, label_at(marked, ends.index))

@@ -26,23 +26,23 @@ def cell_of(column: Values, value: Any) -> Cell:
     except Refused as error:
         raise Refused(error.name, error.reason, column.name) from None
     except OverflowError:
-        bounds = f"numbers are of 64 bits, from {values.LEAST} to {values.GREATEST}"
+        bounds = f"numbers have 64 bits, from {values.LEAST} to {values.GREATEST}"
         raise Refused("BadNumber", f"{checks.shown(value)}: {bounds}", column.name) from None
     return int(found.codes[0]) if found.kind == "int" else found.texts.cells[0]
 
 
 def refuse_value(column: Values, value: Any) -> None:
     """Raises Refused where the value is of another type than those of the column."""
-    wanted, remedy = "texts", "str(..) makes one"
+    wanted, remedy = "texts", "str(..) makes a text"
     is_right = isinstance(value, str)
     if column.digits is not None:
-        wanted, remedy = f"numbers of {column.digits} decimals", "decimal.Decimal(..) makes one of a text"
+        wanted, remedy = f"numbers of {column.digits} decimals", "decimal.Decimal(..) makes a number of a text"
         is_right = checks.is_whole(value) or isinstance(value, (float, np.floating, Decimal))
     elif values.is_bool(column.dtype):
-        wanted, remedy = "True and False", "bool(..) makes one of a number"
+        wanted, remedy = "True and False", "bool(..) converts a number"
         is_right = isinstance(value, (bool, np.bool_))
     elif column.kind == "int":
-        wanted, remedy = "whole numbers", f"decimals={{{column.name!r}: 2}}, where the table is made, takes others"
+        wanted, remedy = "whole numbers", f"decimals={{{column.name!r}: 2}}, when the table is made, takes others"
         is_right = checks.is_whole(value)
     if not is_right:
         raise Refused("WrongKind", f"{checks.shown(value)}: the column has {wanted}; {remedy}", column.name)
@@ -62,5 +62,5 @@ def series_of(column: Values, value: Any) -> Any:
     if column.dtype == object:
         return pd.Series([Decimal(int(value)) if checks.is_whole(value) else value], dtype=object, name=column.name)
     if isinstance(value, Decimal) and values.whole_of(value, column.digits) is None:
-        raise Refused("BadNumber", f"{value} is no number of {column.digits} decimals; quantize() makes it one")
+        raise Refused("BadNumber", f"{value} isn't a number of {column.digits} decimals; quantize() makes it one")
     return pd.Series([float(value)], dtype=column.dtype, name=column.name)

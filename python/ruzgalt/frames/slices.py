@@ -75,8 +75,8 @@ def delayed(function: Callable[..., Any], *given: Any) -> Any:
 def cuts_of(frame: Any, asked: Question, parts: int) -> Tuple[Ints, Kind]:
     """Points that part the rows into slices of about as many starts and ends, and the kind of the frame's points."""
     look = counted(sample, asked.options, frame.npartitions)
-    told = dask.compute(*[delayed(look, asked)(part) for part in frame.to_delayed()])
-    kind, times = kinds.joint_kind(*(one for _, one in told)), np.concatenate([times for times, _ in told])
+    samples = dask.compute(*[delayed(look, asked)(part) for part in frame.to_delayed()])
+    kind, times = kinds.joint_kind(*(one for _, one in samples)), np.concatenate([times for times, _ in samples])
     if not len(times) or parts < 2:
         return NO_INTS, kind
     return np.unique(np.quantile(times, np.arange(1, parts) / parts).astype(np.int64)), kind
@@ -139,12 +139,12 @@ def edges_of(found: Found) -> Optional[Edges]:
     return Edges(int(start[0]), int(end[0]), first, int(end[-1]), last, len(start) == 1)
 
 
-def plan_of(told: Sequence[Optional[Edges]]) -> List[Tuple[bool, int]]:
+def plan_of(edges: Sequence[Optional[Edges]]) -> List[Tuple[bool, int]]:
     """Of each slice, whether its first row only goes on with the one before the cut, and where its last row ends."""
-    goes_on = [False] * len(told)
-    ends = [here.end if here is not None else 0 for here in told]
-    for place in reversed(range(len(told) - 1)):
-        here, behind = told[place], told[place + 1]
+    goes_on = [False] * len(edges)
+    ends = [here.end if here is not None else 0 for here in edges]
+    for place in reversed(range(len(edges) - 1)):
+        here, behind = edges[place], edges[place + 1]
         if here is not None and behind is not None and (here.end, here.last) == (behind.start, behind.first):
             goes_on[place + 1] = True
             ends[place] = ends[place + 1] if behind.is_one else behind.first_end

@@ -27,8 +27,8 @@ ROWS = 1_000_000
 HELD = 4
 # Rows that memory ended are parted so often, one part after another, but not where they are so few.
 TRIES, FEW = 4, 1_000
-OF_WORKERS = "more partitions by parts=, or workers of more memory or fewer threads"
-OF_CALLS = "fewer rows in a call, or more memory"
+OF_WORKERS = "give more partitions by parts=, or workers with more memory or fewer threads"
+OF_CALLS = "give fewer rows in a call, or more memory"
 Sides = Sequence[Side]
 Asked = Callable[[Sides], Found]
 
@@ -51,8 +51,8 @@ class Means:
     def less(self, sides: Sides, ended: OutOfMemory) -> Means:
         """For the parts of sides whose run memory ended. Raises Stopped where that has been tried often enough."""
         if not self.tries:
-            told = f"{ended}; tried {TRIES} times more, with fewer rows"
-            raise Stopped(f"{told}: {OF_WORKERS if worker.place() else OF_CALLS}") from None
+            reason = f"{ended}; tried {TRIES} times more, with fewer rows"
+            raise Stopped(f"{reason}: {OF_WORKERS if worker.place() else OF_CALLS}") from None
         return replace(self, rows=max(FEW, max(map(len, sides)) // 2), tries=self.tries - 1)
 
 
@@ -101,8 +101,8 @@ def over_time(sides: Sides, asked: Asked, otherwise: Asked, means: Means) -> Fou
 
 def middle_of(sides: Sides) -> int:
     """A point before which half of all starts and ends lie."""
-    told = np.concatenate([times for side in sides for times in (side.start, side.end)])
-    return int(np.partition(told, len(told) // 2)[len(told) // 2])
+    seconds = np.concatenate([times for side in sides for times in (side.start, side.end)])
+    return int(np.partition(seconds, len(seconds) // 2)[len(seconds) // 2])
 
 
 def closed_up(before: Found, behind: Found, cut: int) -> Found:
@@ -208,7 +208,7 @@ def agg_by(side: Side, function: str, means: Means) -> Found:
         blocks = part[0].blocks(means.cap_of(part))
         # Of their answers one row of each holds at a time, so these can be cut by time.
         if len(blocks) > means.cap_of(part) // HELD:
-            raise Refused("Full", f"{len(part[0]):,} rows of one value, too many at one time")
+            raise Refused("Full", f"{len(part[0]):,} rows of one value at one time are too many")
         found = all_of([asked([block]) for block in blocks])
         return agg_by(rows_of(found), "sum" if function == "count" else function, means)
 
@@ -224,6 +224,6 @@ def rows_of(found: Found) -> Side:
     """The answers of some aggregates as rows."""
     start, end, group, value = found
     if value.dtype == object:
-        raise Refused("Full", "sums past 64 bits of more rows at one time than a run takes: smaller numbers, or groups")
+        raise Refused("Full", "sums past 64 bits of more rows at one time than a run takes: give smaller numbers")
     columns = [Values(None, "int", group), Values(None, "int", value)]
     return Side(start, end, columns, places=np.arange(len(start)))

@@ -22,7 +22,7 @@ def of_column(column: Values, given: Any) -> Cell:
     if not values.is_bool(column.dtype):
         return singles.cell_of(column, given)
     if not checks.is_whole(given) or given in (0, 1):
-        reason = f"missing= has {checks.shown(given)}: for True and False a number stands, and neither 0 nor 1"
+        reason = f"missing= has {checks.shown(given)}: for True and False it must be a number other than 0 and 1"
         raise Refused("WrongKind", reason, column.name)
     return int(given)
 
@@ -42,7 +42,7 @@ def values_of(column: Any, digits: Optional[int], given: Any) -> Values:
         code, texts = cells.index(stand_in), Texts(cells)
     codes = np.full(len(column), code, np.int64)
     codes[~is_missing] = there.codes
-    reason = f"missing= has {checks.shown(given)} for what is missing, and here it stands itself: another one"
+    reason = f"missing= has {checks.shown(given)} for what is missing, but the column has this value: give another one"
     refuse((codes == code) & ~is_missing, column, "BadCommand", reason)
     return replace(there, codes=codes, texts=texts)
 
@@ -54,7 +54,7 @@ def without(column: Any, digits: Optional[int]) -> Values:
     except Refused as error:
         if error.reason != values.no_value(column.name):
             raise
-        remedy = f"missing={{{column.name!r}: ..}}, where the table is made, takes a value that stands for it"
+        remedy = f"missing={{{column.name!r}: ..}}, when the table is made, gives a value for it"
         raise Refused(error.name, f"{error.reason}; {remedy}", error.column, error.label) from None
 
 

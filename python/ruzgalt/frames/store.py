@@ -109,9 +109,9 @@ class Store(Asking, Raising, Written):
         Raises
         ------
         Refused
-            Where there is no such file, options are of no table or column, or the diary is none.
+            If there is no such file, no table or column of options, or no such diary.
         Stopped
-            Where the program ended without all answers.
+            If the program ended without all answers.
 
         Warns
         -----
@@ -140,7 +140,7 @@ class Store(Asking, Raising, Written):
     def __getstate__(self) -> Dict[str, Any]:
         with self.lock:
             if self.draft is not None:
-                raise Refused("BadCommand", "a batch isn't ended, so there is no state to copy: copy behind it")
+                raise Refused("BadCommand", "a batch hasn't ended: copy after its end")
             return {"book": replace(self.book, rows={})}
 
     def __setstate__(self, state: Mapping[str, Any]) -> None:
@@ -182,7 +182,7 @@ class Store(Asking, Raising, Written):
         frame : DataFrame
             Of pandas, with the period's columns and the table's. Columns have any names.
         period : pair of names, or name, default ("from", "to")
-            The columns of a row's start and of its end, the first point behind it; or one of intervals.
+            The columns of a row's start and of its end, the first point after it; or one of intervals.
         key : name or list of names, default none
             Columns of which no two rows that are equal in all hold at one point.
         open_end : bool, default False
@@ -203,14 +203,14 @@ class Store(Asking, Raising, Written):
         Returns
         -------
         Changed
-            As of the load, which is a commit behind that of the table; in a batch None.
+            As of the load, which is the commit after that of the table; in a batch None.
 
         Raises
         ------
         Refused
-            Where there is such a table, a name or a value is none that can be taken, or two rows of one key overlap.
+            If there is such a table, a name or a value can't be taken, or two rows of one key overlap.
         Stopped
-            Where the program ended without all answers.
+            If the program ended without all answers.
 
         Warns
         -----
@@ -251,9 +251,9 @@ class Store(Asking, Raising, Written):
         Raises
         ------
         Refused
-            Where the table or a column isn't there, a value can't be taken, or two rows of one key overlap.
+            If the table or a column doesn't exist, a value can't be taken, or two rows of one key overlap.
         Stopped
-            Where the program ended without all answers.
+            If the program ended without all answers.
 
         Warns
         -----
@@ -297,9 +297,9 @@ class Store(Asking, Raising, Written):
         Raises
         ------
         Refused
-            Where the table or a column isn't there, a value can't be taken, or two rows of one key would overlap.
+            If the table or a column doesn't exist, a value can't be taken, or two rows of one key would overlap.
         Stopped
-            Where the program ended without all answers.
+            If the program ended without all answers.
 
         Warns
         -----
@@ -343,9 +343,9 @@ class Store(Asking, Raising, Written):
         Raises
         ------
         Refused
-            Where the table or a column isn't there, or a value can't be taken.
+            If the table or a column doesn't exist, or a value can't be taken.
         Stopped
-            Where the program ended without all answers.
+            If the program ended without all answers.
 
         Warns
         -----
@@ -390,9 +390,9 @@ class Store(Asking, Raising, Written):
         Raises
         ------
         Refused
-            Where the table or a column isn't there, a value can't be taken, or two rows of one key would overlap.
+            If the table or a column doesn't exist, a value can't be taken, or two rows of one key would overlap.
         Stopped
-            Where the program ended without all answers.
+            If the program ended without all answers.
 
         Warns
         -----
@@ -432,7 +432,7 @@ class Store(Asking, Raising, Written):
             At the end, where a change is refused, or a label has no commit; at the begin, where the store is in a
             batch.
         Stopped
-            Where the program ended without all answers.
+            If the program ended without all answers.
 
         Examples
         --------

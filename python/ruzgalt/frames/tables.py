@@ -66,7 +66,7 @@ class Table:
     def column(self, name: Any) -> Values:
         found = self.columns.get(same(name))
         if found is None:
-            raise Refused("NoColumn", f"{self.name} has no such column; it has {listed(self.columns)}", name)
+            raise Refused("NoColumn", f"{self.name} has no such column; its columns are {listed(self.columns)}", name)
         return found
 
     def word(self, name: Any) -> str:
@@ -94,14 +94,15 @@ class Table:
         wanted = self.column(given.name).kind
         if given.kind != wanted:
             remedy = ".astype('int64') makes numbers" if wanted == "int" else ".astype(str) makes texts"
-            raise Refused("WrongKind", f"{given.kind}, and the column of {self.name} is {wanted}; {remedy}", given.name)
+            reason = f"it is {given.kind}, but the column of {self.name} is {wanted}; {remedy}"
+            raise Refused("WrongKind", reason, given.name)
 
     def portion(self, start: Any, end: Any) -> Ints:
         """The seconds of a change's start and of the first point behind it. Raises Refused (BadPoint, BadPeriod)."""
         portion = instants.portion(start, end, self.form)
         if portion[0] >= portion[1]:
-            last = "the last day" if self.form.has_last_days else "the first point behind it"
-            reason = f"it starts at {start} and ends at {end}: a portion starts before its end, which is {last}"
+            last = "the last day" if self.form.has_last_days else "the first point after it"
+            reason = f"it starts at {start} and ends at {end}: a portion must start before its end, which is {last}"
             raise Refused("BadPeriod", reason)
         return portion
 
@@ -109,9 +110,9 @@ class Table:
         """The columns with values of set= or where=, as the fields of a change."""
         if not isinstance(cells, Mapping):
             given = f"{word}={checks.shown(cells)}"
-            raise Refused("BadCommand", f"{given} is no dict of columns with values, as {{'person': 'Ada'}}")
+            raise Refused("BadCommand", f"{given}: must be a dict of columns with values, such as {{'person': 'Ada'}}")
         if not cells:
-            remedy = "leave it out for all rows" if word == "where" else "it names what is to be changed"
+            remedy = "leave it out for all rows" if word == "where" else "give what is to be changed"
             raise Refused("BadCommand", f"{word}={{}} has no column: {remedy}")
         return [text for name, value in cells.items() for text in (self.word(name), self.field_of(name, value))]
 
@@ -122,7 +123,7 @@ class Table:
             return str(stand_in)
         cell = singles.cell_of(column, value)
         if cell == stand_in:
-            raise Refused("BadCommand", f"missing= has {checks.shown(value)} for what is missing: None is it", name)
+            raise Refused("BadCommand", f"missing= has {checks.shown(value)} for what is missing: give None", name)
         return str(cell)
 
     def stand_in(self, name: Any) -> Optional[Cell]:
@@ -133,8 +134,8 @@ class Table:
     def refuse_missing(self, name: Any, doing: str) -> None:
         """Raises Refused where the column isn't there, or may have missing cells, which this can't be done with."""
         if self.stand_in(name) is not None:
-            remedy = "rows() and .dropna() leave rows without a value out, and ruzgalt.join, anti and agg take them"
-            raise Refused("WrongKind", f"it has missing cells, and what stands for one {doing}; {remedy}", name)
+            remedy = "take rows(), .dropna() to leave such rows out, and ruzgalt.join, anti or agg"
+            raise Refused("WrongKind", f"it has missing cells, and their value {doing}; {remedy}", name)
 
     # What the table's points become.
 
@@ -190,12 +191,12 @@ def coded(column: Values, cells: Cells) -> Values:
 def refuse_points(side: Side, period: Period) -> None:
     """Raises Refused, since a store's script, its questions and its days have no zone, and are no months."""
     if side.kind.is_long:
-        reason = f"a store's points are days or times, and these are period[{side.kind.name}]"
+        reason = f"a store's points are days or times, but these are period[{side.kind.name}]"
         remedy = ".dt.asfreq('D', 'start') of starts, .dt.asfreq('D', 'end') of ends with last_day=True"
         raise Refused("WrongKind", f"{reason}; {remedy}", period[0])
     if side.kind.zone is not None:
-        reason = f"a store's points have no time zone, and these have {side.kind.zone}"
-        remedy = f".dt.tz_convert(ZONE){WITHOUT_ZONE} takes the days and times of a zone"
+        reason = f"a store's points have no time zone, but these have {side.kind.zone}"
+        remedy = f".dt.tz_convert(ZONE){WITHOUT_ZONE} gives the days and times of a zone"
         raise Refused("WrongKind", f"{reason}; {remedy}", period[0])
 
 
@@ -212,7 +213,7 @@ def table_of(name: str, side: Side, key: Sequence[Any], options: Options) -> Tab
     names = [one.name for one in columns]
     for column in key:
         if column not in names:
-            raise Refused("NoColumn", f"key= is of columns of the table: {listed(names)}", column)
+            raise Refused("NoColumn", f"key= has it, but the table's columns are {listed(names)}", column)
     made = Table(name, dict(zip(names, columns)), list(key), options, dict(zip(names, naming.of_store(names))))
     refuse_stand_ins(made)
     return made
@@ -223,4 +224,4 @@ def refuse_stand_ins(table: Table) -> None:
     for name in table.options.missing:
         table.stand_in(name)
         if name in table.key:
-            raise Refused("BadCommand", "missing= has a column of the key, which has a value in each row", name)
+            raise Refused("BadCommand", "missing= can't have a column of the key, which has a value in each row", name)

@@ -44,7 +44,7 @@ def coalesce(frame: Frame, by: Names = None, *, period: PeriodNames = PERIOD, op
     by : name or list of names, optional
         Columns whose equal values are a group; without any all rows are one.
     period : pair of names, or name, default ("from", "to")
-        The columns of a row's start and of its end, the first point behind it; or one of intervals.
+        The columns of a row's start and of its end, the first point after it; or one of intervals.
     open_end : bool, default False
         A missing end stands for 9999-12-31, and comes back as missing.
     last_day : bool, default False
@@ -71,9 +71,9 @@ def coalesce(frame: Frame, by: Names = None, *, period: PeriodNames = PERIOD, op
     Raises
     ------
     Refused
-        Where the frame or an option is none that can be taken, or a value would be lost or changed.
+        If the frame or an option can't be taken, or a value would be lost or changed.
     Stopped
-        Where the program ended without all answers.
+        If the program ended without all answers.
 
     Warns
     -----
@@ -118,7 +118,7 @@ def gaps(frame: Frame, by: Names = None, *, within: Any = None, period: PeriodNa
         The time that is looked at, from a start on and before an end, where not between a group's first start and last
         end. With `last_day` the end is the last day, and None as the end is no end.
     period : pair of names, or name, default ("from", "to")
-        The columns of a row's start and of its end, the first point behind it; or one of intervals.
+        The columns of a row's start and of its end, the first point after it; or one of intervals.
     open_end : bool, default False
         A missing end stands for 9999-12-31, and comes back as missing.
     last_day : bool, default False
@@ -145,9 +145,9 @@ def gaps(frame: Frame, by: Names = None, *, within: Any = None, period: PeriodNa
     Raises
     ------
     Refused
-        Where the frame or an option is none that can be taken, or a value would be lost or changed.
+        If the frame or an option can't be taken, or a value would be lost or changed.
     Stopped
-        Where the program ended without all answers.
+        If the program ended without all answers.
 
     Warns
     -----
@@ -185,8 +185,8 @@ def span_of(frame: Any, options: Options) -> Optional[Span]:
         return None
     kind = sides.side_of(frame.iloc[:0], [], options.period, options.form, {}).kind
     if kind.is_long and options.points_as is None:
-        told = f"within=: period[{kind.name}] may have none of such points"
-        raise Refused("WrongKind", f"{told}; points_as='D' asks for days", options.period[0])
+        reason = f"within=: period[{kind.name}] may lack such points"
+        raise Refused("WrongKind", f"{reason}; points_as='D' gives days", options.period[0])
     start, end = options.within
     return instants.span(start, end, options.form, kind.zone)
 
@@ -240,11 +240,11 @@ def overlaps(frame: Frame, by: Names = None, *, keep_periods: bool = False, labe
     by : name or list of names, optional
         Columns whose equal values are a group; without any all rows are one.
     keep_periods : bool, default False
-        Adds the periods of the left and of the right row behind that in which both hold.
+        Adds the periods of the left and of the right row after that in which both hold.
     labels : bool, default False
         Adds the index labels of each pair, as the columns left_label and right_label.
     period : pair of names, or name, default ("from", "to")
-        The columns of a row's start and of its end, the first point behind it; or one of intervals.
+        The columns of a row's start and of its end, the first point after it; or one of intervals.
     open_end : bool, default False
         A missing end stands for 9999-12-31, and comes back as missing.
     last_day : bool, default False
@@ -252,7 +252,7 @@ def overlaps(frame: Frame, by: Names = None, *, keep_periods: bool = False, labe
     decimals : dict, optional
         How many decimals are compared of a column of floats or Decimals, as `{"hours": 2}`.
     suffixes : pair of str or None, default ("_left", "_right")
-        What is put behind names that are taken, of the left frame and of the right one; None for nothing.
+        What is added to names that are taken, of the left frame and of the right one; None for nothing.
     points_as : str, optional
         ns, us, ms, s, D, S, date or datetime: the answer's points, where not as they came in.
     workers : int, default 4
@@ -273,9 +273,9 @@ def overlaps(frame: Frame, by: Names = None, *, keep_periods: bool = False, labe
     Raises
     ------
     Refused
-        Where the frame or an option is none that can be taken, or a value would be lost or changed.
+        If the frame or an option can't be taken, or a value would be lost or changed.
     Stopped
-        Where the program ended without all answers.
+        If the program ended without all answers.
 
     Warns
     -----

@@ -62,7 +62,7 @@ def of_load(change: Change, side: Side, before: Sequence[Command]) -> Iterator[s
     there = np.concatenate(loaded) if loaded else rows[:0]
     # Of most loads the first row shows it, and nothing is sorted.
     if (there == rows[0]).any() and np.isin(rows, there).all():
-        yield f"load of {change.name}: all its rows were loaded before, so each is there twice unless changed since"
+        yield f"load of {change.name}: all its rows were loaded before, so each occurs twice unless changed since"
 
 
 def two_rows(labels: Sequence[Any], *places: int) -> List[str]:
@@ -75,7 +75,7 @@ def of_portion(change: Change, count: int, there: int) -> Iterator[str]:
     command = change.commands[-1]
     reason = marks.of_touched(command.fields, count)
     if reason is None and count == there > 1 and fields.where_places(command.fields):
-        reason = f"its `where` leaves no row out: all {count} of the table were changed"
+        reason = f"its `where` matches all rows of the table: {count} were changed"
     if reason:
         yield f"{command.word} of {change.name}: {reason}"
 
@@ -106,5 +106,5 @@ def of_updated_twice(change: Change) -> Iterator[str]:
         labels = [one.label for one in change.commands]
         one, other = two_rows(labels, place, updated.index(updated[place]))
         more = f"; {int(is_later.sum()) - 1} more rows do so" if is_later.sum() > 1 else ""
-        reason = f"{one} updates the same rows from the same point on as {other}, and the later one stands"
+        reason = f"{one} updates the same rows from the same point on as {other}, and the later one counts"
         yield f"update of {change.name}: {reason}{more}"

@@ -147,14 +147,14 @@ def values_of(column: Any, digits: Optional[int] = None) -> Values:
         return Values(column.name, "int", ints_of(column), Texts(), dtype)
     if dtype == object or isinstance(dtype, pd.StringDtype) or arrow.is_text(dtype):
         return texts_of(column)
-    raise Refused("WrongKind", f"{dtype} has no kind of the store; {remedy_of(column)}", column.name)
+    raise Refused("WrongKind", f"{dtype} can't be stored; {remedy_of(column)}", column.name)
 
 
 def remedy_of(column: Any) -> str:
     """Of a dtype that has no kind."""
-    hundredths = f"decimals={{{column.name!r}: 2}} takes those of two decimals for hundredths"
+    hundredths = f"decimals={{{column.name!r}: 2}} takes numbers of two decimals"
     is_float = getattr(column.dtype, "kind", "") == "f"
-    return f".astype('Int64') of whole numbers, or {hundredths}" if is_float else ".astype(str) makes texts"
+    return f".astype('Int64') makes whole numbers, or {hundredths}" if is_float else ".astype(str) makes texts"
 
 
 def number_kind(dtype: Any) -> str:
@@ -166,7 +166,7 @@ def number_kind(dtype: Any) -> str:
 
 def no_value(name: Any) -> str:
     """What is said of a missing cell: in place of it nothing can be put that would match nothing."""
-    return f"no value, and rows without one match nothing; .dropna(subset=[{name!r}]) leaves them out"
+    return f"no value is given, and rows without one match nothing; .dropna(subset=[{name!r}]) leaves them out"
 
 
 def of_categories(column: Any) -> Values:
@@ -199,15 +199,15 @@ def texts_of(column: Any) -> Values:
     if not forms.is_utf8(whole):
         # Before pandas.factorize, which takes halves of surrogate pairs for other texts.
         wrong = np.fromiter((not forms.is_utf8(cell) for cell in cells), bool, len(cells))
-        told = "half of a surrogate pair, which UTF-8 hasn't: read the source again as what it is"
-        refuse(wrong, column, "BadUtf8", told)
+        reason = "half of a surrogate pair, which UTF-8 can't have: read the source again in its encoding"
+        refuse(wrong, column, "BadUtf8", reason)
     codes, found = codes_by_dict(cells) if "\0" in whole else pd.factorize(cells)
     # A class of texts may have an own rule for which are equal.
     texts = list(map(str.__str__, found))
     # A character has at most four bytes.
     if 4 * max(map(len, texts), default=0) > forms.TEXT_LIMIT:
         is_long = np.fromiter((not forms.is_short(text) for text in texts), bool, len(texts))
-        refuse(is_long[codes], column, "TooLong", "a text of more than 4,096 bytes: a shorter one, or several columns")
+        refuse(is_long[codes], column, "TooLong", "a text of more than 4,096 bytes: shorten or split it")
     return Values(column.name, "text", codes, Texts(texts), column.dtype)
 
 
@@ -220,7 +220,7 @@ def no_text(cell: Any, name: Any) -> str:
         int: ".astype('int64') makes numbers of all, .astype(str) texts", decimal.Decimal: hundredths,
         bool: ".astype('boolean') takes it as it is, .astype(str) makes texts of all",
     }
-    return f"{cell!r} is no text; {remedies.get(type(cell), '.astype(str) makes texts of all')}"
+    return f"{cell!r} isn't a text; {remedies.get(type(cell), '.astype(str) makes texts of all')}"
 
 
 def is_missing(cell: Any) -> bool:
@@ -243,17 +243,17 @@ def scaled(column: Any, digits: int) -> Ints:
     dtype = getattr(column.dtype, "numpy_dtype", column.dtype)
     if getattr(dtype, "kind", "") != "f":
         is_category = isinstance(dtype, pd.CategoricalDtype)
-        remedy = ".astype('float64') makes floats" if is_category else "without it whole numbers are taken as they are"
-        raise Refused("WrongKind", f"{dtype}: decimals= is of floats and of Decimals; {remedy}", column.name)
+        remedy = ".astype('float64') makes floats" if is_category else "leave it out for whole numbers"
+        raise Refused("WrongKind", f"{dtype}: decimals= needs floats or Decimals; {remedy}", column.name)
     cells = column.to_numpy(dtype=dtype, na_value=np.nan)
     bits = np.finfo(dtype).nmant + 1
     with np.errstate(invalid="ignore", over="ignore"):
         whole = np.round(cells.astype("f8") * 10.0**digits)
         refuse(np.isnan(cells), column, "BadNumber", no_value(column.name))
-        remedy = "Decimals are exact"
-        refuse(~(np.abs(whole) < 2.0**bits), column, "BadNumber", f"not of {bits} bits in such units; {remedy}")
-        told = f"not exactly a number of {digits} decimals; decimals= takes more, .round({digits}) makes it one"
-        refuse((whole / 10.0**digits).astype(dtype) != cells, column, "BadNumber", told)
+        reason = f"too large for the {bits} bits of a float in such units; use Decimals, which are exact"
+        refuse(~(np.abs(whole) < 2.0**bits), column, "BadNumber", reason)
+        reason = f"not exactly a number of {digits} decimals; give more by decimals=, or .round({digits}) it"
+        refuse((whole / 10.0**digits).astype(dtype) != cells, column, "BadNumber", reason)
     numbers: Ints = whole.astype(np.int64)
     return numbers
 
@@ -263,8 +263,8 @@ def scaled_decimals(column: Any, digits: int) -> Ints:
     wrong = np.fromiter((number is None for number in numbers), bool, len(numbers))
     if wrong.any():
         cell = column.iloc[int(wrong.argmax())]
-        told = f"{cell!r} is no Decimal of {digits} decimals; {no_decimal(cell)} makes it one"
-        refuse(wrong, column, "BadNumber", no_value(column.name) if is_missing(cell) else told)
+        reason = f"{cell!r} isn't a Decimal of {digits} decimals; {no_decimal(cell)} makes it one"
+        refuse(wrong, column, "BadNumber", no_value(column.name) if is_missing(cell) else reason)
     return np.array(numbers, np.int64)
 
 
@@ -289,8 +289,8 @@ def unscaled(cells: Cells, column: Values) -> Any:
         return of_objects([decimal.Decimal(f"{int(cell)}E-{digits}") for cell in cells])
     bits = np.finfo(getattr(dtype, "numpy_dtype", dtype)).nmant + 1
     if len(cells) and max(abs(int(cells.max())), abs(int(cells.min()))) >= 2**bits:
-        told = f"the answer has a number that {bits} bits don't hold: take Decimals in place of floats"
-        raise Refused("BadNumber", told, column.name)
+        reason = f"the answer has a number too large for the {bits} bits of a float: use Decimals"
+        raise Refused("BadNumber", reason, column.name)
     return pd.Series(cells.astype("f8") / 10.0**digits).astype(dtype).array
 
 

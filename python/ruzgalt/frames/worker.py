@@ -51,8 +51,8 @@ def sent(function: Callable[..., Any], *given: Any) -> Callable[..., Any]:
         try:
             wanted, behind = pickle.loads(packed)
         except (AttributeError, ImportError) as error:
-            told = f"{error}{place()}: the package ruzgalt is wanted there, of the version that asks"
-            raise RuntimeError(told) from None
+            reason = f"{error}{place()}: install the package ruzgalt there, in the version that is here"
+            raise RuntimeError(reason) from None
         return wanted(*parts, *behind)
 
     asked.__name__ = function.__name__

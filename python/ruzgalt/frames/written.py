@@ -135,7 +135,7 @@ class Written:
         Refused
             Where the store is empty, or a question can't be asked.
         Stopped
-            Where the program ended without all answers.
+            If the program ended without all answers.
 
         Examples
         --------
@@ -182,7 +182,7 @@ class Written:
         Refused
             Where the question can't be asked, or there is no picture of its answer.
         Stopped
-            Where the program ended without all answers.
+            If the program ended without all answers.
 
         Examples
         --------
@@ -202,13 +202,13 @@ class Written:
 def answered(book: Book, question: Any) -> Sequence[Answer]:
     """The answers to all changes, and to a question behind them. Raises Refused, Stopped."""
     if not isinstance(question, str):
-        raise checks.wrong("question", question, "a question of the language is wanted, as 'rows,pay'")
+        raise checks.wrong("question", question, "must be a question of the language, such as 'rows,pay'")
     with refusing():
         command = questions.named(question)[1]
         text, own_lines = questions.put_behind(book.script, [command])
         begun = questions.commands_of(text, [command], own_lines)
     if len(begun) != len(book.commands) + 1 or begun[-1].word in CHANGES:
-        raise checks.wrong("question", question, "one question is wanted, and no change")
+        raise checks.wrong("question", question, "must be one question, not a change")
     output = running.answer([text], book.workers).tobytes()
     found = answers.of_commands(begun, output, is_own=True)
     if found[-1].refusal:
@@ -240,7 +240,7 @@ def kept(book: Book, name: str) -> Iterator[str]:
 def write(path: Any, pieces: Any) -> None:
     """Writes a file beside its place, and puts it there when it is whole."""
     if not isinstance(path, (str, os.PathLike)):
-        raise checks.wrong("path", path, "the path of a file is wanted")
+        raise checks.wrong("path", path, "must be the path of a file")
     place = Path(path)
     beside = place.with_name(f".{place.name}.{os.getpid()}")
     try:

@@ -118,14 +118,14 @@ class Labels(Case):
 
     def test_an_unknown_one_is_refused_with_those_that_are_there(self):
         made = store()
-        self.refuses(lambda: made.rows("t", "july"), "NoLabel", "label= of a change")
+        self.refuses(lambda: made.rows("t", "july"), "NoLabel", "label= of changes")
         for place in range(12):
             made.update("t", "2024-02-01", None, {"n": place}, {"k": "a"}, label=f"Payslips, week {place}")
         self.refuses(lambda: made.rows("t", "payslips, week 11"), "NoLabel", "'Payslips, week 11' looks alike",
                      "and 2 more")
         self.refuses(lambda: made.at("t", "2024-02-01", "Payslip, week 5"), "NoLabel", "looks alike")
-        self.refuses(lambda: made.between("t", "7", 9), "NoLabel", "a commit's number is no text: 7")
-        self.refuses(lambda: made.fromto("t", 1, "2024-02-30"), "NoLabel", "no day")
+        self.refuses(lambda: made.between("t", "7", 9), "NoLabel", "a commit's number as a number: 7")
+        self.refuses(lambda: made.fromto("t", 1, "2024-02-30"), "NoLabel", "isn't a day")
 
 
 class Days(Case):
@@ -149,7 +149,7 @@ class Days(Case):
 
     def test_days_do_not_go_back(self):
         made = store(day="2024-01-10")
-        self.refuses(lambda: made.load("t", frame("c"), day="2024-01-09"), "BadPoint", "commit 2", "don't go back")
+        self.refuses(lambda: made.load("t", frame("c"), day="2024-01-09"), "BadPoint", "commit 2", "can't go back")
         for day, name in (("soon", "BadPoint"), (5, "WrongKind"), ("9999-12-31", "BadPoint"),
                           (pd.Timestamp("2024-02-01", tz="UTC"), "BadPoint")):
             self.refuses(lambda: made.load("t", frame("c"), day=day), name)
@@ -162,7 +162,7 @@ class Days(Case):
             self.assertEqual(len(made.rows("t", "2024-02-10")), 3)
             made.load("t", frame("d"), day="2024-02-12", label="d")
             made.load("t", frame("e"), day="2024-02-12")
-            self.refuses(lambda: made.load("t", frame("f")), "BadPoint", "don't go back")
+            self.refuses(lambda: made.load("t", frame("f")), "BadPoint", "can't go back")
             self.refuses(lambda: made.load("t", frame("f"), label="c"), "TwiceNamed")
         rows = made.diary()[["from", "commit", "label"]].astype(str).values.tolist()
         self.assertEqual(rows, [["2024-01-10", "2", "first"], ["2024-02-10", "3", "c"], ["2024-02-12", "4", "d"],

@@ -31,9 +31,9 @@ class Divisions(unittest.TestCase):
             (objects(FIRST.to_pydatetime()), objects(LAST.to_pydatetime())),
         ):
             with self.subTest(dtype=start.dtype):
-                told = frame(start, end)
-                division = ruzgalt.dip(told)
-                wanted = told["from"].iloc[1]
+                found = frame(start, end)
+                division = ruzgalt.dip(found)
+                wanted = found["from"].iloc[1]
                 self.assertEqual((division.count, division.instant, type(division.instant)), (2, wanted, type(wanted)))
 
     def test_a_store_has_it_in_its_table_s_kind(self):
@@ -50,12 +50,12 @@ class Divisions(unittest.TestCase):
             self.assertEqual(repr(division), "0 parts of 0 rows")
 
     def test_it_is_used_as_its_parts(self):
-        told = frame(FIRST, LAST)
-        division = ruzgalt.dip(told)
+        found = frame(FIRST, LAST)
+        division = ruzgalt.dip(found)
         self.assertEqual(repr(division), "2 parts of 2 rows, as many as hold at 2024-02-01 00:00:00")
         self.assertIsInstance(division.parts, pd.Series)
         self.assertEqual((division["y"], division.tolist(), list(division), len(division)), (1, [0, 1], [0, 1], 2))
-        for whole in (told.assign(part=division), told.assign(part=division.parts)):
+        for whole in (found.assign(part=division), found.assign(part=division.parts)):
             self.assertEqual(whole["part"].dtype, np.int64)
             self.assertEqual(whole["part"].tolist(), [0, 1])
         self.assertFalse(isinstance(division, pd.Series) or pd.api.types.is_dict_like(division))
@@ -80,10 +80,10 @@ class Verdicts(unittest.TestCase):
         parts = store.dip("t").parts
         double = pd.concat([parts, parts.iloc[:1]])
         for given, count, instant, wanted in (
-            (parts, 2, "2024-02-01", "Yes: no two rows of a part overlap, and fewer parts than 2 can't do: on 2024"),
-            (parts, 3, "2024-02-01", "No: 3 parts are claimed, and 2 are there."),
+            (parts, 2, "2024-02-01", "Yes: no two rows of a part overlap, and fewer parts than 2 aren't enough: 2 "),
+            (parts, 3, "2024-02-01", "No: 3 parts are claimed, but there are 2."),
             (parts.assign(row_id=[1, 9]), 2, "2024-02-01", "No: no row has the id 9."),
-            (double, 2, "2024-02-01", "No: row 1 stands twice."),
+            (double, 2, "2024-02-01", "No: row 1 occurs twice."),
             (parts.iloc[:1], 1, "2024-02-01", "No: row 2 is in no part."),
             (parts.assign(part=0), 1, "2024-01-01", "No: rows 1 and 2 are in one part, and overlap."),
             (parts, 2, "2024-01-01", "No: 2 parts are enough, but 2024-01-01 needs only 1: it doesn't show"),

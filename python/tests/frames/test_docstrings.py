@@ -32,8 +32,8 @@ def parameters(call):
 class Docstrings(unittest.TestCase):
     def run_example(self, name, names):
         """Runs an example, which has these names and adds its own to them."""
-        told = inspect.getdoc(SUBJECTS[name])
-        example = doctest.DocTestParser().get_doctest(told, names, name, None, None)
+        found = inspect.getdoc(SUBJECTS[name])
+        example = doctest.DocTestParser().get_doctest(found, names, name, None, None)
         self.assertTrue(example.examples, "no example")
         said = []
         doctest.DocTestRunner().run(example, out=said.append, clear_globs=False)
@@ -51,10 +51,10 @@ class Docstrings(unittest.TestCase):
     def test_they_have_each_parameter_and_what_is_answered(self):
         for name, call in CALLS.items():
             with self.subTest(name):
-                told = Docstring(call)
-                self.assertEqual(told.names("Parameters"), parameters(call))
-                self.assertEqual(list(told.sections), [one for one in SECTIONS if one in told.sections])
-                self.assertIn("Returns", told.sections)
+                found = Docstring(call)
+                self.assertEqual(found.names("Parameters"), parameters(call))
+                self.assertEqual(list(found.sections), [one for one in SECTIONS if one in found.sections])
+                self.assertIn("Returns", found.sections)
         self.assertEqual(Docstring(ruzgalt.Store).names("Parameters"), parameters(ruzgalt.Store))
 
     def test_each_begins_with_a_sentence_in_a_line(self):

@@ -17,8 +17,8 @@ HALVES = ["2024-01-01", "2024-07-01"]
 def pay(persons=("Hill", "Byron"), **cells):
     """A row of the first half of 2024 for each, and columns of others."""
     count = len(persons)
-    told = {"from": DAYS(HALVES[:1] * count), "to": DAYS(HALVES[1:] * count), "person": list(persons), "cents": 1}
-    return pd.DataFrame({**told, **cells})
+    usual = {"from": DAYS(HALVES[:1] * count), "to": DAYS(HALVES[1:] * count), "person": list(persons), "cents": 1}
+    return pd.DataFrame({**usual, **cells})
 
 
 def years(last):
@@ -28,7 +28,7 @@ def years(last):
 
 
 class Doubts(unittest.TestCase):
-    def told(self, asked):
+    def reported(self, asked):
         """The texts of all warnings, which are of a line in this file."""
         with warnings.catch_warnings(record=True) as found:
             warnings.simplefilter("always")
@@ -38,10 +38,10 @@ class Doubts(unittest.TestCase):
         return [str(one.message) for one in found]
 
     def warns(self, asked, *parts):
-        told = self.told(asked)
-        self.assertEqual(len(told), 1, told)
+        found = self.reported(asked)
+        self.assertEqual(len(found), 1, found)
         for part in parts:
-            self.assertIn(part, told[0])
+            self.assertIn(part, found[0])
 
     def test_a_doubt_is_a_warning(self):
         self.assertTrue(issubclass(ruzgalt.Doubt, UserWarning))
@@ -60,7 +60,7 @@ class Doubts(unittest.TestCase):
         self.warns(lambda: ruzgalt.anti(floats, whole, on="person"), "'1.0' and '1'", ".str.removesuffix('.0')")
         self.warns(lambda: ruzgalt.join(whole, floats, on="person"), "'1' and '1.0'")
         halves = pay(["1.5", "2.50"])
-        self.assertEqual(self.told(lambda: ruzgalt.join(halves, whole, on="person")), [])
+        self.assertEqual(self.reported(lambda: ruzgalt.join(halves, whole, on="person")), [])
 
     def test_texts_that_stand_for_no_value_elsewhere(self):
         """.astype(str) makes them of missing cells, and then these are equal."""
@@ -69,32 +69,32 @@ class Doubts(unittest.TestCase):
             word = rows["person"].iloc[1]
             self.warns(lambda: ruzgalt.join(rows, rows, on="person"), repr(word), "'person'", "no value", "are equal")
             self.warns(lambda: ruzgalt.agg(rows, "count", by="person"), repr(word), ".dropna(subset=['person'])")
-            self.assertEqual(self.told(lambda: ruzgalt.join(rows, rows.iloc[:1], on="person")), [])
+            self.assertEqual(self.reported(lambda: ruzgalt.join(rows, rows.iloc[:1], on="person")), [])
             store = ruzgalt.Store()
             store.table("t", rows)
             self.warns(lambda: store.anti("t", "t", on="person"), repr(word), "are equal")
             self.warns(lambda: store.agg("t", "count", by="person"), repr(word))
 
-    def test_keys_that_meet_are_not_told_though_they_look_like_others(self):
+    def test_keys_that_meet_are_not_reported_though_they_look_like_others(self):
         both = pay(["Hill", "HILL"])
-        self.assertEqual(self.told(lambda: ruzgalt.join(both, both, on="person")), [])
+        self.assertEqual(self.reported(lambda: ruzgalt.join(both, both, on="person")), [])
         categories = pay(pd.Categorical(["Hill", "Byron"]))
         self.warns(lambda: ruzgalt.join(categories, pay(["hill"]), on="person"), "'Hill'", "'hill'")
 
     def test_how_many_keys_are_alike(self):
         left, right = pay(["a", "b", "c"]), pay(["A", "B", "c"])
-        self.warns(lambda: ruzgalt.join(left, right, on="person"), "and so of 1 more")
+        self.warns(lambda: ruzgalt.join(left, right, on="person"), "nor do 1 more")
 
     def test_ends_that_look_like_last_days(self):
         wrong, right = years(last=True), years(last=False)
         on = {"on": "person"}
-        self.warns(lambda: ruzgalt.join(wrong, right, **on), "to: ", "row 1 after row 0", "last_day=True takes it")
-        self.warns(lambda: ruzgalt.anti(right, wrong, **on), "to: ", "start on the day behind it")
+        self.warns(lambda: ruzgalt.join(wrong, right, **on), "to: ", "row 1 after row 0", "last_day=True reads it")
+        self.warns(lambda: ruzgalt.anti(right, wrong, **on), "to: ", "start on the day after it")
         two = pd.concat([wrong, wrong])
         for asked in (lambda: ruzgalt.agg(two, "count"), lambda: ruzgalt.dip(two)):
-            self.warns(asked, "to is 2023-12-31", "last days of a month", "last_day=True takes it")
-        self.assertEqual(self.told(lambda: ruzgalt.join(wrong, wrong, last_day=True, **on)), [])
-        self.assertEqual(self.told(lambda: ruzgalt.join(right, right, **on)), [])
+            self.warns(asked, "to is 2023-12-31", "last days of a month", "last_day=True reads it")
+        self.assertEqual(self.reported(lambda: ruzgalt.join(wrong, wrong, last_day=True, **on)), [])
+        self.assertEqual(self.reported(lambda: ruzgalt.join(right, right, **on)), [])
 
     def test_last_days_within_months_without_a_key(self):
         """Where no two rows share a point they are looked at as those of one key; of groups those of a group are."""
@@ -104,11 +104,11 @@ class Doubts(unittest.TestCase):
         right = wrong.assign(to=ends + pd.Timedelta(days=1))
         made = lambda rows: ruzgalt.Store().table("t", rows)  # noqa: E731
         for call in (lambda rows: ruzgalt.agg(rows, "count"), ruzgalt.dip, made):
-            self.warns(lambda: call(wrong), "follow another one, 2 start on the day behind it", "row 1 after row 0")
-            self.assertEqual(self.told(lambda: call(right)), [])
+            self.warns(lambda: call(wrong), "follow another one, 2 start on the day after it", "row 1 after row 0")
+            self.assertEqual(self.reported(lambda: call(right)), [])
         two = pd.concat([wrong, wrong.assign(person="Byron")])
-        self.warns(lambda: ruzgalt.agg(two, "count", by="person"), "one of the same person, 4 start on the day behind")
-        self.assertEqual(self.told(lambda: ruzgalt.agg(two, "count")), [])
+        self.warns(lambda: ruzgalt.agg(two, "count", by="person"), "one of the same person, 4 start on the day after")
+        self.assertEqual(self.reported(lambda: ruzgalt.agg(two, "count")), [])
 
     def test_ends_that_are_the_last_second_of_a_day(self):
         late = pay(to=pd.to_datetime(["2024-06-30T23:59:59", "2024-07-01T00:00:00"]))
@@ -119,7 +119,7 @@ class Doubts(unittest.TestCase):
         minute = pay(to=pd.to_datetime(["2024-06-30T23:59", "2024-06-30T23:58"]))
         self.warns(lambda: ruzgalt.anti(pay(), minute, on="person"), "to is 2024-06-30T23:59:00")
         last = pay(to=np.array([datetime.datetime(9999, 12, 31, 23, 59, 59)] * 2, object))
-        self.assertEqual(self.told(lambda: ruzgalt.dip(last)), [])
+        self.assertEqual(self.reported(lambda: ruzgalt.dip(last)), [])
 
     def test_ends_that_are_far_off(self):
         """As databases have them for no end; 9999-12-31 is no end."""
@@ -128,7 +128,7 @@ class Doubts(unittest.TestCase):
         for call in (ruzgalt.dip, lambda rows: ruzgalt.anti(pay(), rows, on="person"), made):
             self.warns(lambda: call(far), "to is 2199-12-31", "a row ends there", "open_end=True")
         last = pay(to=np.array([datetime.date(9999, 12, 31), datetime.date(2098, 12, 30)], object))
-        self.assertEqual(self.told(lambda: ruzgalt.dip(last)), [])
+        self.assertEqual(self.reported(lambda: ruzgalt.dip(last)), [])
 
     def test_last_days_that_look_like_ends(self):
         wrong = years(last=False)
@@ -139,33 +139,33 @@ class Doubts(unittest.TestCase):
         count = 50
         starts = DAYS("2024-01-01") + pd.to_timedelta(np.arange(count), unit="D")
         rows = pay(["Hill"] * count, **{"from": starts, "to": starts + pd.Timedelta(days=3)})
-        self.assertEqual(self.told(lambda: ruzgalt.join(rows, rows, on="person")), [])
+        self.assertEqual(self.reported(lambda: ruzgalt.join(rows, rows, on="person")), [])
 
     def test_many_rows_are_looked_at_by_some_of_their_keys(self):
         count = 20_000
         wrong = pd.concat([years(last=True).assign(person=f"p{place}") for place in range(2)] * (count // 4))
         wrong["person"] = [f"p{place // 2}" for place in range(count)]
-        self.warns(lambda: ruzgalt.join(wrong, wrong.iloc[:0], on="person"), "start on the day behind it")
+        self.warns(lambda: ruzgalt.join(wrong, wrong.iloc[:0], on="person"), "start on the day after it")
 
     def test_decimals_of_no_column(self):
         asked = lambda: ruzgalt.agg(pay(), "sum", "cents", decimals={"eur": 2})  # noqa: E731
-        self.warns(asked, "'eur', which is no column", "'cents'")
+        self.warns(asked, "'eur', which isn't a column", "'cents'")
         other = pay(eur=[0.5, 1.5])
         words = {"on": "person", "decimals": {"eur": 2}}
-        self.assertEqual(self.told(lambda: ruzgalt.join(pay(), other, **words)), [])
+        self.assertEqual(self.reported(lambda: ruzgalt.join(pay(), other, **words)), [])
         self.warns(lambda: ruzgalt.anti(pay(), pay(), **words), "'eur'")
 
     def test_frames_that_are_not_compared_in_their_only_common_column(self):
         left, right = pay(), pay().drop(columns="cents")
         for call in (ruzgalt.join, ruzgalt.anti):
-            self.warns(lambda: call(left, right), "both frames have 'person'", "on='person'", "on=[] says")
-            self.assertEqual(self.told(lambda: call(left, right, on=[])), [])
-            self.assertEqual(self.told(lambda: call(left, pay())), [])
+            self.warns(lambda: call(left, right), "both frames have 'person'", "on='person'", "on=[] for none")
+            self.assertEqual(self.reported(lambda: call(left, right, on=[])), [])
+            self.assertEqual(self.reported(lambda: call(left, pay())), [])
 
     def test_a_common_column_of_a_name_that_on_takes_in_a_list(self):
         for name in (None, ("person", "name")):
             left, right = (pay().rename(columns={"person": name, "cents": other}) for other in ("cents", "euros"))
-            self.warns(lambda: ruzgalt.anti(left, right), f"on=[{name!r}] does it")
+            self.warns(lambda: ruzgalt.anti(left, right), f"on=[{name!r}] to compare it")
             self.assertEqual(len(ruzgalt.join(left, right, on=[name])), 2)
 
     def test_a_million_keys_are_looked_at_no_longer_than_a_run_takes(self):
@@ -173,7 +173,7 @@ class Doubts(unittest.TestCase):
         count = doubts.MOST_TEXTS + 10
         left, right = (pay([f"{mark}{place}" for place in range(count)]) for mark in "pq")
         with mock.patch.object(doubts, "fold", side_effect=doubts.fold) as folded:
-            self.assertEqual(self.told(lambda: ruzgalt.join(left, right, on="person")), [])
+            self.assertEqual(self.reported(lambda: ruzgalt.join(left, right, on="person")), [])
         self.assertLessEqual(folded.call_count, 4 * doubts.MOST_TEXTS)
 
 

@@ -127,8 +127,8 @@ class Intervals(unittest.TestCase):
                               ("both", ("on both sides", "last_day=True", ".array.left"))):
             other = one.assign(span=one["span"].array.set_closed(closed))
             for word in words:
-                told = self.refuses("WrongKind", word, lambda: ruzgalt.agg(other, "count", period="span"))
-                self.assertEqual(told.column, "span")
+                said = self.refuses("WrongKind", word, lambda: ruzgalt.agg(other, "count", period="span"))
+                self.assertEqual(said.column, "span")
         got = ruzgalt.agg(one.assign(span=other["span"].array.set_closed("left")), "count", period="span")
         self.assertEqual(len(got), len(ruzgalt.agg(left, "count")))
         numbers = one.assign(span=pd.arrays.IntervalArray.from_breaks(range(len(one) + 1), **CLOSED))
@@ -144,8 +144,8 @@ class Intervals(unittest.TestCase):
                 self.refuses(name, word, call)
         self.assertEqual(self.refuses("BadPoint", "'c'", lambda: ruzgalt.dip(missing, period="span")).label, "c")
         for option in ("open_end", "last_day"):
-            told = {option: True}
-            self.refuses("BadCommand", option, lambda: ruzgalt.join(one, one, on="k", period="span", **told))
+            said = {option: True}
+            self.refuses("BadCommand", option, lambda: ruzgalt.join(one, one, on="k", period="span", **said))
         empty = one.assign(span=pd.arrays.IntervalArray.from_arrays(left["from"], left["from"], **CLOSED))
         self.refuses("BadPeriod", "it starts at 2024", lambda: ruzgalt.dip(empty, period="span"))
 

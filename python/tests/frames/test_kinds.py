@@ -95,7 +95,7 @@ class Bools(unittest.TestCase):
     def test_objects_of_them_have_a_remedy(self):
         with self.assertRaises(ruzgalt.Refused) as caught:
             ruzgalt.agg(self.of(object), "count", by="k")
-        self.assertIn("True is no text; .astype('boolean')", caught.exception.reason)
+        self.assertIn("True isn't a text; .astype('boolean')", caught.exception.reason)
 
 
 class NotCompared(unittest.TestCase):

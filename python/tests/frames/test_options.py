@@ -66,10 +66,10 @@ class Types(unittest.TestCase):
             self.refuses(one, lambda: ruzgalt.dip(one), "frame=")
 
     def test_functions_and_columns_of_an_aggregate(self):
-        self.refuses("misspelt", lambda: ruzgalt.agg(FRAME, "summ", "x"), "function='summ': one of count, sum, min,")
-        self.refuses("none", lambda: ruzgalt.agg(FRAME, None), "function=None: one of count")
+        self.refuses("misspelt", lambda: ruzgalt.agg(FRAME, "summ", "x"), "function='summ': must be one of count, sum,")
+        self.refuses("none", lambda: ruzgalt.agg(FRAME, None), "function=None: must be one of count")
         self.refuses("a list", lambda: ruzgalt.agg(FRAME, ["sum"], "x"), "function=['sum']")
-        self.refuses("a sum of nothing", lambda: ruzgalt.agg(FRAME, "sum"), "sum is of a column")
+        self.refuses("a sum of nothing", lambda: ruzgalt.agg(FRAME, "sum"), "sum needs a column")
         self.refuses("a count of a column", lambda: ruzgalt.agg(FRAME, "count", "x"), "column='x': a count is of rows")
         self.refuses("columns", lambda: ruzgalt.agg(FRAME, "sum", ["x"]), "column=['x']")
 

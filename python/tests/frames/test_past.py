@@ -111,7 +111,7 @@ class Past(unittest.TestCase):
         self.refuses(lambda: made.changed("t", None), "BadNumber")
         self.refuses(lambda: made.changed("t", 1, "third"), "NoLabel")
         got, doubts = doubts_of(lambda: made.history("t", {"change": 99}))
-        self.assertEqual((len(got), doubts), (0, ["history of t: no row ever had what where= has"]))
+        self.assertEqual((len(got), doubts), (0, ["history of t: no row ever had the values of where="]))
 
 
 if __name__ == "__main__":

@@ -68,8 +68,8 @@ class Program(unittest.TestCase):
 
     def test_a_program_does_not_start_whose_caller_is_gone(self):
         words = running.ending_with_us([str(self.command("echo started"))])
-        told = [str(os.getpid() + 1) if word == str(os.getpid()) else word for word in words]
-        ran = subprocess.run(told, stdout=subprocess.PIPE)
+        found = [str(os.getpid() + 1) if word == str(os.getpid()) else word for word in words]
+        ran = subprocess.run(found, stdout=subprocess.PIPE)
         self.assertEqual((ran.returncode, ran.stdout), (3, b""))
 
     def test_threads_that_end_end_no_other_thread_s_program(self):
@@ -91,11 +91,11 @@ class Program(unittest.TestCase):
         with ThreadPoolExecutor(8) as pool:
             self.assertEqual(list(pool.map(asked, range(1, 40))), list(range(1, 40)))
 
-    def test_a_killed_program_is_told(self):
+    def test_a_killed_program_is_reported(self):
         self.command("kill -9 $$")
         self.says("SIGKILL")
 
-    def test_what_the_program_says_is_told(self):
+    def test_what_the_program_says_is_reported(self):
         self.command("echo 'dipq: out of memory' >&2; exit 3")
         self.says("status 3: dipq: out of memory")
 
@@ -119,11 +119,11 @@ class Program(unittest.TestCase):
             self.assertIn(wanted, str(caught.exception))
             self.assertEqual(runs.read_text(), "run\n")
 
-    def test_answers_that_end_too_early_are_told(self):
+    def test_answers_that_end_too_early_are_reported(self):
         self.command("echo ok,1; echo ok,2")
         self.says("too early")
 
-    def test_another_program_is_told(self):
+    def test_another_program_is_reported(self):
         joined = "ok,1; echo ok,2; echo ok,3; echo ok,4; echo"
         cases = [
             ("exec cat", "answered table,l,"), ("echo ok,1; echo ok,2; printf '\\377\\n'", "can't be read"),
@@ -138,17 +138,17 @@ class Program(unittest.TestCase):
                     ruzgalt.dip(FRAME) if "377" in text else ruzgalt.join(FRAME, FRAME, on="k")
                 self.assertIn(wanted, str(caught.exception))
 
-    def test_a_program_that_is_not_there_is_told(self):
+    def test_a_program_that_is_not_there_is_reported(self):
         with mock.patch.dict(os.environ, DIPQ="/nowhere/dipq"):
             self.says("/nowhere/dipq: no such program")
 
-    def test_a_clone_that_is_not_built_is_told(self):
+    def test_a_clone_that_is_not_built_is_reported(self):
         (self.folder / "crates").mkdir()
         path = self.command("exit 3")
         with mock.patch.dict(os.environ), mock.patch.object(which, "TOP", self.folder):
             del os.environ["DIPQ"]
             self.assertEqual(which.program(), str(path))
-            self.says("isn't built yet")
+            self.says("isn't built from")
 
     def test_a_clone_runs_what_is_built_of_its_sources(self):
         real, out = which.program(), self.folder / "crates" / "dipq" / "out"
@@ -165,7 +165,7 @@ class Program(unittest.TestCase):
             (self.folder / "settings").unlink()
             (self.folder / "changed").touch()
             time.sleep(1)
-            self.says("or from other sources")
+            self.says("isn't built from these sources")
             self.assertFalse((self.folder / "settings").exists())
 
     def test_without_setpriv_the_program_runs_as_it_is(self):

@@ -34,8 +34,8 @@ class Raises(unittest.TestCase):
 
     def test_of_some_rows_for_some_time(self):
         store = store_of(cents=[100, 200], k=["a", "b"])
-        told = store.raise_by("pay", "cents", 10, "2024-03-01", "2024-04-01", where={"k": "b"})
-        self.assertEqual((told.added, told.closed), (3, 1))
+        listed = store.raise_by("pay", "cents", 10, "2024-03-01", "2024-04-01", where={"k": "b"})
+        self.assertEqual((listed.added, listed.closed), (3, 1))
         days = ("2024-02-29", "2024-03-01", "2024-04-01")
         found = [store.at("pay", day).set_index("k")["cents"].to_dict() for day in days]
         self.assertEqual(found, [{"a": 100, "b": 200}, {"a": 100, "b": 220}, {"a": 100, "b": 200}])
@@ -56,9 +56,9 @@ class Raises(unittest.TestCase):
             {"percent": "2.5"}, {"percent": "much"}, {"percent": 0}, {"round": "nearest"}, {"column": "k"},
             {"column": "none"}, {"where": {"none": 1}}, {"dry_run": 1}, {"end": "2024-01-01"}, {"start": "soon"},
         ):
-            told = {"name": "pay", "column": "cents", "percent": 100, "start": "2024-07-01", **words}
+            found = {"name": "pay", "column": "cents", "percent": 100, "start": "2024-07-01", **words}
             with self.subTest(words), self.assertRaises(ruzgalt.Refused):
-                store.raise_by(**told)
+                store.raise_by(**found)
         self.assertEqual(len(store.log()), 2)
         with self.assertWarns(ruzgalt.Doubt):
             self.assertIsNone(store.raise_by("pay", "cents", 1, "2030-01-01"))

@@ -22,8 +22,8 @@ def DAYS(texts):
 
 def frame(**cells):
     """Two rows, x and y, of which these columns are others."""
-    told = {"from": DAYS(["2024-01-01", "2024-01-02"]), "to": DAYS(["2024-02-01", "2024-02-02"]), "k": ["a", "b"]}
-    return pd.DataFrame({**told, **cells}, index=["x", "y"])
+    usual = {"from": DAYS(["2024-01-01", "2024-01-02"]), "to": DAYS(["2024-02-01", "2024-02-02"]), "k": ["a", "b"]}
+    return pd.DataFrame({**usual, **cells}, index=["x", "y"])
 
 
 def objects(*cells):
@@ -127,12 +127,12 @@ class Refusals(unittest.TestCase):
             asked()
         if not hasattr(caught, "exception"):
             return
-        told = caught.exception
-        self.assertEqual((told.name, told.column, told.label), wanted, f"{what}: {told}")
-        self.assertGreater(len(told.reason), 10, what)
-        self.assertNotIn("\n", str(told).replace("\\n", ""))
-        again = pickle.loads(pickle.dumps(told))
-        self.assertEqual((again.args, str(again)), (told.args, str(told)))
+        said = caught.exception
+        self.assertEqual((said.name, said.column, said.label), wanted, f"{what}: {said}")
+        self.assertGreater(len(said.reason), 10, what)
+        self.assertNotIn("\n", str(said).replace("\\n", ""))
+        again = pickle.loads(pickle.dumps(said))
+        self.assertEqual((again.args, str(again)), (said.args, str(said)))
 
     def test_points(self):
         for what, cells, words, *wanted in POINTS:
@@ -149,11 +149,11 @@ class Refusals(unittest.TestCase):
     def test_a_refusal_says_what_is_there_and_what_to_do(self):
         floats = frame(k=[1.0, 2.0])
         cases = [
-            (lambda: ruzgalt.join(OK, OK, on="z"), "there are ['from', 'to', 'k']"),
-            (lambda: ruzgalt.agg(OK, "sum", "k"), "sum is of numbers, and these are texts"),
-            (lambda: ruzgalt.join(frame(k=[1, 2]), OK, on="k"), ".astype('int64') makes numbers of texts as '001'"),
-            (lambda: ruzgalt.join(floats, frame(k=[1, 2]), on="k"), "it is float64, and 'k' of the right frame int64"),
-            (lambda: ruzgalt.anti(frame(k=[1, 2]), floats, on="k", decimals={"k": 2}), "it is int64, and 'k' of the"),
+            (lambda: ruzgalt.join(OK, OK, on="z"), "the columns are ['from', 'to', 'k']"),
+            (lambda: ruzgalt.agg(OK, "sum", "k"), "sum needs numbers, but these are texts"),
+            (lambda: ruzgalt.join(frame(k=[1, 2]), OK, on="k"), "makes numbers of texts such as '001'"),
+            (lambda: ruzgalt.join(floats, frame(k=[1, 2]), on="k"), "float64, but 'k' of the right frame is int64"),
+            (lambda: ruzgalt.anti(frame(k=[1, 2]), floats, on="k", decimals={"k": 2}), "it is int64, but 'k' of the"),
         ]
         for asked, wanted in cases:
             with self.subTest(wanted), self.assertRaises(ruzgalt.Refused) as caught:
@@ -185,7 +185,7 @@ class Refusals(unittest.TestCase):
         self.assertRaises(TypeError, lambda: ruzgalt.dip(OK, labels=True))
         self.assertRaises(TypeError, lambda: ruzgalt.join(OK, OK, onn="k"))
 
-    def test_what_is_told_of_decimals(self):
+    def test_what_is_said_of_decimals(self):
         """Of a missing cell, a float, a category of floats, and a sum that the column's floats can't have."""
         agg = ruzgalt.agg
         cases = [
@@ -193,7 +193,7 @@ class Refusals(unittest.TestCase):
             (objects(Decimal(1), 1.5), "decimal.Decimal(str(..))"),
             (objects(Decimal(1), Decimal("0.125")), "quantize()"),
             (pd.Categorical([1.5, 2.5]), ".astype('float64') makes floats"),
-            ([90071992547409.91] * 2, "53 bits don't hold"),
+            ([90071992547409.91] * 2, "the 53 bits of a float"),
         ]
         for cells, words in cases:
             with self.assertRaises(ruzgalt.Refused) as caught:
@@ -219,7 +219,7 @@ class Refusals(unittest.TestCase):
         update, change = good.update, numbers.update
         day = "2024-01-01"
         cases = [
-            ("a table that is there", lambda: good.table("t", OK), "TableExists", None, None),
+            ("a table that exists", lambda: good.table("t", OK), "TableExists", None, None),
             ("no such table", lambda: good.rows("u"), "NoTable", None, None),
             ("no such column", lambda: update("t", "2024-01-01", None, {"z": 1}), "NoColumn", "z", None),
             ("a number for a text", lambda: update("t", "2024-01-01", None, {"k": 1}), "WrongKind", "k", None),
@@ -261,7 +261,7 @@ class Refusals(unittest.TestCase):
             good.update("t", "2024-01-05", None, {"k": "q"}, {"k": "n"})
         self.assertEqual((len(good.rows("t")), good.log()["commit"].max()), (5, 4))
 
-    def test_a_row_far_back_is_told_by_its_label_where_rows_go_in_parts(self):
+    def test_a_row_far_back_is_named_by_its_label_where_rows_go_in_parts(self):
         count = 40
         cells = {"from": DAYS(["2024-01-01"] * count), "to": DAYS(["2024-01-02"] * count), "k": range(count)}
         many = pd.DataFrame(cells, index=[f"r{place}" for place in range(count)])

@@ -74,7 +74,7 @@ class Split(unittest.TestCase):
 
     def test_a_value_that_most_rows_have_is_cut_by_time(self):
         left, right = frame(300, 5), frame(300, 6)
-        others = frame(100, 7, values=20).assign(k=lambda told: told["k"] + 1)
+        others = frame(100, 7, values=20).assign(k=lambda given: given["k"] + 1)
         self.answers_as_whole(pd.concat([left, others]), pd.concat([others, right]), rows=100, most=24)
 
     def test_rows_that_hold_at_one_time_go_into_blocks(self):
@@ -135,12 +135,12 @@ class Split(unittest.TestCase):
             pd.testing.assert_frame_equal(ruzgalt.join(left, left, on="k"), whole)
         self.assertEqual(runs.call_count, split.TRIES + 1)
 
-    def test_what_memory_ends_again_and_again_is_told(self):
+    def test_what_memory_ends_again_and_again_is_reported(self):
         for name, asked in QUESTIONS.items():
             with self.subTest(name), ended_by(lambda run: True) as runs, self.assertRaises(ruzgalt.Stopped) as caught:
                 asked(frame(3_000, 16), frame(3_000, 17))
             self.assertEqual(runs.call_count, split.TRIES + 1)
-            self.assertIn("SIGKILL; tried 4 times more, with fewer rows: fewer rows in a call", str(caught.exception))
+            self.assertIn("tried 4 times more, with fewer rows: give fewer rows in a call", str(caught.exception))
 
 
 if __name__ == "__main__":

@@ -27,7 +27,7 @@ WORDS = {name: word for name, (_, word) in COLUMNS.items()}
 
 def frame():
     start, end = DAYS(["2024-01-01", "2024-01-02", "2024-01-03"]), DAYS(["2024-02-01", "2024-02-02", "2024-02-03"])
-    cells = {name: told for name, (told, _) in COLUMNS.items()}
+    cells = {name: answered for name, (answered, _) in COLUMNS.items()}
     return pd.DataFrame({"from": start, "to": end, "k": [1, 2, 3], **cells})
 
 
@@ -70,12 +70,12 @@ class StandIns(unittest.TestCase):
         more = frame().iloc[:2][["from", "to", "k", "note"]].assign(note=pd.array([pd.NA, "c"], "string"))
         store.update_rows("t", more)
         self.assertEqual(store.at("t", "2024-01-05").sort_values("k")["note"].tolist(), [pd.NA, "c", ""])
-        self.refuses("BadCommand", "note", "None is it", lambda: store.update("t", "2024-01-10", None, {"note": "?"}))
+        self.refuses("BadCommand", "note", "give None", lambda: store.update("t", "2024-01-10", None, {"note": "?"}))
 
     def test_a_numpy_column_gets_a_dtype_that_has_missing_cells(self):
         store = ruzgalt.Store()
-        told = frame()[["from", "to"]].assign(n=np.array([1, 2, 3], "i2"), b=[True, False, True])
-        store.table("t", told, missing={"n": 0, "b": 2})
+        found = frame()[["from", "to"]].assign(n=np.array([1, 2, 3], "i2"), b=[True, False, True])
+        store.table("t", found, missing={"n": 0, "b": 2})
         self.assertEqual(store.rows("t").dtypes.tolist()[3:], [np.dtype("int16"), np.dtype(bool)])
         store.update("t", "2024-01-10", "2024-01-11", {"n": None, "b": None}, {"n": 1})
         rows = store.rows("t")
@@ -98,11 +98,11 @@ class StandIns(unittest.TestCase):
     def test_missing_cells_without_it_are_refused_with_both_remedies(self):
         for name, (cells, _) in COLUMNS.items():
             others = {other: word for other, word in WORDS.items() if other != name}
-            told = self.refuses_any(lambda: made(missing=others))
-            self.assertEqual(told.column, name)
-            self.assertIn(".dropna(subset=", told.reason)
-            self.assertIn(f"missing={{{name!r}: ..}}", told.reason)
-            self.assertEqual(told.label, int(pd.Series(cells).isna().to_numpy().argmax()))
+            said = self.refuses_any(lambda: made(missing=others))
+            self.assertEqual(said.column, name)
+            self.assertIn(".dropna(subset=", said.reason)
+            self.assertIn(f"missing={{{name!r}: ..}}", said.reason)
+            self.assertEqual(said.label, int(pd.Series(cells).isna().to_numpy().argmax()))
 
     def refuses_any(self, call):
         with self.assertRaises(ruzgalt.Refused) as caught:

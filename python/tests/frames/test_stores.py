@@ -22,8 +22,8 @@ SECONDS = pd.PeriodDtype(pd.offsets.Second())
 
 def frame(**cells):
     """Two rows, x and y, of which these columns are others."""
-    told = {"from": DAYS(["2024-01-01", "2024-01-02"]), "to": DAYS(["2024-02-01", "2024-02-02"]), "k": ["a", "b"]}
-    return pd.DataFrame({**told, **cells}, index=["x", "y"])
+    usual = {"from": DAYS(["2024-01-01", "2024-01-02"]), "to": DAYS(["2024-02-01", "2024-02-02"]), "k": ["a", "b"]}
+    return pd.DataFrame({**usual, **cells}, index=["x", "y"])
 
 
 def store(table, name="t", **words):
@@ -45,10 +45,10 @@ class Case(unittest.TestCase):
         """That the call is refused by this name, in words which have all of these."""
         with self.assertRaises(ruzgalt.Refused) as caught:
             call()
-        told = str(caught.exception)
-        self.assertEqual(caught.exception.name, name, told)
+        said = str(caught.exception)
+        self.assertEqual(caught.exception.name, name, said)
         for word in words:
-            self.assertIn(word, told)
+            self.assertIn(word, said)
         return caught.exception
 
 
@@ -111,15 +111,15 @@ class Names(Case):
         self.assertEqual(list(got), ["count", "k", "from", "to", "sum_cents"])
 
     def test_aggregates_by_columns_are_those_of_frames(self):
-        told = frame(k=["a", "a\0b"], desk=pd.Categorical(["x", "x"]), price=[1.25, 2.5])
-        made = store(told, decimals={"price": 2})
+        found = frame(k=["a", "a\0b"], desk=pd.Categorical(["x", "x"]), price=[1.25, 2.5])
+        made = store(found, decimals={"price": 2})
         for by in ("k", ["k"], ["desk", "k"]):
             words = {"by": by, "decimals": {"price": 2}}
             for function in ("sum", "min"):
-                wanted = ruzgalt.agg(told, function, "price", **words)
+                wanted = ruzgalt.agg(found, function, "price", **words)
                 pd.testing.assert_frame_equal(made.agg("t", function, "price", by=by), wanted)
             several = {"price": ["mean", "max"], "k": "count"}
-            wanted = ruzgalt.agg(told, several, mean_as="Fraction", **words)
+            wanted = ruzgalt.agg(found, several, mean_as="Fraction", **words)
             pd.testing.assert_frame_equal(made.agg("t", several, by=by, mean_as="Fraction"), wanted)
 
     def test_numbers_of_other_units_are_not_compared(self):
@@ -131,11 +131,11 @@ class Names(Case):
     def test_columns_have_any_names_and_the_store_names_like_them(self):
         nan = float("nan")
         names = ["Person", "person", "Löhne €", "", "a,\"b\"\n", "where", 2024, ("a", 1), None, nan, "x" * 4096]
-        told = frame(**{f"c{place}": [place, 7] for place in range(1, len(names))})
-        told.columns = pd.Index(["from", "to", *names], dtype=object, tupleize_cols=False)
-        made = store(told, key=["Person", float("nan")])
+        found = frame(**{f"c{place}": [place, 7] for place in range(1, len(names))})
+        found.columns = pd.Index(["from", "to", *names], dtype=object, tupleize_cols=False)
+        made = store(found, key=["Person", float("nan")])
         made.update("t", "2024-01-10", None, {"Löhne €": 3, float("nan"): 5}, {"Person": "a", ("a", 1): 7})
-        made.update_rows("t", told.iloc[:1, [0, 1, 2, 4]], "Person")
+        made.update_rows("t", found.iloc[:1, [0, 1, 2, 4]], "Person")
         script = made.script()
         self.assertEqual(list(script.names["t"]), [
             "person_", "person", "lohne", "c", "a_b", "where_", "c2024", "a_1", "none", "nan", "x" * 32,
@@ -150,7 +150,7 @@ class Names(Case):
                 self.assertEqual(list(map(repr, groups)), list(map(repr, by)))
             pairs = one.join("t", "t", on=[None, float("nan"), ("a", 1), "x" * 4096])
             self.assertEqual(pairs["left_id"].tolist(), one.rows("t").sort_values("from")["row_id"].tolist())
-        self.refuses(lambda: made.load("t", told), "KeyOverlap", "Person 'a'", "nan ")
+        self.refuses(lambda: made.load("t", found), "KeyOverlap", "Person 'a'", "nan ")
         self.refuses(lambda: made.update("t", "2024-01-10", None, {"lohne": 3}), "NoColumn", "'lohne'", "'Löhne €'")
 
     def test_a_script_from_a_file_has_its_names_in_frames_by_an_option(self):
@@ -306,7 +306,7 @@ class Changes(Case):
             ("no row then", lambda made: made.delete("t", "2025-01-10", None), "no row holds"),
             ("all rows", lambda made: made.update("t", "2024-01-10", None, {"k": "z"}), "all rows of that time: 2"),
             ("all deleted", lambda made: made.delete("t", "2024-01-10", None), "all rows of that time: 2"),
-            ("all by where", lambda made: made.update("t", "2024-01-10", None, {"k": "z"}, {"n": 1}), "all 2"),
+            ("all by where", lambda made: made.update("t", "2024-01-10", None, {"k": "z"}, {"n": 1}), "matches all"),
             ("a row of none", lambda made: made.update_rows("t", frame(k=["a", "B"], n=[3, 4]), "k"), "row 'y'"),
             ("a month's last day", lambda made: made.update("t", "2024-01-10", "2024-01-31", {"k": "z"}, {"k": "a"}),
              "2024-01-31 isn't in it"),
@@ -324,12 +324,12 @@ class Changes(Case):
              "row 1 by place makes the same row as row 0 by place"),
             ("twice within", lambda made: made.load("t", pd.concat([frame(k="q", n=7).iloc[:1]] * 3)), "1 more rows"),
         ]
-        for what, change, told in cases:
+        for what, change, note in cases:
             with self.subTest(what):
                 made = store(frame(n=[1, 1]))
                 changed, doubts = quietly(lambda: change(made))
                 self.assertEqual(len(doubts), 1, doubts)
-                self.assertIn(told, doubts[0])
+                self.assertIn(note, doubts[0])
                 self.assertIsInstance(changed, ruzgalt.Changed)
 
     def test_a_change_of_some_is_not_doubted(self):
@@ -377,9 +377,9 @@ class Changes(Case):
     def test_what_is_no_name_is_named_by_its_type(self):
         made = store(frame())
         self.refuses(lambda: made.load(frame(), "t"), "NoTable", "<DataFrame>")
-        told = self.refuses(lambda: made.delete("t", "2024-01-10", None, frame()["k"] == "a"), "BadCommand", "<Series>")
-        self.assertNotIn("\n", str(told))
-        self.refuses(lambda: made.at("t", frame()["from"]), "WrongKind", "<Series> is no point")
+        said = self.refuses(lambda: made.delete("t", "2024-01-10", None, frame()["k"] == "a"), "BadCommand", "<Series>")
+        self.assertNotIn("\n", str(said))
+        self.refuses(lambda: made.at("t", frame()["from"]), "WrongKind", "<Series>: must be a date")
 
     def test_a_number_past_64_bits_is_refused_with_the_bounds(self):
         made = store(frame(n=[1, 2], price=[1.5, 2.5]), decimals={"price": 2})
@@ -390,7 +390,7 @@ class Changes(Case):
     def test_columns_of_units_beside_whole_numbers(self):
         made = store(frame(n=[1, 2], price=[1.5, 2.5]), decimals={"price": 2})
         asked = lambda: made.join("t", "t", left_on="price", right_on="n")  # noqa: E731
-        self.refuses(asked, "WrongKind", "'price'", "has 2 decimals, and 'n' of the right frame no")
+        self.refuses(asked, "WrongKind", "'price'", "has 2 decimals, but 'n' of the right frame has no")
 
     def test_frames_have_the_columns_of_the_table(self):
         made = store(frame(n=[1, 2]), key=["k"])
@@ -398,8 +398,8 @@ class Changes(Case):
         self.refuses(lambda: made.load("t", frame()), "NoColumn", "'n'")
         self.refuses(lambda: made.update_rows("t", frame(n=[1, 2], note="x")), "NoColumn", "'note'")
         self.refuses(lambda: made.update_rows("t", frame(n=[1, 2]).drop(columns="k")), "NoColumn", "'k'")
-        told = frame(n=[3, 4], k=["c", "d"])
-        made.load("t", told[["n", "to", "k", "from"]])
+        found = frame(n=[3, 4], k=["c", "d"])
+        made.load("t", found[["n", "to", "k", "from"]])
         self.assertEqual(made.rows("t")["n"].tolist(), [1, 2, 3, 4])
 
     def test_what_is_no_frame_is_refused_in_words(self):
@@ -426,21 +426,21 @@ class Changes(Case):
                  "2024-02-02", "hold at 2024-01-10")
         self.refuses(lambda: made.update("t", "2024-01-10", None, {"k": "a"}, {"n": 2}), "KeyOverlap", *words)
         rows = frame(k=["c", "c"], n=[1, 2])
-        told = self.refuses(lambda: made.update_rows("t", rows, ["n"]), "KeyOverlap", "k 'c'", "id 3 from 2024-01-01",
+        said = self.refuses(lambda: made.update_rows("t", rows, ["n"]), "KeyOverlap", "k 'c'", "id 3 from 2024-01-01",
                             "id 2, as it would be updated, from 2024-01-02 to 2024-02-02")
-        self.assertEqual(told.label, "y")
+        self.assertEqual(said.label, "y")
 
     def test_an_overlap_by_a_load_names_both_rows(self):
         made = store(frame(price=[1.5, 2.5]), key=["price"], decimals={"price": 2})
-        told = self.refuses(lambda: made.load("t", frame(price=[3.5, 2.5])), "KeyOverlap", "price 2.5", "row 'y' from "
+        said = self.refuses(lambda: made.load("t", frame(price=[3.5, 2.5])), "KeyOverlap", "price 2.5", "row 'y' from "
                             "2024-01-02 to 2024-02-02", "id 2 from 2024-01-02 to 2024-02-02")
-        self.assertEqual(told.label, "y")
+        self.assertEqual(said.label, "y")
 
     def test_aggregates_are_refused_as_of_frames(self):
         made = store(frame(n=[1, 2]))
         for function, column in (("summ", "n"), ("sum", None), ("count", "n"), (["sum"], "n"), ("sum", "k")):
-            refused, told = [], frame(n=[1, 2])
-            for call in (lambda: made.agg("t", function, column), lambda: ruzgalt.agg(told, function, column)):
+            refused, found = [], frame(n=[1, 2])
+            for call in (lambda: made.agg("t", function, column), lambda: ruzgalt.agg(found, function, column)):
                 with self.assertRaises(ruzgalt.Refused) as caught:
                     call()
                 refused.append(str(caught.exception))

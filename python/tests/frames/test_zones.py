@@ -34,7 +34,7 @@ def frame(rows, names=("from", "to", "k"), **words):
     return pd.DataFrame(dict(zip(names, (zoned(starts, **words), zoned(ends, **words), keys))))
 
 
-def told(got):
+def rows_in(got):
     """The rows of an answer, its points in UTC."""
     columns = [[None if cell is pd.NaT else cell for cell in got[name]] for name in got]
     return [[one.tz_convert("UTC").to_pydatetime() if isinstance(one, pd.Timestamp) else one for one in row]
@@ -88,15 +88,15 @@ class Zones(unittest.TestCase):
                 left, right = night(random, random.randint(1, 8)), night(random, random.randint(1, 8))
                 with self.subTest(seed):
                     got = ruzgalt.join(frame(left), frame(right), on="k", labels=True)
-                    self.assertEqual(told(got[["from", "to", "k", "left_label", "right_label"]]), pairs(left, right))
+                    self.assertEqual(rows_in(got[["from", "to", "k", "left_label", "right_label"]]), pairs(left, right))
                     self.assertEqual(got["from"].dtype, frame(left)["from"].dtype)
-                    self.assertEqual(told(ruzgalt.agg(frame(left), "count")), counts(left))
+                    self.assertEqual(rows_in(ruzgalt.agg(frame(left), "count")), counts(left))
 
     def test_an_anti_join_and_a_division_are_in_the_zone(self):
         begin = NIGHTS[1]
         one, other = [(begin, begin + 10 * HOUR, "a")], [(begin + 4 * HOUR, begin + 6 * HOUR, "a")]
         got = ruzgalt.anti(frame(one), frame(other), on="k")
-        self.assertEqual(told(got), [[begin, begin + 4 * HOUR, "a"], [begin + 6 * HOUR, begin + 10 * HOUR, "a"]])
+        self.assertEqual(rows_in(got), [[begin, begin + 4 * HOUR, "a"], [begin + 6 * HOUR, begin + 10 * HOUR, "a"]])
         self.assertEqual(list(map(str, got["from"])), ["2024-10-26 21:00:00+02:00", "2024-10-27 02:00:00+01:00"])
         self.assertEqual(str(ruzgalt.dip(frame(other)).instant), "2024-10-27 01:00:00+02:00")
 
@@ -104,7 +104,7 @@ class Zones(unittest.TestCase):
         begin = NIGHTS[0]
         rows = [(begin, None, "a"), (begin + HOUR, begin + 2 * HOUR, "a")]
         got = ruzgalt.agg(frame(rows), "count", open_end=True)
-        self.assertEqual(told(got)[-1], [begin + 2 * HOUR, None, 1])
+        self.assertEqual(rows_in(got)[-1], [begin + 2 * HOUR, None, 1])
         self.assertEqual(got["to"].dtype, frame(rows)["to"].dtype)
         self.assertRaises(ruzgalt.Refused, lambda: ruzgalt.agg(frame(rows), "count"))
 
@@ -116,8 +116,8 @@ class Zones(unittest.TestCase):
         spread = [dask.from_pandas(one, npartitions=3) for one in (left, right)]
         wanted = ruzgalt.join(left, right, on="k")
         got = ruzgalt.join(*spread, on="k").compute()
-        self.assertEqual((sorted(told(got)), got["to"].dtype), (sorted(told(wanted)), wanted["to"].dtype))
-        self.assertEqual(told(ruzgalt.agg(spread[0], "count").compute()), told(ruzgalt.agg(left, "count")))
+        self.assertEqual((sorted(rows_in(got)), got["to"].dtype), (sorted(rows_in(wanted)), wanted["to"].dtype))
+        self.assertEqual(rows_in(ruzgalt.agg(spread[0], "count").compute()), rows_in(ruzgalt.agg(left, "count")))
 
     def test_one_zone_has_several_names_of_classes(self):
         begin = NIGHTS[0]
@@ -126,7 +126,7 @@ class Zones(unittest.TestCase):
         for zone in (BERLIN, UTC, datetime.timezone(HOUR), tz.gettz("Europe/Berlin")):
             with self.subTest(zone):
                 got = ruzgalt.join(frame(rows, zone=zone), frame(rows, zone=zone), on="k")
-                self.assertEqual((told(got), str(got["to"].dt.tz)), ([[*rows[0]]], str(zone)))
+                self.assertEqual((rows_in(got), str(got["to"].dt.tz)), ([[*rows[0]]], str(zone)))
         self.assertEqual(len(ruzgalt.join(frame(rows, zone=BERLIN), frame(rows), on="k")), 1)
 
     def test_two_zones_in_one_call_are_refused(self):
@@ -140,7 +140,7 @@ class Zones(unittest.TestCase):
             ("none", lambda: ruzgalt.anti(one, plain, on="k"), "points in no zone beside points in Europe", "from"),
             ("none first", lambda: ruzgalt.anti(plain, one, on="k"), "Europe/Berlin beside points in no zone", "from"),
             ("in a frame", lambda: ruzgalt.agg(mixed, "count"), "points in no zone beside points in Europe", "to"),
-            ("as periods", lambda: ruzgalt.agg(one, "count", points_as="S"), "points in Europe/Berlin come as", None),
+            ("periods", lambda: ruzgalt.agg(one, "count", points_as="S"), "points in Europe/Berlin it must be", None),
         ]
         for case in cases:
             self.refuses(*case)
@@ -149,7 +149,7 @@ class Zones(unittest.TestCase):
     def test_a_store_has_no_zone(self):
         one, made = frame([(NIGHTS[0], NIGHTS[0] + HOUR, "a")]), ruzgalt.Store()
         plain = one.assign(**{name: one[name].dt.tz_localize(None) for name in ("from", "to")})
-        remedy = "a store's points have no time zone, and these have Europe/Berlin; .dt.tz_convert(ZONE).dt.tz_localize"
+        remedy = "a store's points have no time zone, but these have Europe/Berlin; .dt.tz_convert(ZONE).dt.tz_localize"
         self.refuses("a table", lambda: made.table("t", one), remedy, "from")
         made.table("t", plain)
         before = made.script()
@@ -176,7 +176,7 @@ class Units(unittest.TestCase):
                 one = frame(rows, zone=UTC, unit=unit)
                 got = ruzgalt.agg(one, "count", open_end=True)
                 wanted = [[begin, begin + DAY, 1], [begin + DAY, begin + 9 * DAY, 2], [begin + 9 * DAY, None, 1]]
-                self.assertEqual((told(got), got["to"].dtype), (wanted, one["to"].dtype))
+                self.assertEqual((rows_in(got), got["to"].dtype), (wanted, one["to"].dtype))
                 whole = frame([(begin, begin + DAY, "a")], zone=UTC, unit="s")
                 coarser = ruzgalt.anti(one, whole, on="k", open_end=True)
                 self.assertEqual(str(coarser["from"].dtype), "datetime64[s, UTC]")
