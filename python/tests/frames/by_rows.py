@@ -8,7 +8,7 @@ from typing import NamedTuple
 
 OPEN = 40
 FUNCTIONS = {
-    "count": len, "sum": sum, "min": min, "max": max, "mean": lambda told: Fraction(sum(told)) / len(told),
+    "count": len, "sum": sum, "min": min, "max": max, "mean": lambda one: Fraction(sum(one)) / len(one),
 }
 
 
@@ -19,8 +19,8 @@ def is_same(one, other):
 def named(columns):
     """The names of an answer's columns (name, suffix, cells): what several have gets its suffix."""
     names = [name for name, _, _ in columns]
-    told = [f"{name}{suffix}" if suffix and times(names, name) > 1 else name for name, suffix, _ in columns]
-    return told if all(times(told, name) == 1 for name in told) else None
+    found = [f"{name}{suffix}" if suffix and times(names, name) > 1 else name for name, suffix, _ in columns]
+    return found if all(times(found, name) == 1 for name in found) else None
 
 
 def times(names, name):
@@ -45,7 +45,7 @@ def keys(frame, names):
 
 def answer(columns):
     names = named(columns)
-    return None if names is None else (names, [list(row) for row in zip(*(told for _, _, told in columns))])
+    return None if names is None else (names, [list(row) for row in zip(*(answered for _, _, answered in columns))])
 
 
 NONE = -1
@@ -61,43 +61,43 @@ class Kept(NamedTuple):
     day: int
 
 
-def join(frames, told):
-    """told has periods and on, of each frame; how, labels and suffixes; and whether the compared columns are shared."""
+def join(frames, given):
+    """given has periods and on, of each frame; how, labels and suffixes; and whether compared columns are shared."""
     left, right = (
-        list(zip(periods(frame, period), keys(frame, on))) for frame, period, on in zip(frames, told.periods, told.on)
+        list(zip(periods(frame, period), keys(frame, on))) for frame, period, on in zip(frames, given.periods, given.on)
     )
     found = [
         (max(one[0], two[0]), min(one[1], two[1]), row, other)
         for row, (one, key) in enumerate(left) for other, (two, other_key) in enumerate(right)
         if key == other_key and max(one[0], two[0]) < min(one[1], two[1])
     ]
-    if told.how in ("left", "outer"):
+    if given.how in ("left", "outer"):
         found += [(start, end, row, NONE) for row, start, end in unmet(left, right)]
-    if told.how in ("right", "outer"):
+    if given.how in ("right", "outer"):
         found += [(start, end, NONE, row) for row, start, end in unmet(right, left)]
     found.sort(key=lambda row: [LAST if one == NONE else one for one in row])
-    return beside(frames, found, told)
+    return beside(frames, found, given)
 
 
-def beside(frames, found, told):
+def beside(frames, found, given):
     """Columns of start, end and places of rows."""
     places = [[row[2 + side] for row in found] for side in (0, 1)]
-    columns = [(name, None, [row[side] for row in found]) for side, name in enumerate(told.periods[0])]
-    if told.labels:
+    columns = [(name, None, [row[side] for row in found]) for side, name in enumerate(given.periods[0])]
+    if given.labels:
         numbers = [list(range(len(frame[0][1]))) for frame in frames]
         columns += zip(("left_label", "right_label"), (None, None), map(taken, numbers, places))
-    for side, frame in enumerate(frames if told.keeps_periods else ()):
-        for is_end, name in enumerate(told.periods[side]):
+    for side, frame in enumerate(frames if given.keeps_periods else ()):
+        for is_end, name in enumerate(given.periods[side]):
             own = [Kept(side, bool(is_end), day) for day in cells(frame, name)]
-            columns.append((name, told.suffixes[side], taken(own, places[side])))
+            columns.append((name, given.suffixes[side], taken(own, places[side])))
     for side, frame in enumerate(frames):
-        away = [*told.periods[side], *(told.on[1] if side and told.is_shared else [])]
+        away = [*given.periods[side], *(given.on[1] if side and given.is_shared else [])]
         for name, values in frame:
             if not times(away, name):
                 own = taken(values, places[side])
-                if side == 0 and told.is_shared and times(told.on[0], name):
+                if side == 0 and given.is_shared and times(given.on[0], name):
                     own = either(values, cells(frames[1], name), places)
-                columns.append((name, told.suffixes[side], own))
+                columns.append((name, given.suffixes[side], own))
     return answer(columns)
 
 
@@ -112,8 +112,8 @@ def unmet(left, right):
 def taken(values, places):
     """The cells at these places, of NONE a missing one, beside which whole numbers are floats."""
     is_whole = NONE in places and all(type(value) is int for value in values)
-    told = [None if place == NONE else values[place] for place in places]
-    return [float(value) if is_whole and value is not None else value for value in told]
+    found = [None if place == NONE else values[place] for place in places]
+    return [float(value) if is_whole and value is not None else value for value in found]
 
 
 def either(values, others, places):
@@ -131,11 +131,11 @@ def runs(days):
     return found
 
 
-def anti(frames, told):
+def anti(frames, given):
     left, right = (
-        list(zip(periods(frame, period), keys(frame, on))) for frame, period, on in zip(frames, told.periods, told.on)
+        list(zip(periods(frame, period), keys(frame, on))) for frame, period, on in zip(frames, given.periods, given.on)
     )
-    ends = [place(frames[0], name) for name in told.periods[0]]
+    ends = [place(frames[0], name) for name in given.periods[0]]
     rows = []
     for row, one, two in unmet(left, right):
         made = [values[row] for _, values in frames[0]]
@@ -148,11 +148,11 @@ def order(group):
     return [cell.encode() if isinstance(cell, str) else cell for cell in group]
 
 
-def agg(frame, measures, told):
+def agg(frame, measures, given):
     """measures: functions with their columns, None of the rows alone."""
-    groups, rows = keys(frame, told.on[0]), []
+    groups, rows = keys(frame, given.on[0]), []
     amounts = [frame[0][1] if column is None else cells(frame, column[0]) for _, column in measures]
-    held = list(zip(periods(frame, told.periods[0]), groups, zip(*amounts)))
+    held = list(zip(periods(frame, given.periods[0]), groups, zip(*amounts)))
     for group in sorted(set(groups), key=order):
         days = [
             [own for (start, end), other, own in held if other == group and start <= day < end] for day in range(OPEN)
@@ -162,17 +162,17 @@ def agg(frame, measures, told):
         ]
         rows += [[*group, start, end, *value] for start, end, value in runs(values)]
     names = [function if column is None else f"{function}_{column[0]}" for function, column in measures]
-    names = [*told.on[0], *told.periods[0], *names]
+    names = [*given.on[0], *given.periods[0], *names]
     return (names, rows) if all(times(names, name) == 1 for name in names) else None
 
 
-def by_groups(frame, told, days_of):
+def by_groups(frame, given, days_of):
     """Runs of days of each group, of what days_of makes of its periods."""
-    groups, rows = keys(frame, told.on[0]), []
+    groups, rows = keys(frame, given.on[0]), []
     for group in sorted(set(groups), key=order):
-        held = [period for period, own in zip(periods(frame, told.periods[0]), groups) if own == group]
+        held = [period for period, own in zip(periods(frame, given.periods[0]), groups) if own == group]
         rows += [[*group, start, end] for start, end, _ in runs([is_held or None for is_held in days_of(held)])]
-    names = [*told.on[0], *told.periods[0]]
+    names = [*given.on[0], *given.periods[0]]
     return (names, rows) if all(times(names, name) == 1 for name in names) else None
 
 
@@ -180,22 +180,22 @@ def is_held(periods, day):
     return any(start <= day < end for start, end in periods)
 
 
-def coalesce(frame, told):
-    return by_groups(frame, told, lambda held: [is_held(held, day) for day in range(OPEN)])
+def coalesce(frame, given):
+    return by_groups(frame, given, lambda held: [is_held(held, day) for day in range(OPEN)])
 
 
-def gaps(frame, told, within):
+def gaps(frame, given, within):
     def free(held):
         first, behind = within or (min(start for start, _ in held), max(end for _, end in held))
         return [first <= day < behind and not is_held(held, day) for day in range(OPEN)]
-    return by_groups(frame, told, free)
+    return by_groups(frame, given, free)
 
 
-def spread(frame, amounts, told, pieces_of, within):
+def spread(frame, amounts, given, pieces_of, within):
     """pieces_of: the first day of the piece that has a day, and the one behind it. Amounts are whole numbers."""
-    groups, rows = keys(frame, told.on[0]), []
+    groups, rows = keys(frame, given.on[0]), []
     held = [(max(start, within[0]), min(end, within[1])) if within else (start, end)
-            for start, end in periods(frame, told.periods[0])]
+            for start, end in periods(frame, given.periods[0])]
     if any(start < end == OPEN for start, end in held):
         return None
     for group in sorted(set(groups), key=order):
@@ -205,29 +205,29 @@ def spread(frame, amounts, told, pieces_of, within):
                 first, behind = pieces_of(day)
                 sums[first, behind] = sums.get((first, behind), 0) + Fraction(amount, behind - first)
         found = sorted(sums)
-        rows += [[*group, *piece, told.sum_of(sums[piece], whole)] for piece, whole in zip(found, wholes(sums, found))]
-    return [*told.on[0], *told.periods[0], told.asked[0]], rows
+        rows += [[*group, *piece, given.sum_of(sums[piece], whole)] for piece, whole in zip(found, wholes(sums, found))]
+    return [*given.on[0], *given.periods[0], given.asked[0]], rows
 
 
 def wholes(sums, found):
     """Whole numbers that add up to the sum, rounded: one after another is raised, that which lacks most."""
-    told = [sums[piece] // 1 for piece in found]
+    listed = [sums[piece] // 1 for piece in found]
     total = sum(sums.values())
     sign = -1 if total < 0 else 1
-    for _ in range(sign * int(abs(total) + Fraction(1, 2)) - sum(told)):
-        place = max(range(len(found)), key=lambda one: (sums[found[one]] - told[one], -one))
-        told[place] += 1
-    return told
+    for _ in range(sign * int(abs(total) + Fraction(1, 2)) - sum(listed)):
+        place = max(range(len(found)), key=lambda one: (sums[found[one]] - listed[one], -one))
+        listed[place] += 1
+    return listed
 
 
-def overlaps(frame, told):
-    rows = list(zip(periods(frame, told.periods[0]), keys(frame, told.on[0])))
+def overlaps(frame, given):
+    rows = list(zip(periods(frame, given.periods[0]), keys(frame, given.on[0])))
     found = sorted(
         (max(one[0], two[0]), min(one[1], two[1]), row, other)
         for other, (two, other_key) in enumerate(rows) for row, (one, key) in enumerate(rows[:other])
         if key == other_key and max(one[0], two[0]) < min(one[1], two[1])
     )
-    return beside([frame, frame], found, told)
+    return beside([frame, frame], found, given)
 
 
 def most(frame, period):

@@ -56,16 +56,16 @@ class Cluster:
     def add_worker(self, *words, **variables):
         """A worker with these words more, and variables of its environment."""
         usual = ["--nthreads", "1", "--no-nanny", "--memory-limit", "1GB", "--local-directory", self.folder.name]
-        told = ["--scheduler-file", self.file, *usual, *words]
-        self.workers.append(self.start("dask_worker", *told, **variables))
+        given = ["--scheduler-file", self.file, *usual, *words]
+        self.workers.append(self.start("dask_worker", *given, **variables))
 
     def kill(self, process):
         """Kills a worker at once. What it ran at that time."""
-        told = children(process.pid)
+        found = children(process.pid)
         os.kill(process.pid, signal.SIGKILL)
         process.wait()
         self.workers.remove(process)
-        return told
+        return found
 
     def said(self):
         return "\n".join(log.read_text()[-2000:] for log in sorted(Path(self.folder.name).glob("*.log")))

@@ -24,8 +24,8 @@ FIRST = datetime.date(2024, 1, 1)
 # A zone and a day before its clocks are put on.
 ZONE, SPRING = pd.DatetimeTZDtype("ns", "Europe/Berlin"), datetime.timedelta(days=84)
 DAYS = {
-    "ns": pd.Timestamp, "date": lambda told: told, "D": lambda told: pd.Period(told, "D"),
-    "zone": lambda told: pd.Timestamp(told + SPRING, tz=ZONE.tz),
+    "ns": pd.Timestamp, "date": lambda one: one, "D": lambda one: pd.Period(one, "D"),
+    "zone": lambda one: pd.Timestamp(one + SPRING, tz=ZONE.tz),
 }
 FRAME = pd.DataFrame({"from": [pd.Timestamp("2024-01-01")], "to": [pd.Timestamp("2024-01-02")], "id": [1]})
 NO_FRAMES = [None, [1], {"from": [1]}, FRAME["id"], "pay.csv", 5, FRAME.to_numpy(), FRAME.index]
@@ -62,8 +62,8 @@ NO_FUNCTIONS = [
 ]
 # A mean as it comes.
 MEANS = {
-    "float": float, "Fraction": lambda told: told,
-    "Decimal": lambda told: decimal.Decimal(told.numerator) / decimal.Decimal(told.denominator),
+    "float": float, "Fraction": lambda one: one,
+    "Decimal": lambda one: decimal.Decimal(one.numerator) / decimal.Decimal(one.denominator),
 }
 AMOUNTS = [st.integers(-3, 3), st.booleans(), st.sampled_from([0.25, -1.5, 2.75])]
 HOWS = st.sampled_from(["inner", "left", "right", "outer"])
@@ -114,17 +114,17 @@ class Case:
 
     def pieces_of(self, day):
         """The first day of the piece of the calendar that has a day, and the one behind it, by their numbers."""
-        told = self.point(day)
-        told, each = datetime.date(told.year, told.month, told.day), self.options["each"]
-        first = told - datetime.timedelta(days=told.weekday() if each == "W" else told.day - 1)
+        found = self.point(day)
+        found, each = datetime.date(found.year, found.month, found.day), self.options["each"]
+        first = found - datetime.timedelta(days=found.weekday() if each == "W" else found.day - 1)
         length = {"M": 1, "Q": 3, "Y": 12}.get(each)
         if length is None:
             behind = first + datetime.timedelta(days=7)
         else:
-            month = (told.month - 1) // length * length
+            month = (found.month - 1) // length * length
             first = first.replace(month=month + 1)
-            behind = first.replace(year=told.year + (month + length) // 12, month=(month + length) % 12 + 1)
-        return day + (first - told).days, day + (behind - told).days
+            behind = first.replace(year=found.year + (month + length) // 12, month=(month + length) % 12 + 1)
+        return day + (first - found).days, day + (behind - found).days
 
     def sum_of(self, exact, whole):
         """As a sum comes; of floats in hundredths."""
@@ -149,10 +149,10 @@ class Case:
         made.columns = pd.Index(names, dtype=None if has_levels else object, tupleize_cols=has_levels)
         return made
 
-    def points(self, told):
+    def points(self, given):
         if self.kind == "D":
-            return pd.Series(pd.PeriodIndex(told, freq="D"))
-        return pd.Series(told, dtype={"ns": "M8[ns]", "zone": ZONE}.get(self.kind, object))
+            return pd.Series(pd.PeriodIndex(given, freq="D"))
+        return pd.Series(given, dtype={"ns": "M8[ns]", "zone": ZONE}.get(self.kind, object))
 
 
 def dtype_of(cells):
@@ -185,14 +185,14 @@ def some_names(count, apart=()):
 def columns_of(draw, period, keys, is_open):
     """keys: pairs of a name and the strategy of its cells. Rarely a name is there twice."""
     rows, others = draw(times(is_open)), draw(st.lists(NAMES, max_size=3))
-    told = [(name, [row[place] for row in rows]) for place, name in enumerate(period)]
-    told += [(name, [draw(cells) for _ in rows]) for name, cells in keys]
-    there, may_repeat = [name for name, _ in told], rarely(draw)
+    found = [(name, [row[place] for row in rows]) for place, name in enumerate(period)]
+    found += [(name, [draw(cells) for _ in rows]) for name, cells in keys]
+    there, may_repeat = [name for name, _ in found], rarely(draw)
     for name in others:
         if not by_rows.times(period if may_repeat else there, name):
             there.append(name)
-            told.append((name, [draw(OTHERS) for _ in rows]))
-    return draw(st.permutations(told))
+            found.append((name, [draw(OTHERS) for _ in rows]))
+    return draw(st.permutations(found))
 
 
 @st.composite
@@ -210,14 +210,14 @@ def cases(draw, call):
     keys = [list(zip(own, cells)) for own in on]
     amount = draw(some_names(1, [*periods[0], *on[0]]))[0]
     keys[0] += [(amount, draw(st.sampled_from(AMOUNTS)))] if call in ("agg", "spread") else []
-    columns = [draw(columns_of(*told)) for told in zip(periods, keys, are_open)]
+    columns = [draw(columns_of(*answered)) for answered in zip(periods, keys, are_open)]
     if rarely(draw):
         periods, on, amount = leveled(periods), leveled(on), level(amount)
-        columns = [[(level(name), told) for name, told in frame] for frame in columns]
+        columns = [[(level(name), answered) for name, answered in frame] for frame in columns]
     of_answer = draw(st.booleans()), draw(SUFFIXES), draw(HOWS), draw(st.booleans())
     case = Case(kind, has_last_days, periods, on, is_shared, *of_answer, columns)
     case.frames = [case.frame(0), case.frame(1)]
-    given = [by_rows.periods(*told) for told in zip(columns, periods)][:2 if call in OF_TWO else 1]
+    given = [by_rows.periods(*answered) for answered in zip(columns, periods)][:2 if call in OF_TWO else 1]
     case.is_right = all(start < end for frame in given for start, end in frame)
     case.options = draw(options(call, case, are_open))
     if call == "agg":
@@ -241,25 +241,25 @@ def leveled(names):
 def options(draw, call, case, are_open):
     """Options of right types, in each form that they may have."""
     flag, several = draw(st.sampled_from([bool, np.bool_])), draw(st.sampled_from([list, tuple]))
-    told = {"open_end": one_sided(flag, are_open), "last_day": one_sided(flag, case.has_last_days)}
+    found = {"open_end": one_sided(flag, are_open), "last_day": one_sided(flag, case.has_last_days)}
     own, other = ("period", "right_period") if draw(st.booleans()) else ("left_period", "period")
-    told[own if call in OF_TWO else "period"] = several(case.periods[0])
+    found[own if call in OF_TWO else "period"] = several(case.periods[0])
     if call in OF_TWO:
-        told[other] = several(case.periods[1])
-        told.update(compared(draw, case, several))
+        found[other] = several(case.periods[1])
+        found.update(compared(draw, case, several))
     if call in ("join", "overlaps"):
-        told.update(labels=flag(case.labels), suffixes=several(case.suffixes), keep_periods=flag(case.keeps_periods))
+        found.update(labels=flag(case.labels), suffixes=several(case.suffixes), keep_periods=flag(case.keeps_periods))
     if call == "join":
-        told["how"] = case.how
+        found["how"] = case.how
     if "by" in OF_CALL[call]:
-        told["by"] = one_or_all(draw, case.on[0], several)
+        found["by"] = one_or_all(draw, case.on[0], several)
     if draw(st.booleans()):
-        told["workers"] = draw(st.sampled_from([1, np.int64(2)]))
-    return told
+        found["workers"] = draw(st.sampled_from([1, np.int64(2)]))
+    return found
 
 
-def one_sided(flag, told):
-    return flag(told[0]) if told[0] == told[1] else "left" if told[0] else "right"
+def one_sided(flag, given):
+    return flag(given[0]) if given[0] == given[1] else "left" if given[0] else "right"
 
 
 def one_or_all(draw, names, several):

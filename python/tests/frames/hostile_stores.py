@@ -73,25 +73,25 @@ class Form:
         """The rows (start, end, values) as a frame. The day OPEN is a missing end."""
         ends = [None if end == OPEN else end - int(self.is_last_day) for _, end, _ in rows]
         cells = [column(self.points, [start for start, _, _ in rows]), column(self.points, ends)]
-        told = [*self.plain.period, *(self.names if names is None else names)]
-        for name in told[2:]:
+        found = [*self.plain.period, *(self.names if names is None else names)]
+        for name in found[2:]:
             dtype = {"int": "int64", "text": object}[self.kinds[name]]
             cells.append(pd.Series([values[name] for _, _, values in rows], dtype=dtype))
         made = pd.concat(cells, axis=1)
-        made.columns = pd.Index(told, dtype=object, tupleize_cols=False)
+        made.columns = pd.Index(found, dtype=object, tupleize_cols=False)
         return made
 
-    def end(self, told):
+    def end(self, given):
         """An end of an answer as a day."""
-        if told is None or told is pd.NaT:
+        if given is None or given is pd.NaT:
             return OPEN
-        return day(told) + int(self.is_last_day)
+        return day(given) + int(self.is_last_day)
 
 
-def day(told):
-    if isinstance(told, pd.Period):
-        told = datetime.date(told.year, told.month, told.day)
-    return (datetime.date(told.year, told.month, told.day) - FIRST.date()).days
+def day(given):
+    if isinstance(given, pd.Period):
+        given = datetime.date(given.year, given.month, given.day)
+    return (datetime.date(given.year, given.month, given.day) - FIRST.date()).days
 
 
 VALUES = {"int": st.integers(-2, 2), "text": st.sampled_from(TEXTS)}
@@ -129,13 +129,13 @@ def some(draw, names, least=0):
 
 
 @st.composite
-def texts_of_points(draw, form, told):
+def texts_of_points(draw, form, given):
     """A point in one of its forms: a text, a cell of the table's points, or another date."""
-    if told == OPEN:
+    if given == OPEN:
         return None
-    kind = form.points if told <= MOST else "S"
-    return draw(st.sampled_from([moment(told).date().isoformat(), point(kind, told), moment(told),
-                                 np.datetime64(moment(told), "s"), np.datetime64(moment(told), "D")]))
+    kind = form.points if given <= MOST else "S"
+    return draw(st.sampled_from([moment(given).date().isoformat(), point(kind, given), moment(given),
+                                 np.datetime64(moment(given), "s"), np.datetime64(moment(given), "D")]))
 
 
 @st.composite

@@ -145,8 +145,8 @@ def join(sides, pairs, shared, suffixes, how="inner"):
     rest = [name for name in right.names if name not in shared]
     given = [*((name, None) for name in (*left.period, "left_id", "right_id")),
              *((name, suffixes[0]) for name in left.names), *((name, suffixes[1]) for name in rest)]
-    told = [name for name, _ in given]
-    names = [f"{name}{suffix}" if suffix and told.count(name) > 1 else name for name, suffix in given]
+    listed = [name for name, _ in given]
+    names = [f"{name}{suffix}" if suffix and listed.count(name) > 1 else name for name, suffix in given]
     if len(set(names)) < len(names):
         return REFUSED
     return names, [[*pair[:2], *(row and row["id"] for row in pair[2:]), *cells_beside(left, rest, shared, *pair[2:])]
@@ -220,11 +220,11 @@ def dip(shown):
 
 def apart(names):
     """Each name once: one that stood before has `_` behind it, so often that it is no other one."""
-    told = []
+    found = []
     for name in names:
-        if name in told:
+        if name in found:
             name = f"{name}_"
-            while name in told or name in names:
+            while name in found or name in names:
                 name += "_"
-        told.append(name)
-    return told
+        found.append(name)
+    return found

@@ -25,8 +25,8 @@ def moment(point):
 
 
 def number(point, days=0):
-    told = moment(point)
-    return round((told - BEGIN).total_seconds()) + (86_400 * days if told != OPEN else 0)
+    found = moment(point)
+    return round((found - BEGIN).total_seconds()) + (86_400 * days if found != OPEN else 0)
 
 
 def numbers(column, days=0):
@@ -47,8 +47,8 @@ def keys(frame, names):
 
 def equal(left, right):
     """Which left row is equal to which right one, by Python's own comparison."""
-    told = {key: place for place, key in enumerate(dict.fromkeys([*left, *right]))}
-    codes = [np.array([told[key] for key in side], np.int64) for side in (left, right)]
+    found = {key: place for place, key in enumerate(dict.fromkeys([*left, *right]))}
+    codes = [np.array([found[key] for key in side], np.int64) for side in (left, right)]
     return codes[0][:, None] == codes[1][None, :]
 
 
@@ -91,14 +91,14 @@ def agg(times, groups, function, amounts):
         start, end = times[0][mine], times[1][mine]
         cuts = np.unique(np.concatenate([start, end]))
         holds = (start[:, None] <= cuts[:-1]) & (cuts[:-1] < end[:, None])
-        told = [amount for amount, own in zip(amounts, mine) if own]
-        values = [value_of([one for one, held in zip(told, column) if held], function) for column in holds.T]
+        listed = [amount for amount, own in zip(amounts, mine) if own]
+        values = [value_of([one for one, held in zip(listed, column) if held], function) for column in holds.T]
         found += [(*group, *one) for one in steps(cuts, holds.any(axis=0), values)]
     return found
 
 
-def value_of(told, function):
-    return {"count": len, "sum": sum, "min": min, "max": max}[function](told) if told else None
+def value_of(given, function):
+    return {"count": len, "sum": sum, "min": min, "max": max}[function](given) if given else None
 
 
 def order(group):

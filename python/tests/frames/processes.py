@@ -6,9 +6,9 @@ from pathlib import Path
 def children(pid):
     """The processes that a process started, of all its threads."""
     found = []
-    for told in Path(f"/proc/{pid}/task").glob("*/children"):
+    for answered in Path(f"/proc/{pid}/task").glob("*/children"):
         try:
-            found += map(int, told.read_text().split())
+            found += map(int, answered.read_text().split())
         except OSError:
             pass
     return found

@@ -23,8 +23,8 @@ def points(random, kind, count, is_open=False, is_last_day=False):
     step = datetime.timedelta(days=1) if is_day else datetime.timedelta(seconds=random.choice([1, 3600, 86399]))
     starts = [random.randrange(span) for _ in range(count)]
     ends = [start + random.randint(1, random.choice([2, 10, span])) - int(is_last_day) for start in starts]
-    told = [None if is_open and random.random() < 0.3 else base + step * end for end in ends]
-    return column(kind, [base + step * start for start in starts]), column(kind, told)
+    found = [None if is_open and random.random() < 0.3 else base + step * end for end in ends]
+    return column(kind, [base + step * start for start in starts]), column(kind, found)
 
 
 def column(kind, moments):
@@ -57,9 +57,9 @@ def compared_column(random, count, kind, among=None):
         return pd.Series([random.randint(0 if dtype == "uint8" else -2, 3) for _ in range(count)], dtype=dtype)
     few = among or few_texts(random)
     dtype = random.choice(["object", "string", "category"])
-    told = [random.choice(few) for _ in range(count)]
+    found = [random.choice(few) for _ in range(count)]
     # pandas.Categorical itself takes a\0b for a.
-    return pd.Series([one.replace("\0", "~") for one in told] if dtype == "category" else told, dtype=dtype)
+    return pd.Series([one.replace("\0", "~") for one in found] if dtype == "category" else found, dtype=dtype)
 
 
 def frame(random, count, kind, **words):
@@ -83,7 +83,7 @@ def frame(random, count, kind, **words):
 
 
 def objects(random, count):
-    told = random.choice([[None, (1, 2), "x"], [datetime.datetime(2024, 1, 1)]])
+    found = random.choice([[None, (1, 2), "x"], [datetime.datetime(2024, 1, 1)]])
     cells = np.empty(count, object)
-    cells[:] = [random.choice(told) for _ in range(count)]
+    cells[:] = [random.choice(found) for _ in range(count)]
     return pd.Series(cells, dtype=object)

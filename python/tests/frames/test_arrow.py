@@ -30,10 +30,10 @@ def points():
 
 def frame(rows, kind, of_key=None, key=int, first=FIRST):
     """A frame of these types of pyarrow."""
-    told = [[None if row[place] is None else first + row[place] * DAY for row in rows] for place in (0, 1)]
+    found = [[None if row[place] is None else first + row[place] * DAY for row in rows] for place in (0, 1)]
     if pa.types.is_date(kind):
-        told = [[one and one.date() for one in column] for column in told]
-    times = {name: arrow(pa.array(column, kind)) for name, column in zip(("from", "to"), told)}
+        found = [[one and one.date() for one in column] for column in found]
+    times = {name: arrow(pa.array(column, kind)) for name, column in zip(("from", "to"), found)}
     return pd.DataFrame({**times, "k": arrow(pa.array([key(row[2]) for row in rows], of_key))})
 
 
@@ -56,8 +56,8 @@ def number(point):
         return None
     if isinstance(point, pd.Timestamp):
         point = (point if point.tzinfo is None else point.tz_convert("UTC").tz_localize(None)).to_pydatetime()
-    told = point if isinstance(point, datetime.datetime) else datetime.datetime(point.year, point.month, point.day)
-    return (told - FIRST) / DAY
+    found = point if isinstance(point, datetime.datetime) else datetime.datetime(point.year, point.month, point.day)
+    return (found - FIRST) / DAY
 
 
 @unittest.skipUnless(pa, "pyarrow isn't here: apt-get install python3-pyarrow, of Debian testing")
@@ -80,12 +80,12 @@ class Arrow(unittest.TestCase):
                 left, right = frame(LEFT, kind), frame(RIGHT, kind)
                 got = ruzgalt.join(left, right, on="k", labels=True, open_end=True)
                 self.assertEqual([got[name].dtype for name in ("from", "to")], [left["from"].dtype] * 2)
-                told = [list(map(number, got[name])) for name in ("from", "to")]
-                rows = [(*row[:2], *row[2:]) for row in zip(*told, got["left_label"], got["right_label"])]
+                found = [list(map(number, got[name])) for name in ("from", "to")]
+                rows = [(*row[:2], *row[2:]) for row in zip(*found, got["left_label"], got["right_label"])]
                 self.assertEqual(rows, pairs())
                 counts = ruzgalt.agg(left, "count", open_end=True)
-                told = [list(map(number, counts[name])) for name in ("from", "to")]
-                self.assertEqual(told, [[0, 2, 4, 6, 9], [2, 4, 6, 9, None]])
+                found = [list(map(number, counts[name])) for name in ("from", "to")]
+                self.assertEqual(found, [[0, 2, 4, 6, 9], [2, 4, 6, 9, None]])
                 self.assertEqual(counts["count"].tolist(), [1, 2, 3, 2, 1])
                 if kind not in (pa.date32(), pa.date64()):
                     late = frame([(0, 1, 1)], kind, first=FIRST + NOON)
@@ -132,16 +132,16 @@ class Arrow(unittest.TestCase):
             "from": np.array(["2024-01-01", "2024-01-03"], "M8[ns]"), "to": np.array(["2024-01-05", "NaT"], "M8[ns]"),
             "k": ["a", "b"], "cents": [100, 250], "euros": [1.25, 2.5], "note": [None, "x"],
         })
-        told = one.convert_dtypes(dtype_backend="pyarrow")
-        got = ruzgalt.join(told, told, on="k", open_end=True)
+        found = one.convert_dtypes(dtype_backend="pyarrow")
+        got = ruzgalt.join(found, found, on="k", open_end=True)
         wanted = ruzgalt.join(one, one, on="k", open_end=True)
-        self.assertEqual(got.dtypes.tolist()[:4], [told[name].dtype for name in ("from", "to", "k", "cents")])
+        self.assertEqual(got.dtypes.tolist()[:4], [found[name].dtype for name in ("from", "to", "k", "cents")])
         for name in ("from", "to", "k", "cents_left"):
             self.assertEqual(got[name].astype(wanted[name].dtype).tolist(), wanted[name].tolist())
         self.assertEqual(got["note_right"].isna().tolist(), [True, False])
-        total = ruzgalt.agg(told, "sum", "euros", open_end=True, decimals={"euros": 2})
+        total = ruzgalt.agg(found, "sum", "euros", open_end=True, decimals={"euros": 2})
         self.assertEqual(total["sum_euros"].tolist(), [1.25, 3.75, 2.5])
-        self.assertEqual(total["sum_euros"].dtype, told["euros"].dtype)
+        self.assertEqual(total["sum_euros"].dtype, found["euros"].dtype)
 
     def test_a_store_keeps_the_types(self):
         made, one = ruzgalt.Store(), frame(LEFT, pa.timestamp("us"), pa.string(), str)

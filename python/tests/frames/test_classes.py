@@ -55,9 +55,9 @@ class Classes(unittest.TestCase):
     def test_they_are_equal_where_the_values_are(self, case):
         kinds, *rows = case
         sides, keys = zip(*(side_of(kinds, own) for own in rows))
-        told = [side.columns for side in classes.with_classes(sides)]
-        self.assertEqual([[column.kind for column in columns] for columns in told], [["int"], ["int"]])
-        codes = [code for columns in told for code in columns[0].codes.tolist()]
+        found = [side.columns for side in classes.with_classes(sides)]
+        self.assertEqual([[column.kind for column in columns] for columns in found], [["int"], ["int"]])
+        codes = [code for columns in found for code in columns[0].codes.tolist()]
         flat = [*keys[0], *keys[1]]
         wanted = [one == other for one in flat for other in flat]
         self.assertEqual([one == other for one in codes for other in codes], wanted)
@@ -66,9 +66,9 @@ class Classes(unittest.TestCase):
     @given(SIDES)
     def test_sorted_they_rise_with_the_values(self, case):
         side, keys = side_of(case[0], case[1])
-        told = classes.together(([column] for column in side.columns), sort=True)[0].tolist()
+        found = classes.together(([column] for column in side.columns), sort=True)[0].tolist()
         wanted = [one < other for one in keys for other in keys]
-        self.assertEqual([one < other for one in told for other in told], wanted)
+        self.assertEqual([one < other for one in found for other in found], wanted)
 
     def test_many_are_numbered_anew(self):
         far = values.Values(None, "int", np.array([0, 10**12, -10**12, 10**12, 5], np.int64))
@@ -112,8 +112,8 @@ class Rows(unittest.TestCase):
         words = values.values_of(pd.Series(texts, dtype=object))
         columns = [values.Values(None, "int", np.array(numbers, np.int64)), words]
         side = Side(np.array(starts, np.int64), np.array(ends, np.int64), columns)
-        told = [points.texts_of(side.start), points.texts_of(side.end), map(str, numbers), map(values.quoted, texts)]
-        wanted = "".join(f"row,{','.join(fields)}\n" for fields in zip(*told)).encode()
+        found = [points.texts_of(side.start), points.texts_of(side.end), map(str, numbers), map(values.quoted, texts)]
+        wanted = "".join(f"row,{','.join(fields)}\n" for fields in zip(*found)).encode()
         self.assertEqual(b"".join(script.rows_of(side)), wanted)
 
     def test_rows_go_in_chunks(self):

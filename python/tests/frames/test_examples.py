@@ -16,8 +16,8 @@ def cells():
     first, *others = NOTEBOOK.read_text(encoding="utf-8").split(f"\n{CELL}")
     for text in others:
         lines = f"{CELL}{text}".splitlines()
-        told = [line[len(OUTPUT):].removeprefix(" ") for line in lines if line.startswith(OUTPUT)]
-        yield "\n".join(line for line in lines if not line.startswith(OUTPUT)), told
+        found = [line[len(OUTPUT):].removeprefix(" ") for line in lines if line.startswith(OUTPUT)]
+        yield "\n".join(line for line in lines if not line.startswith(OUTPUT)), found
 
 
 class Examples(unittest.TestCase):
@@ -26,13 +26,13 @@ class Examples(unittest.TestCase):
         found = list(cells())
         with pd.option_context("display.width", 120, "display.max_columns", None), warnings.catch_warnings():
             warnings.simplefilter("error")
-            for source, told in found:
+            for source, answered in found:
                 printed = io.StringIO()
                 with contextlib.redirect_stdout(printed):
                     exec(compile(source, str(NOTEBOOK), "exec"), names)
                 with self.subTest(source.splitlines()[0]):
-                    self.assertEqual([line.rstrip() for line in printed.getvalue().splitlines()], told)
-        self.assertGreater(sum(len(told) for _, told in found), 50)
+                    self.assertEqual([line.rstrip() for line in printed.getvalue().splitlines()], answered)
+        self.assertGreater(sum(len(answered) for _, answered in found), 50)
 
 
 if __name__ == "__main__":

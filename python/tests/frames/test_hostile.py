@@ -39,9 +39,9 @@ class Hostile(unittest.TestCase):
             self.assertTrue(not case.is_plain or wanted() is None, error)
             return None
         self.assertTrue(case.is_right, f"{case.options} is taken")
-        told = wanted()
-        self.assertIsNotNone(told, "names clash, and it is answered")
-        return got, told
+        found = wanted()
+        self.assertIsNotNone(found, "names clash, and it is answered")
+        return got, found
 
     def is_as_by_rows(self, case, asked, wanted):
         found = self.answered(case, asked, wanted)
@@ -53,8 +53,8 @@ class Hostile(unittest.TestCase):
         for row in rows:
             row[start], row[end] = case.point(row[start]), case.end(row[end])
         rows = [list(map(case.kept, row)) for row in rows]
-        told = [[shown(got.iloc[row, place]) for place in range(len(names))] for row in range(len(got))]
-        self.assertEqual(told, [list(map(shown, row)) for row in rows])
+        listed = [[shown(got.iloc[row, place]) for place in range(len(names))] for row in range(len(got))]
+        self.assertEqual(listed, [list(map(shown, row)) for row in rows])
 
     @MANY
     @given(cases("join"))
@@ -118,8 +118,8 @@ class Hostile(unittest.TestCase):
     @given(cases("dip"))
     def test_divisions(self, case):
         frame = case.columns[0]
-        told = lambda: by_rows.most(frame, case.periods[0])  # noqa: E731
-        found = self.answered(case, lambda: ruzgalt.dip(case.frames[0], **case.options), told)
+        listed = lambda: by_rows.most(frame, case.periods[0])  # noqa: E731
+        found = self.answered(case, lambda: ruzgalt.dip(case.frames[0], **case.options), listed)
         if found is None:
             return
         division, count = found

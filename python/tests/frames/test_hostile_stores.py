@@ -83,10 +83,10 @@ class Stores(stateful.RuleBasedStateMachine):
         start, end, _ = hostile.row(data.draw, form, most=14)
         where = hostile.values_of(data.draw, form, hostile.some(data.draw, form.names))
         to = hostile.values_of(data.draw, form, hostile.some(data.draw, form.names, 1)) if word == "update" else None
-        told = data.draw(hostile.texts_of_points(form, start)), data.draw(hostile.texts_of_points(
+        found = data.draw(hostile.texts_of_points(form, start)), data.draw(hostile.texts_of_points(
             form, end if end == hostile.OPEN else end - int(form.is_last_day)))
         words = [to] if word == "update" else []
-        done = outcome(lambda: getattr(self.store, word)(name, *told, *words, where or None))
+        done = outcome(lambda: getattr(self.store, word)(name, *found, *words, where or None))
         self.same(done, self.plain.change(word, name, [(start, end, where, to)]))
 
     @precondition(lambda self: any(len(form.names) > 1 for form in self.forms.values()))
@@ -95,10 +95,10 @@ class Stores(stateful.RuleBasedStateMachine):
         name, form = self.some_table(data, lambda form: len(form.names) > 1)
         names = data.draw(st.permutations(form.names))
         cut = data.draw(st.integers(1, len(names) - 1))
-        told = data.draw(hostile.rows_of(form, 1))
+        answered = data.draw(hostile.rows_of(form, 1))
         steps = [(start, end, {one: values[one] for one in names[:cut]}, {one: values[one] for one in names[cut:]})
-                 for start, end, values in told]
-        done = outcome(lambda: self.store.update_rows(name, form.frame(told), list(names[:cut])))
+                 for start, end, values in answered]
+        done = outcome(lambda: self.store.update_rows(name, form.frame(answered), list(names[:cut])))
         self.same(done, self.plain.change("update", name, steps))
 
     @precondition(lambda self: self.forms)
@@ -144,8 +144,8 @@ class Stores(stateful.RuleBasedStateMachine):
         assert list(map(repr, got.columns)) == list(map(repr, names)), (list(got.columns), names)
         readers = {start: hostile.day, start + 1: form.end}
         columns = [got.iloc[:, place].tolist() for place in range(len(names))]
-        told = [[readers.get(place, self.cell)(cell) for place, cell in enumerate(row)] for row in zip(*columns)]
-        assert told == rows, (told, rows)
+        found = [[readers.get(place, self.cell)(cell) for place, cell in enumerate(row)] for row in zip(*columns)]
+        assert found == rows, (found, rows)
 
     @staticmethod
     def cell(cell):
@@ -222,8 +222,8 @@ class Stores(stateful.RuleBasedStateMachine):
         column = data.draw(st.sampled_from(numbers)) if numbers and function != "count" else None
         function = function if column is not None else "count"
         by, as_of = hostile.some(data.draw, form.names), self.as_of(data)
-        told = by[0] if len(by) == 1 and isinstance(by[0], str) else by or None
-        self.is_as(form, lambda: self.store.agg(name, function, column, by=told, as_of=as_of),
+        found = by[0] if len(by) == 1 and isinstance(by[0], str) else by or None
+        self.is_as(form, lambda: self.store.agg(name, function, column, by=found, as_of=as_of),
                    plain_store.agg(form.plain, self.shown(name, as_of), function, column, by), len(by))
 
     @precondition(lambda self: self.forms)
@@ -258,13 +258,13 @@ class Stores(stateful.RuleBasedStateMachine):
             "how": ["Left", "cross", None, 1, ["left"]],
         }
         option = data.draw(st.sampled_from(sorted(given)))
-        told = data.draw(st.sampled_from(given[option]))
+        found = data.draw(st.sampled_from(given[option]))
         ask = {
-            "as_of": lambda: store.rows(name, told), "points_as": lambda: store.rows(name, points_as=told),
-            "on": lambda: store.join(name, name, on=told), "by": lambda: store.agg(name, "count", by=told),
-            "suffixes": lambda: store.join(name, name, suffixes=told), "point": lambda: store.at(name, told),
-            "first": lambda: store.between(name, told, 9), "left": lambda: store.anti(told, name),
-            "function": lambda: store.agg(name, told, form.names[0]), "how": lambda: store.join(name, name, how=told),
+            "as_of": lambda: store.rows(name, found), "points_as": lambda: store.rows(name, points_as=found),
+            "on": lambda: store.join(name, name, on=found), "by": lambda: store.agg(name, "count", by=found),
+            "suffixes": lambda: store.join(name, name, suffixes=found), "point": lambda: store.at(name, found),
+            "first": lambda: store.between(name, found, 9), "left": lambda: store.anti(found, name),
+            "function": lambda: store.agg(name, found, form.names[0]), "how": lambda: store.join(name, name, how=found),
         }
         self.refuses(ask[option])
 

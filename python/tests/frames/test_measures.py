@@ -21,7 +21,7 @@ EXAMPLES = int(os.environ.get("FRAMES_HOSTILE", "50"))
 MANY = settings(max_examples=4 * EXAMPLES, deadline=None, database=None, derandomize=not os.environ.get("FRAMES_LONG"))
 DAYS = 9
 BY_DAY = {
-    "count": len, "sum": sum, "min": min, "max": max, "mean": lambda told: Fraction(sum(told)) / len(told),
+    "count": len, "sum": sum, "min": min, "max": max, "mean": lambda one: Fraction(sum(one)) / len(one),
 }
 NUMBERS = st.integers(-3, 3) | st.sampled_from([2**63 - 1, -2**63, 2**62, 2**53, 2**53 + 1, -2**53 - 1, 3 * 2**50])
 # The last one times a few days is past 64 bits.
@@ -32,15 +32,15 @@ FUNCTIONS = st.lists(st.sampled_from(measures.FUNCTIONS), min_size=1, max_size=5
 
 def by_days(rows, functions):
     """Start, end, group and values, of each longest run of days on which a group has the same ones."""
-    told = []
+    found = []
     for group in sorted({row[2] for row in rows}):
         days = [[row[3] for row in rows if row[2] == group and row[0] <= day < row[0] + row[1]] for day in range(DAYS)]
         values = [tuple(BY_DAY[one](held) for one in functions) if held else None for held in days]
         day = 0
         for value, run in itertools.groupby(values):
             first, day = day, day + len(list(run))
-            told += [(first, day, group, *value)] if value is not None else []
-    return told
+            found += [(first, day, group, *value)] if value is not None else []
+    return found
 
 
 def answer_of(rows):
@@ -64,7 +64,7 @@ class Measures(unittest.TestCase):
         asked = [Measure(one, "n", one != "count") for one in functions]
         column = Values("n", "int", np.empty(0, np.int64), Texts(), np.dtype(object if digits else "int64"), digits)
         start, end, group, *values = measures.measured_by(answer_of(rows), asked)
-        columns = [list(told) for _, told in measures.columns_of(values, asked, {"n": column}, mean_as)]
+        columns = [list(answered) for _, answered in measures.columns_of(values, asked, {"n": column}, mean_as)]
         means = {
             "float": lambda mean: float(mean), "Fraction": lambda mean: mean,
             "Decimal": lambda mean: Decimal(mean.numerator) / Decimal(mean.denominator),

@@ -54,7 +54,7 @@ def rows_of(random):
     return [(start, start + random.randrange(5), random.choice("ab")) for start in starts]
 
 
-def told(got, *names):
+def rows_in(got, *names):
     columns = [[*map(number, got[name])] for name in ("from", "to")]
     return [list(row) for row in zip(*columns, *(got[name] for name in names))]
 
@@ -69,15 +69,15 @@ class Months(unittest.TestCase):
             one, other = frame(left, freq), frame(right, freq)
             with self.subTest((seed, freq)):
                 got = ruzgalt.join(one, other, on="k", labels=True, **words)
-                self.assertEqual(told(got, "left_label", "right_label"), joined(left, right))
+                self.assertEqual(rows_in(got, "left_label", "right_label"), joined(left, right))
                 self.assertEqual((got["from"].dtype, got["to"].dtype), (one["from"].dtype,) * 2)
                 wanted = runs([sum(row[0] <= place <= row[1] for row in left) for place in range(20)])
-                self.assertEqual(told(ruzgalt.agg(one, "count", **words), "count"), wanted)
+                self.assertEqual(rows_in(ruzgalt.agg(one, "count", **words), "count"), wanted)
                 got = ruzgalt.anti(one, other, on="k", **words)
                 free = [[not any(row[2] == two[2] and two[0] <= place <= two[1] for two in right)
                          and row[0] <= place <= row[1] for place in range(20)] for row in left]
                 wanted = [[*run[:2], label] for label, held in enumerate(free) for run in runs(held)]
-                self.assertEqual([[*row, label] for row, label in zip(told(got), got.index)], wanted)
+                self.assertEqual([[*row, label] for row, label in zip(rows_in(got), got.index)], wanted)
 
     def test_an_end_of_march_is_april_1st(self):
         one = frame([(0, 2, "a")], "M")
@@ -99,7 +99,7 @@ class Months(unittest.TestCase):
     def test_a_missing_end_is_no_end(self):
         one = frame([(0, None, "a"), (2, 3, "a")], "M")
         got = ruzgalt.agg(one, "count", open_end=True)
-        self.assertEqual(told(got, "count"), [[0, 1, 1], [2, 3, 2], [4, None, 1]])
+        self.assertEqual(rows_in(got, "count"), [[0, 1, 1], [2, 3, 2], [4, None, 1]])
         for what, asked in (("end", lambda: ruzgalt.agg(one, "count")),
                             ("start", lambda: ruzgalt.agg(one, "count", period=("to", "from"), open_end=True))):
             with self.subTest(what), self.assertRaises(ruzgalt.Refused) as caught:

@@ -32,10 +32,10 @@ def becomes(end, words):
     """What comes of an end."""
     one = pd.DataFrame({"from": [FIRST], "to": pd.Series([end], dtype=object)})
     try:
-        [told] = ruzgalt.agg(one, "count", **words)["to"]
+        [found] = ruzgalt.agg(one, "count", **words)["to"]
     except ruzgalt.Refused:
         return "refused"
-    return "no end" if told is None else "taken" if told == end else told
+    return "no end" if found is None else "taken" if found == end else found
 
 
 def compared(*columns, **words):
@@ -156,19 +156,19 @@ class Page(unittest.TestCase):
 
     def test_blocks_print_what_the_page_says(self):
         blocks = re.findall(r"^```(python)?\n(.*?)^```$", PAGE.read_text(encoding="utf-8"), re.MULTILINE | re.DOTALL)
-        names, told = {}, ""
+        names, found = {}, ""
         self.assertGreater(len(blocks), 4)
         for kind, text in blocks:
             if not kind:
-                self.assertIn(told, (text, None))
+                self.assertIn(found, (text, None))
                 continue
             if "dask" in text and not importlib.util.find_spec("dask"):
-                told = None
+                found = None
                 continue
             printed = io.StringIO()
             with contextlib.redirect_stdout(printed):
                 exec(compile(text, str(PAGE), "exec"), names)
-            told = printed.getvalue()
+            found = printed.getvalue()
 
 
 if __name__ == "__main__":

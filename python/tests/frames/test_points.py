@@ -35,9 +35,9 @@ class Points(unittest.TestCase):
     def test_each_kind_comes_back(self):
         for kind, column in EDGES.items():
             with self.subTest(kind):
-                seconds, told = points.seconds_of(column)
-                self.assertEqual(told, Kind(kind))
-                pd.testing.assert_series_equal(points.series_of(seconds, told), column)
+                seconds, found = points.seconds_of(column)
+                self.assertEqual(found, Kind(kind))
+                pd.testing.assert_series_equal(points.series_of(seconds, found), column)
 
     def test_missing_ends_come_back_as_missing(self):
         form = points.Form(is_open=True)
@@ -45,9 +45,9 @@ class Points(unittest.TestCase):
             with self.subTest(kind):
                 missing = column.copy()
                 missing.iloc[1] = None
-                seconds, told = form.ends_of(missing)
-                self.assertEqual((told, seconds[1]), (Kind(kind), points.NO_END))
-                got = form.restored_ends(seconds, told)
+                seconds, found = form.ends_of(missing)
+                self.assertEqual((found, seconds[1]), (Kind(kind), points.NO_END))
+                got = form.restored_ends(seconds, found)
                 self.assertTrue(pd.isna(got.iloc[1]))
                 self.assertEqual(got.dtype, column.dtype)
 
@@ -56,15 +56,15 @@ class Points(unittest.TestCase):
             cells = np.array(["0001-01-01", "9999-12-31T23:59:59"], f"M8[{unit}]")
             with self.subTest(unit):
                 numbers = np.array([points.FIRST, points.LAST], np.int64)
-                told = points.datetimes_of(numbers, np.zeros(2, bool), unit)
-                self.assertEqual((told.dtype, told.tolist()), (cells.dtype, cells.tolist()))
+                found = points.datetimes_of(numbers, np.zeros(2, bool), unit)
+                self.assertEqual((found.dtype, found.tolist()), (cells.dtype, cells.tolist()))
 
     def test_texts_are_read_as_they_are_written(self):
         texts = points.texts_of(SECONDS)
         self.assertEqual(texts[0], "0001-01-01")
         self.assertEqual(texts[-2:], ["9999-12-31", "9999-12-31T23:59:59"])
-        told = "".join(f"row,{text}\n" for text in texts) + f"end,{len(texts)}\n"
-        got = output.Output(np.frombuffer(told.encode(), np.uint8)).block("p")
+        answered = "".join(f"row,{text}\n" for text in texts) + f"end,{len(texts)}\n"
+        got = output.Output(np.frombuffer(answered.encode(), np.uint8)).block("p")
         self.assertEqual([column.tolist() for column in got], [SECONDS.tolist()])
 
     def test_kinds_of_two_frames(self):
@@ -73,8 +73,8 @@ class Points(unittest.TestCase):
             ("date", "datetime", "datetime"), ("D", "S", "S"), ("date", "D", "S"), ("", "", ""),
         ]
         for one, other, wanted in cases:
-            told = [joint_kind(Kind(first), Kind(second)) for first, second in ((one, other), (other, one))]
-            self.assertEqual(told, [Kind(wanted)] * 2)
+            found = [joint_kind(Kind(first), Kind(second)) for first, second in ((one, other), (other, one))]
+            self.assertEqual(found, [Kind(wanted)] * 2)
 
     def test_other_points_may_be_asked_for(self):
         frame = pd.DataFrame({"from": objects(datetime.date(2024, 1, 1)), "to": objects(datetime.date(9999, 12, 31))})
@@ -110,8 +110,8 @@ class Points(unittest.TestCase):
                 if wanted is None:
                     self.assertRaises(ruzgalt.Refused, lambda: ruzgalt.agg(frame, "count", **words))
                     continue
-                [told] = ruzgalt.agg(frame, "count", **words)["to"]
-                self.assertEqual("missing" if told is None else told, wanted)
+                [answered] = ruzgalt.agg(frame, "count", **words)["to"]
+                self.assertEqual("missing" if answered is None else answered, wanted)
 
     def test_an_end_that_is_no_midnight_has_no_last_day(self):
         form = points.Form(has_last_days=True)
@@ -128,22 +128,22 @@ class Values(unittest.TestCase):
         for dtype in ("int8", "int64", "uint8", "uint64", "Int8", "Int64", "UInt16", "category"):
             column = pd.Series([0, 1, 100], dtype=dtype)
             with self.subTest(dtype):
-                told = values.values_of(column)
-                self.assertEqual((told.kind, told.codes.tolist()), ("int", [0, 1, 100]))
-                pd.testing.assert_series_equal(pd.Series(told.restored(told.codes)), column)
+                found = values.values_of(column)
+                self.assertEqual((found.kind, found.codes.tolist()), ("int", [0, 1, 100]))
+                pd.testing.assert_series_equal(pd.Series(found.restored(found.codes)), column)
 
     def test_digits_are_those_of_python(self):
         numbers = np.array([0, 1, 9, 10, -1, -10, 2**63 - 1, -2**63, 10**18, -10**17], np.int64)
-        told = [digits.replace(b"\0", b"").decode() for digits in printing.digits_of(numbers).tolist()]
-        self.assertEqual(told, list(map(str, numbers.tolist())))
+        found = [digits.replace(b"\0", b"").decode() for digits in printing.digits_of(numbers).tolist()]
+        self.assertEqual(found, list(map(str, numbers.tolist())))
 
     def test_decimals_are_exact(self):
         cells = objects(decimal.Decimal("92233720368547758.07"), decimal.Decimal("-0.10"), decimal.Decimal("1E2"))
-        told = values.values_of(cells, 2)
-        self.assertEqual(told.codes.tolist(), [2**63 - 1, -10, 10_000])
+        found = values.values_of(cells, 2)
+        self.assertEqual(found.codes.tolist(), [2**63 - 1, -10, 10_000])
         with decimal.localcontext() as context:
             context.prec = 3
-            self.assertEqual(list(told.restored(told.codes)), cells.tolist())
+            self.assertEqual(list(found.restored(found.codes)), cells.tolist())
 
     def test_floats_are_exactly_such_or_refused(self):
         for dtype in ("float64", "float32", "Float64"):
@@ -151,9 +151,9 @@ class Values(unittest.TestCase):
             with self.subTest(dtype):
                 if dtype == "float32":
                     column = column.iloc[:3]
-                told = values.values_of(column, 2)
-                self.assertEqual(told.codes.tolist()[:3], [10, -1234, 29])
-                pd.testing.assert_series_equal(pd.Series(told.restored(told.codes)), column)
+                found = values.values_of(column, 2)
+                self.assertEqual(found.codes.tolist()[:3], [10, -1234, 29])
+                pd.testing.assert_series_equal(pd.Series(found.restored(found.codes)), column)
 
     def test_hashes_are_the_same_on_each_machine(self):
         numbers = values.Values("k", "int", np.array([-1, 0, 2**40], np.int64))

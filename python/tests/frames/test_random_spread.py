@@ -41,10 +41,10 @@ def other_dtypes(random, frame, compared, like):
     made = frame.copy()
     for name, kind in compared.items():
         if kind == "text" and len(like) and len(made):
-            told = [random.choice(like[name].tolist()) for _ in range(len(made))]
+            found = [random.choice(like[name].tolist()) for _ in range(len(made))]
             # pandas.Categorical itself takes a\0b for a.
-            dtypes = ["object", "string", *([] if any("\0" in one for one in told) else ["category"])]
-            made[name] = pd.Series(told, made.index, dtype=object).astype(random.choice(dtypes))
+            dtypes = ["object", "string", *([] if any("\0" in one for one in found) else ["category"])]
+            made[name] = pd.Series(found, made.index, dtype=object).astype(random.choice(dtypes))
         elif kind == "int" and len(made) and -100 <= made[name].min() and made[name].max() <= 100:
             made[name] = made[name].astype(random.choice(SMALL))
     return made
@@ -86,8 +86,8 @@ class Case:
         left, right = spread(self.random, self.left), spread(self.random, self.right)
         on = {"on": self.names, **words}
         for name, how in (("join", "inner"), ("unmatched", self.random.choice(["left", "right", "outer"]))):
-            told = {"labels": True, "how": how, **on}
-            yield name, ruzgalt.join(self.left, self.right, **told), ruzgalt.join(left, right, **told, **parts)
+            found = {"labels": True, "how": how, **on}
+            yield name, ruzgalt.join(self.left, self.right, **found), ruzgalt.join(left, right, **found, **parts)
         yield "anti", ruzgalt.anti(self.left, self.right, **on), ruzgalt.anti(left, right, **on, **parts)
         by = {"by": self.names, **words}
         yield "agg by", ruzgalt.agg(self.left, "sum", "euros", **by), ruzgalt.agg(left, "sum", "euros", **by, **parts)
@@ -124,9 +124,9 @@ class RandomSpread(unittest.TestCase):
     def test_partitions_answer_as_the_whole_does(self):
         for seed in range(SEED, SEED + RUNS):
             with self.subTest(seed=seed):
-                told = list(Case(seed).questions())
-                found = dask.compute(*(lazy for _, _, lazy in told), scheduler="sync")
-                for (name, whole, lazy), one in zip(told, found):
+                listed = list(Case(seed).questions())
+                found = dask.compute(*(lazy for _, _, lazy in listed), scheduler="sync")
+                for (name, whole, lazy), one in zip(listed, found):
                     self.is_as_whole(name, whole, lazy, one)
 
 
@@ -270,8 +270,8 @@ class Spread(unittest.TestCase):
                 ruzgalt.join(frame, cells, on="k").compute(scheduler="sync")
             self.assertEqual(set(seen), {dask.config.get(word, None)})
             if not kinds:
-                told = [name for call in changed.call_args_list for given in call.args for name in given]
-                self.assertNotIn(word, told)
+                found = [name for call in changed.call_args_list for given in call.args for name in given]
+                self.assertNotIn(word, found)
 
     def test_objects_of_a_frame_of_pandas_stay(self):
         days = day_of(column(TEXTS, object))

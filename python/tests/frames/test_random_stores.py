@@ -87,11 +87,11 @@ class Case:
         """A point, often one of the rows'."""
         random, shown = self.random, self.plain.versions
         if shown and random.random() < 0.8:
-            told = plainly.BEGIN + datetime.timedelta(seconds=random.choice(shown)["start"])
+            found = plainly.BEGIN + datetime.timedelta(seconds=random.choice(shown)["start"])
         else:
             kind = "D" if self.is_last_day or self.kind in ("D", "date") else self.kind
-            told = plainly.moment(random_frames.points(random, kind, 1)[0].iloc[0])
-        return datetime.datetime(told.year, told.month, told.day) if self.kind in ("D", "date") else told
+            found = plainly.moment(random_frames.points(random, kind, 1)[0].iloc[0])
+        return datetime.datetime(found.year, found.month, found.day) if self.kind in ("D", "date") else found
 
     def portion(self):
         start = self.moment()
@@ -110,18 +110,18 @@ class Case:
         to = {self.euros: random.randint(-2, 2)} if random.random() < 0.7 else {
             self.person: random.choice(self.texts), self.price: 0.29, self.exact: decimal.Decimal("1.125")}
         times = plainly.number(start), plainly.number(end, int(self.is_last_day))
-        told = [one if one is None or random.random() < 0.5 else one.isoformat() for one in (start, end)]
+        found = [one if one is None or random.random() < 0.5 else one.isoformat() for one in (start, end)]
         if random.random() < 0.7:
-            change, word = (lambda: self.store.update("t", *told, to, where)), "update"
+            change, word = (lambda: self.store.update("t", *found, to, where)), "update"
         else:
-            change, word, to = (lambda: self.store.delete("t", *told, where)), "delete", None
+            change, word, to = (lambda: self.store.delete("t", *found, where)), "delete", None
         self.both(change, lambda plain: plain.change(word, *times, where or {}, to))
 
     def some_values(self):
         random = self.random
-        told = {self.person: random.choice(self.texts), self.euros: random.randint(-2, 2)}
-        told[self.price] = random.choice([0.1, 12.34])
-        return {name: value for name, value in told.items() if random.random() < 0.4}
+        found = {self.person: random.choice(self.texts), self.euros: random.randint(-2, 2)}
+        found[self.price] = random.choice([0.1, 12.34])
+        return {name: value for name, value in found.items() if random.random() < 0.4}
 
     def listed(self, frame, has_commits=False):
         """The rows of an answer, whose columns are known by their places."""
@@ -155,8 +155,8 @@ class RandomStores(unittest.TestCase):
         last = random.randint(first, plain.commit)
         made = [one for one in plain.versions if one["made"] <= last]
         seen = [one for one in made if one["closed"] is None or one["closed"] > first]
-        told = case.listed(store.between("t", first, last), has_commits=True)
-        self.assertEqual(told, case.wanted(seen, has_commits=True))
+        found = case.listed(store.between("t", first, last), has_commits=True)
+        self.assertEqual(found, case.wanted(seen, has_commits=True))
         self.assertEqual(list(store.log().itertuples(index=False, name=None)), plain.log)
         return rows
 
@@ -166,11 +166,11 @@ class RandomStores(unittest.TestCase):
         frame = rows.iloc[:, 1:].set_axis([*random_frames.PERIOD, *case.names], axis=1)
         words = {"open_end": case.is_open, "last_day": case.is_last_day}
         pairs = store.join("t", "t", on=[case.person, case.euros])
-        told = ruzgalt.join(frame, frame, on=[case.person, case.euros], labels=True, **words)
+        found = ruzgalt.join(frame, frame, on=[case.person, case.euros], labels=True, **words)
         for name, label in (("left_id", "left_label"), ("right_id", "right_label")):
-            told[label] = [ids[place] for place in told[label]]
-            told = told.rename(columns={label: name})
-        pd.testing.assert_frame_equal(pairs, told, check_dtype=len(pairs) > 0)
+            found[label] = [ids[place] for place in found[label]]
+            found = found.rename(columns={label: name})
+        pd.testing.assert_frame_equal(pairs, found, check_dtype=len(pairs) > 0)
         wanted = ruzgalt.agg(frame, "sum", case.price, by=case.person, decimals=case.decimals, **words)
         pd.testing.assert_frame_equal(store.agg("t", "sum", case.price, by=case.person), wanted)
         wanted = ruzgalt.agg(frame, "count", by=[case.person, case.euros], **words)

@@ -32,8 +32,8 @@ class Hostile(unittest.TestCase):
             self.assertFalse(case.is_plain, error)
             return
         self.assertTrue(case.is_right, f"{case.options} is taken")
-        told = by_rows.periods(case.columns[0], case.periods[0])
-        rows = [row for row, (start, end) in enumerate(told) if any(map(is_held, range(start, end)))]
+        found = by_rows.periods(case.columns[0], case.periods[0])
+        rows = [row for row, (start, end) in enumerate(found) if any(map(is_held, range(start, end)))]
         pd.testing.assert_frame_equal(got, case.frames[0].iloc[rows])
 
     @MANY
@@ -78,14 +78,14 @@ class Points(unittest.TestCase):
         hours = pd.date_range("2024-03-30 23:00", periods=3, freq="H", tz="UTC").tz_convert(BERLIN)
         frame = pd.DataFrame({"from": hours, "to": hours + pd.Timedelta(hours=1)})
         asked = lambda *words: ruzgalt.at(frame, *words)  # noqa: E731
-        for place, told in enumerate(("2024-03-31", "2024-03-31T01:30:00", "2024-03-31T03:00:00")):
-            self.assertEqual(asked(told).index.tolist(), [place])
-            self.assertEqual(asked(pd.Timestamp(told, tz=BERLIN)).index.tolist(), [place])
-            self.assertEqual(asked(pd.Timestamp(told, tz=BERLIN).tz_convert("Asia/Tokyo")).index.tolist(), [place])
+        for place, day in enumerate(("2024-03-31", "2024-03-31T01:30:00", "2024-03-31T03:00:00")):
+            self.assertEqual(asked(day).index.tolist(), [place])
+            self.assertEqual(asked(pd.Timestamp(day, tz=BERLIN)).index.tolist(), [place])
+            self.assertEqual(asked(pd.Timestamp(day, tz=BERLIN).tz_convert("Asia/Tokyo")).index.tolist(), [place])
         self.refuses("BadPoint", asked, "2024-03-31T02:30:00")
         self.refuses("BadPoint", asked, "2024-10-27T02:30:00")
         days = frame.assign(**dict.fromkeys(("from", "to"), pd.Timestamp("2024-03-31", tz=BERLIN)))
-        found = [len(ruzgalt.at(days, f"2024-0{told}", last_day=True)) for told in ("3-30", "3-31", "4-01T00:00:00")]
+        found = [len(ruzgalt.at(days, f"2024-0{day}", last_day=True)) for day in ("3-30", "3-31", "4-01T00:00:00")]
         self.assertEqual(found, [0, 3, 0])
         self.assertEqual(len(ruzgalt.during(days, "2024-03-30", "2024-03-31", last_day=True)), 3)
         self.assertEqual(len(ruzgalt.during(days, "2024-03-29", "2024-03-30", last_day=True)), 0)

@@ -43,13 +43,13 @@ def sums(draw):
 
 def by_loop(rows, calendar):
     """As a group's rows come to it one by one."""
-    told = []
+    found = []
     for group in sorted({group for _, _, group, _ in rows}):
         own = [(start, end, value) for start, end, other, value in rows if other == group]
         for one in amounts.by_piece(own, calendar):
             ends = calendar.start_of(one.piece), calendar.start_of(one.piece + 1)
-            told.append((*ends, group, Fraction(*one.exact), one.whole))
-    return told
+            found.append((*ends, group, Fraction(*one.exact), one.whole))
+    return found
 
 
 def by_arrays(rows, calendar):

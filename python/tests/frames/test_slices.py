@@ -23,11 +23,11 @@ FUNCTIONS = {"count": len, "sum": sum, "min": min, "max": max}
 def rows_of(random):
     """Some rows of up to all days, as first day, the day behind, and a number of up to 64 bits."""
     bits = random.choice([4, 60, 63])
-    told = []
+    found = []
     for _ in range(random.randint(1, 12)):
         start, end = sorted(random.sample(random.choice([range(DAYS + 1), (0, 3, 17, DAYS)]), 2))
-        told.append((start, end, random.randrange(-2**bits, 2**bits)))
-    return told
+        found.append((start, end, random.randrange(-2**bits, 2**bits)))
+    return found
 
 
 def by_days(rows, function):
@@ -36,12 +36,12 @@ def by_days(rows, function):
     for day in range(DAYS):
         held = [number for start, end, number in rows if start <= day < end]
         days.append(FUNCTIONS[function](held) if held else None)
-    told, day = [], 0
+    answered, day = [], 0
     for value, group in itertools.groupby(days):
         first, day = day, day + len(list(group))
         if value is not None:
-            told.append((first, day, value))
-    return told
+            answered.append((first, day, value))
+    return answered
 
 
 def frame_of(rows):
@@ -70,8 +70,8 @@ class Slices(unittest.TestCase):
             for function in FUNCTIONS:
                 with self.subTest(seed=seed, function=function):
                     got = asked(frame_of(rows), function, partitions, parts)
-                    told = list(zip(days_of(got["from"]), days_of(got["to"]), got.iloc[:, -1].tolist()))
-                    self.assertEqual(told, by_days(rows, function))
+                    found = list(zip(days_of(got["from"]), days_of(got["to"]), got.iloc[:, -1].tolist()))
+                    self.assertEqual(found, by_days(rows, function))
 
     def test_several_measures_at_once(self):
         """Sums past 64 bits, which are several rows of a slice, change nothing of others."""

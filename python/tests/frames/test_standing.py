@@ -23,23 +23,23 @@ def counted():
 
 def outcomes(seed):
     """What each of some random changes answers, or why it is refused; what is doubted; and the script behind them."""
-    case, told = test_random_stores.Case(seed), []
+    case, found = test_random_stores.Case(seed), []
     accept = case.store.accept
 
     def noted(asked):
         try:
             changed = accept(asked)
         except ruzgalt.Refused as refused:
-            told.append((str(refused), refused.column, refused.label))
+            found.append((str(refused), refused.column, refused.label))
             raise
-        told.append(changed)
+        found.append(changed)
         return changed
     case.store.accept = noted
     with warnings.catch_warnings(record=True) as caught:
         warnings.simplefilter("always", ruzgalt.Doubt)
         for _ in range(8):
             case.change()
-    return told, [str(one.message) for one in caught], case.store.script()
+    return found, [str(one.message) for one in caught], case.store.script()
 
 
 class Standing(unittest.TestCase):
@@ -127,8 +127,8 @@ class Standing(unittest.TestCase):
     def test_a_script_that_is_opened_goes_on_so(self):
         made = ruzgalt.Store.from_script(store(frame(cents=[1, 2]), key="k").script())
         with counted() as runs:
-            told = [made.update("t", "2024-01-05", "2024-01-10", {"cents": 5}, {"k": key}) for key in ("a", "b")]
-        self.assertEqual([repr(one)[10:] for one in told], ["3 added, 1 closed"] * 2)
+            found = [made.update("t", "2024-01-05", "2024-01-10", {"cents": 5}, {"k": key}) for key in ("a", "b")]
+        self.assertEqual([repr(one)[10:] for one in found], ["3 added, 1 closed"] * 2)
         self.assertEqual((runs.call_count, made.rows("t")["cents"].tolist().count(5)), (1, 2))
 
 

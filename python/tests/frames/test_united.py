@@ -25,36 +25,36 @@ class United(unittest.TestCase):
 
     def test_months_stay_months(self):
         months = pd.PeriodIndex(["2024-01", "2024-02", "2024-05"], freq="M")
-        told = pd.DataFrame({"from": months, "to": months})
-        self.assertEqual(ruzgalt.coalesce(told).astype(str).values.tolist(), [["2024-01", "2024-02"], ["2024-05"] * 2])
-        self.assertEqual(ruzgalt.gaps(told).astype(str).values.tolist(), [["2024-03", "2024-04"]])
+        rows = pd.DataFrame({"from": months, "to": months})
+        self.assertEqual(ruzgalt.coalesce(rows).astype(str).values.tolist(), [["2024-01", "2024-02"], ["2024-05"] * 2])
+        self.assertEqual(ruzgalt.gaps(rows).astype(str).values.tolist(), [["2024-03", "2024-04"]])
         within = {"within": ("2024-03-05", "2024-03-07")}
         with self.assertRaises(ruzgalt.Refused) as caught:
-            ruzgalt.gaps(told, **within)
+            ruzgalt.gaps(rows, **within)
         self.assertEqual(caught.exception.name, "WrongKind")
-        got = ruzgalt.gaps(told, points_as="D", **within)
+        got = ruzgalt.gaps(rows, points_as="D", **within)
         self.assertEqual(got.astype(str).values.tolist(), [["2024-03-05", "2024-03-07"]])
 
     def test_a_time_that_is_looked_at_has_no_end(self):
-        told = frame(("2024-01-01", "2024-02-01"), ("2024-03-01", None))
+        rows = frame(("2024-01-01", "2024-02-01"), ("2024-03-01", None))
         words = {"open_end": True, "within": ("2023-01-01", None)}
-        got = ruzgalt.gaps(told, **words)
+        got = ruzgalt.gaps(rows, **words)
         self.assertEqual(got["to"].tolist(), list(DAY(["2024-01-01", "2024-03-01"])))
-        self.assertTrue(ruzgalt.gaps(told.iloc[:1], **words)["to"].isna().tolist()[1])
+        self.assertTrue(ruzgalt.gaps(rows.iloc[:1], **words)["to"].isna().tolist()[1])
 
     def test_periods_with_last_days(self):
-        told = frame(("2024-01-01", "2024-01-31"), ("2024-02-01", "2024-02-10"), ("2024-02-12", "2024-02-12"))
-        self.assertEqual(ruzgalt.coalesce(told, last_day=True)["to"].tolist(), list(DAY(["2024-02-10", "2024-02-12"])))
-        got = ruzgalt.gaps(told, last_day=True, within=("2024-01-01", "2024-02-29"))
+        rows = frame(("2024-01-01", "2024-01-31"), ("2024-02-01", "2024-02-10"), ("2024-02-12", "2024-02-12"))
+        self.assertEqual(ruzgalt.coalesce(rows, last_day=True)["to"].tolist(), list(DAY(["2024-02-10", "2024-02-12"])))
+        got = ruzgalt.gaps(rows, last_day=True, within=("2024-01-01", "2024-02-29"))
         self.assertEqual(got["from"].tolist(), list(DAY(["2024-02-11", "2024-02-13"])))
         self.assertEqual(got["to"].tolist(), list(DAY(["2024-02-11", "2024-02-29"])))
 
     def test_rows_past_the_limits(self):
         days = pd.date_range("2024-01-01", periods=12)
-        told = pd.DataFrame({"from": days, "to": days + pd.Timedelta(days=2), "k": [1, 2] * 6})
+        found = pd.DataFrame({"from": days, "to": days + pd.Timedelta(days=2), "k": [1, 2] * 6})
         asks = [
-            lambda: ruzgalt.coalesce(told), lambda: ruzgalt.coalesce(told, "k"), lambda: ruzgalt.overlaps(told),
-            lambda: ruzgalt.gaps(told, "k", within=("2023-12-01", "2024-02-01")),
+            lambda: ruzgalt.coalesce(found), lambda: ruzgalt.coalesce(found, "k"), lambda: ruzgalt.overlaps(found),
+            lambda: ruzgalt.gaps(found, "k", within=("2023-12-01", "2024-02-01")),
         ]
         for asked in asks:
             whole = asked()
@@ -62,64 +62,65 @@ class United(unittest.TestCase):
                 pd.testing.assert_frame_equal(asked(), whole)
 
     def test_a_level_may_be_the_group(self):
-        told = frame(("2024-01-01", "2024-01-03", "a", 1), ("2024-01-02", "2024-01-05", "a", 2)).set_index("k")
-        self.assertEqual(ruzgalt.coalesce(told, "k").shape, (1, 3))
-        self.assertEqual(list(ruzgalt.overlaps(told, "k")), ["from", "to", "k", "x_left", "x_right"])
+        rows = frame(("2024-01-01", "2024-01-03", "a", 1), ("2024-01-02", "2024-01-05", "a", 2)).set_index("k")
+        self.assertEqual(ruzgalt.coalesce(rows, "k").shape, (1, 3))
+        self.assertEqual(list(ruzgalt.overlaps(rows, "k")), ["from", "to", "k", "x_left", "x_right"])
 
 
 class Divisions(unittest.TestCase):
     def test_each_group_has_its_own_division(self):
         """As many groups as take several runs, beside a division of each."""
         days = pd.date_range("2024-01-01", periods=400).to_series().reset_index(drop=True)
-        told = pd.DataFrame({"from": days, "to": days + pd.Timedelta(days=200), "k": [one % 130 for one in range(400)]})
+        groups = [one % 130 for one in range(400)]
+        given = pd.DataFrame({"from": days, "to": days + pd.Timedelta(days=200), "k": groups})
         for rows in (1_000_000, 5):
             with mock.patch.object(split, "ROWS", rows):
-                got = ruzgalt.dip(told, "k")
-            wanted = {k: ruzgalt.dip(own) for k, own in told.groupby("k") if k % 40 == 0}
+                got = ruzgalt.dip(given, "k")
+            wanted = {k: ruzgalt.dip(own) for k, own in given.groupby("k") if k % 40 == 0}
             for k, one in wanted.items():
                 self.assertEqual((got.count[k], got.instant[k]), (one.count, one.instant))
-                self.assertEqual(got.parts[told["k"] == k].tolist(), one.parts.tolist())
+                self.assertEqual(got.parts[given["k"] == k].tolist(), one.parts.tolist())
         self.assertEqual((len(got.count), str(got.instant.dtype)), (130, "datetime64[ns]"))
 
     def test_groups_are_shown_with_their_parts(self):
-        told = frame(("2024-01-01", "2024-01-03", "a\n", 1), ("2024-01-02", "2024-01-05", "a\n", 2))
-        self.assertEqual(repr(ruzgalt.dip(told, ["k", "x"])).splitlines()[:2], [
+        rows = frame(("2024-01-01", "2024-01-03", "a\n", 1), ("2024-01-02", "2024-01-05", "a\n", 2))
+        self.assertEqual(repr(ruzgalt.dip(rows, ["k", "x"])).splitlines()[:2], [
             "2 rows in 2 groups of 1 part", "'a\\n', 1: 1 part, as many as hold at 2024-01-01 00:00:00",
         ])
-        self.assertEqual(repr(ruzgalt.dip(told.iloc[:0], "k")), "0 rows in 0 groups of no parts")
+        self.assertEqual(repr(ruzgalt.dip(rows.iloc[:0], "k")), "0 rows in 0 groups of no parts")
         days = pd.date_range("2024-01-02", periods=1_200)
         groups = [min(one, 11) for one in range(1_200)]
-        told = pd.DataFrame({"from": days, "to": days + pd.Timedelta(days=9), "k": groups})
-        printed = repr(ruzgalt.dip(told, "k")).splitlines()
+        rows = pd.DataFrame({"from": days, "to": days + pd.Timedelta(days=9), "k": groups})
+        printed = repr(ruzgalt.dip(rows, "k")).splitlines()
         self.assertEqual(printed[0], "1,200 rows in 12 groups of 1 to 9 parts")
         self.assertEqual((len(printed), printed[-1]), (12, ".. and 2 more: .count and .instant have all"))
 
     def test_groups_of_several_columns(self):
-        told = frame(("2024-01-01", "2024-01-03", "a", 1), ("2024-01-02", "2024-01-05", "a", 2))
-        self.assertEqual(ruzgalt.dip(told, ["k", "x"]).count.to_dict(), {("a", 1): 1, ("a", 2): 1})
-        self.assertEqual(ruzgalt.dip(told.set_index("k"), "k").count.to_dict(), {"a": 2})
-        self.assertEqual(len(ruzgalt.dip(told.iloc[:0], "k").count), 0)
+        rows = frame(("2024-01-01", "2024-01-03", "a", 1), ("2024-01-02", "2024-01-05", "a", 2))
+        self.assertEqual(ruzgalt.dip(rows, ["k", "x"]).count.to_dict(), {("a", 1): 1, ("a", 2): 1})
+        self.assertEqual(ruzgalt.dip(rows.set_index("k"), "k").count.to_dict(), {"a": 2})
+        self.assertEqual(len(ruzgalt.dip(rows.iloc[:0], "k").count), 0)
         with mock.patch.object(split, "ROWS", 1), self.assertRaises(ruzgalt.Refused) as caught:
-            ruzgalt.dip(told, "k")
+            ruzgalt.dip(rows, "k")
         self.assertEqual(caught.exception.name, "Full")
 
 
 class Pieces(unittest.TestCase):
-    def refuses(self, name, told, **words):
+    def refuses(self, name, given, **words):
         with self.assertRaises(ruzgalt.Refused) as caught:
-            ruzgalt.spread(told, "x", **words)
+            ruzgalt.spread(given, "x", **words)
         self.assertEqual((caught.exception.name, caught.exception.label), (name, 0), caught.exception)
 
     def test_a_row_without_an_end_counts_up_to_the_time_s(self):
-        told = frame(("2024-01-01", None, "a", 10))
-        self.refuses("BadPoint", told, open_end=True)
-        got = ruzgalt.spread(told, "x", open_end=True, within=("2023-01-01", "2024-02-16"))
+        rows = frame(("2024-01-01", None, "a", 10))
+        self.refuses("BadPoint", rows, open_end=True)
+        got = ruzgalt.spread(rows, "x", open_end=True, within=("2023-01-01", "2024-02-16"))
         self.assertEqual(got["x"].tolist(), [10, 5])
 
     def test_times_count_by_seconds_and_in_a_zone_not_at_all(self):
-        told = frame(("2024-01-31T12:00", "2024-02-01", "a", 62))
-        self.assertEqual(ruzgalt.spread(told, "x", points_as="S")["x"].tolist(), [1])
-        zoned = told.assign(**{name: told[name].dt.tz_localize("Europe/Berlin") for name in ("from", "to")})
+        rows = frame(("2024-01-31T12:00", "2024-02-01", "a", 62))
+        self.assertEqual(ruzgalt.spread(rows, "x", points_as="S")["x"].tolist(), [1])
+        zoned = rows.assign(**{name: rows[name].dt.tz_localize("Europe/Berlin") for name in ("from", "to")})
         self.refuses("BadPoint", zoned)
         got = ruzgalt.spread(zoned.assign(**{"from": zoned["from"].dt.floor("D")}), "x")
         self.assertEqual((got["x"].tolist(), str(got["from"][0])), ([2], "2024-01-01 00:00:00+01:00"))
@@ -130,8 +131,8 @@ class Pieces(unittest.TestCase):
         self.assertEqual((str(got["from"].dtype), got["x"].tolist()), ("period[D]", [4, 7, 7, 7, 4]))
 
     def test_sums_may_be_long(self):
-        told = frame(*[("2024-01-01", "2024-02-01", "a", 2**62)] * 3)
-        self.assertEqual(ruzgalt.spread(told, "x")["x"].tolist(), [3 * 2**62])
+        rows = frame(*[("2024-01-01", "2024-02-01", "a", 2**62)] * 3)
+        self.assertEqual(ruzgalt.spread(rows, "x")["x"].tolist(), [3 * 2**62])
 
 
 if __name__ == "__main__":

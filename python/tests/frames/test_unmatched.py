@@ -36,8 +36,8 @@ def frame(cells):
 
 def merged(left, right, how, **words):
     """By pandas, in the order of places, of which none is last."""
-    told = [one.drop(columns=["from", "to"]).assign(**{f"_{side}": range(3)}) for side, one in zip("lr", (left, right))]
-    made = told[0].merge(told[1], how=how, suffixes=("_left", "_right"), **words)
+    own = [one.drop(columns=["from", "to"]).assign(**{f"_{side}": range(3)}) for side, one in zip("lr", (left, right))]
+    made = own[0].merge(own[1], how=how, suffixes=("_left", "_right"), **words)
     return made.sort_values(["_l", "_r"]).drop(columns=["_l", "_r"]).reset_index(drop=True)
 
 
@@ -73,8 +73,8 @@ class Unmatched(unittest.TestCase):
         for how, keys in (("right", [2, 9]), ("outer", [1, 9])):
             with self.subTest(how=how), self.assertRaises(ruzgalt.Refused) as caught:
                 ruzgalt.join(left, frame({"k": keys}), on="k", how=how)
-            told = caught.exception
-            self.assertEqual((told.name, told.column, told.label), ("BadNumber", "x", 1))
+            said = caught.exception
+            self.assertEqual((said.name, said.column, said.label), ("BadNumber", "x", 1))
         got = ruzgalt.join(left.astype({"x": "Int64"}), frame({"k": [2, 9]}), on="k", how="right")
         self.assertEqual(got["x"].tolist(), [2**53 + 1, pd.NA])
 

@@ -62,12 +62,12 @@ script = b"table,t,name,text\\nload,t\\nrow,2024-01-01,2024-01-02," + 200_000 * 
 print(host() == before, load.refused.name)
 try:
     list(load.command.rows)
-except Exception as told:
-    print(type(told).__name__, told)
+except Exception as reason:
+    print(type(reason).__name__, reason)
 """
         remedy = "is a quote missing? csv.field_size_limit(..) takes longer fields"
-        told = f"Misfit line 3: field larger than field limit (131072); {remedy}"
-        self.assertEqual(self.run_lines(lines), (f"True TooLong\n{told}\n", ""))
+        reason = f"Misfit line 3: field larger than field limit (131072); {remedy}"
+        self.assertEqual(self.run_lines(lines), (f"True TooLong\n{reason}\n", ""))
 
     def test_calls_that_cannot_be_had_are_not_listed(self):
         with mock.patch.object(ruzgalt, "find_spec", return_value=None):

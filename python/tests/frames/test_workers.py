@@ -66,8 +66,8 @@ class Workers(unittest.TestCase):
 
     def test_a_program_has_the_worker_s_memory_and_fewer_rows_where_that_is_refused(self):
         limits = self.folder / "limits"
-        told = f'ulimit -v >>{limits}; ulimit -v 30000; exec {which.program()} "$@"'
-        self.worker("--memory-limit", "1GB", "--nthreads", "2", DIPQ=self.program(told))
+        command = f'ulimit -v >>{limits}; ulimit -v 30000; exec {which.program()} "$@"'
+        self.worker("--memory-limit", "1GB", "--nthreads", "2", DIPQ=self.program(command))
         wanted = in_order(ruzgalt.join(frame(1), frame(2), on="k"))
         pd.testing.assert_frame_equal(in_order(self.asked(parts=1)), wanted)
         runs = limits.read_text().split()
@@ -93,7 +93,7 @@ class Workers(unittest.TestCase):
         self.worker("--name", "empty", PYTHONPATH=path)
         with self.assertRaises(RuntimeError) as caught:
             self.asked(parts=2)
-        self.assertRegex(str(caught.exception), "No module named 'ruzgalt' on worker empty at tcp:.*: the package")
+        self.assertRegex(str(caught.exception), "named 'ruzgalt' on worker empty at tcp:.*: install the package")
 
 
 if __name__ == "__main__":

@@ -42,8 +42,8 @@ class Written(unittest.TestCase):
         asked = [*QUESTIONS[:2], f"cost={QUESTIONS[2]}"]
         self.store.page(str(self.folder / "pay.html"), asked, title="Wages", note="-x")
         page = (self.folder / "pay.html").read_text()
-        for told in ("<!DOCTYPE html>", "rows,pay", "agg,pay,sum,cents", "Grace", "pay.csv", "Wages", "cost"):
-            self.assertIn(told.lower(), page.lower())
+        for answered in ("<!DOCTYPE html>", "rows,pay", "agg,pay,sum,cents", "Grace", "pay.csv", "Wages", "cost"):
+            self.assertIn(answered.lower(), page.lower())
         self.assertNotIn("Ada <b>", page)
         for asked in (["rows,none"], ["rows,pay", "delete,pay,2024-01-01,2024-02-01"], "rows,pay"):
             with self.subTest(asked), self.assertRaises(ruzgalt.Refused):

@@ -22,9 +22,9 @@ def unglued(before, behind, cut):
 def unchained(sides, workers):
     """Each block of right rows leaves of the left ones what it leaves."""
     parts = [split.ask.anti([left, right], workers) for left in sides[0].blocks(3) for right in sides[1].blocks(3)]
-    told = split.found_of(split.together(parts) if parts else sides[0])
-    order = np.lexsort((told[0], told[2]))
-    return tuple(column[order] for column in told)
+    found = split.found_of(split.together(parts) if parts else sides[0])
+    order = np.lexsort((found[0], found[2]))
+    return tuple(column[order] for column in found)
 
 
 def factorized(cells):
