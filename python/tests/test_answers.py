@@ -176,6 +176,15 @@ class Lists(unittest.TestCase):
                 _, _, said = answers("list $S --answers $A", script, output)
                 self.assertEqual((part in said, said == ""), (True, part == ""), said)
 
+    def test_ends_on_which_other_rows_start_are_not_marked(self) -> None:
+        """Of rows of a day each, day by day, and of a diary whose entries are of last days of months."""
+        for commits, days in (("1112", ("01-29", "01-30", "01-31", "02-01", "02-02")),
+                              ("2345", ("01-31", "02-29", "03-31", "04-30", "05-31"))):
+            rows = "".join(f"row,2024-{one},2024-{end},{commit}\n" for one, end, commit in zip(days, days[1:], commits))
+            script = f"table,diary,newest,int\nload,diary\n{rows}end\n"
+            with self.subTest(script):
+                self.assertEqual(answers("list $S --answers $A", script, "ok,1\nok,2\n")[2], "")
+
     def test_texts_that_look_alike_in_several_loads_are_marked(self) -> None:
         other = "load,pay\nrow,2024-07-01,2024-08-01,a,6\nend\n"
         self.marks("line 6: load,pay: 'A' and 'a' look alike, but are two texts", PAY + other, "ok,1\nok,2\nok,3\n")

@@ -87,6 +87,23 @@ class LastDays(Case):
         text = rows("A,1,2024-01-01,2024-03-15", "A,2,2024-03-15,2024-06-02")
         self.loaded("load,pay\nrow,2024-01-01,2024-03-15,A,1\nrow,2024-03-15,2024-06-02,A,2\nend\n", text)
 
+    def test_rows_of_a_day_each_day_by_day_are_loaded_without_a_word(self) -> None:
+        """The third starts on the day behind the first one's end, on which the second starts."""
+        days = ["A,1,2024-01-01,2024-01-02", "A,2,2024-01-02,2024-01-03", "A,3,2024-01-03,2024-01-04"]
+        _, notes = load(rows(*days), *WORDS)
+        self.assertEqual(notes, [])
+        self.noted("2 start on it (line 3 after line 2)", rows(*days), *WORDS, "--last-day")
+        part = "1 start on the day behind it (line 4 after line 3) and 1 start on it (line 3 after line 2): a row"
+        self.noted(part, rows(*days[:2], "A,3,2024-01-04,2024-01-05"))
+
+    def test_last_days_of_months_on_which_rows_start_too_are_loaded_without_a_word(self) -> None:
+        days = ["2024-01-31", "2024-02-29", "2024-03-31", "2024-04-30", "2024-05-31", "2024-06-30"]
+        _, notes = load(rows(*(f"{start},1,{start},{end}" for start, end in zip(days, days[1:]))), *WORDS)
+        self.assertEqual(notes, [])
+        # Of one row a start may be anywhere.
+        others = [f"{end},1,2024-01-01,{end}" for end in days[1:]]
+        self.noted("6 ends are last days of a month, and 0 first ones", rows("A,1,2024-01-31,2024-02-29", *others))
+
     def test_the_last_minute_of_a_day_is_reported(self) -> None:
         text = rows("A,1,2024-01-01,2024-03-15 23:59:59")
         self.noted("the row doesn't hold at its end", text, *WORDS, "--dates", "2024-12-31 00:00:00")

@@ -3,7 +3,7 @@ from array import array
 from collections import Counter
 from itertools import chain
 from typing import Counter as Counts
-from typing import Dict, Iterator, List, NamedTuple, Optional, Sequence, Tuple
+from typing import Dict, Iterable, Iterator, List, NamedTuple, Optional, Sequence, Set, Tuple
 
 from ruzgalt.loading.dates import is_far_off, is_month_end, shifted
 from ruzgalt.script.records import visible
@@ -62,6 +62,10 @@ class Ends:
     Of rows with one key some start on the end of another, and some on the day behind it; ends are last days of months
     or first ones. What is kept of a row are numbers for its key and a point, since there may be a million, and they are
     looked at when all are there.
+
+    An end that is taken for the day behind is doubtful in two ways alone. Another row of its key starts on the day
+    behind that, and none on the end itself: as it is read, no row of the key has that day. Or it is the last day of a
+    month, as nearly all ends are, and few rows start on such a day.
     """
 
     def __init__(self, name: str, key: str, is_last_day: bool) -> None:
@@ -69,9 +73,10 @@ class Ends:
         self.lines: List[Sequence[int]] = []
         # Of each row the key with its start, with its end as the file has it, and with the day behind.
         self.starts, self.same, self.behind = array("q"), array("q"), array("q")
-        # The days behind, or before, and how often each end is there, since days repeat.
+        # The days behind, or before, and how often each end, and each start, is there, since days repeat.
         self.days = Days(-1 if is_last_day else 1)
         self.counts: Counts[str] = Counter()
+        self.begins: Counts[str] = Counter()
 
     def add(self, lines: Sequence[int], keys: Sequence[object], starts: Sequence[str], ends: Sequence[str]) -> None:
         """Adds rows with their points as they are loaded."""
@@ -83,31 +88,40 @@ class Ends:
         for numbers, points in ((self.starts, starts), (self.same, met), (self.behind, behind)):
             numbers.extend(map(hash, zip(keys, points)))
         self.counts.update(written)
+        self.begins.update(starts)
 
     def notes(self) -> Iterator[str]:
         starts = set(self.starts)
         # How many rows another one of their key meets.
-        on_end, on_next = (sum(map(starts.__contains__, ends)) for ends in (self.same, self.behind))
+        on_end, on_next = (sum(map(starts.__contains__, ends)) for ends in (self.same, self.days_behind(starts)))
         if on_end or on_next:
             is_odd = on_end >= on_next if self.is_last_day else on_next >= on_end
             if is_odd or (on_end and on_next):
-                yield self.meetings(on_end, on_next, is_odd)
+                yield self.meetings(starts, on_end, on_next, is_odd)
                 return
         yield from self.month_ends(on_next if self.is_last_day else on_end)
 
-    def meetings(self, on_end: int, on_next: int, is_odd: bool) -> str:
+    def days_behind(self, starts: Set[int]) -> Iterable[Optional[int]]:
+        """Of each row the key with the day behind its end; none where a row of the key starts on an end that is no last
+        day: of rows of a day each, day by day, each second one starts behind the end of another too."""
+        if self.is_last_day:
+            return self.behind
+        return (None if end in starts else behind for end, behind in zip(self.same, self.behind))
+
+    def meetings(self, starts: Set[int], on_end: int, on_next: int, is_odd: bool) -> str:
+        behind = self.days_behind(starts)
         counts = " and ".join(
             f"{count} start on {where} ({self.example_of(ends)})"
-            for count, where, ends in ((on_next, "the day after it", self.behind), (on_end, "it", self.same)) if count
+            for count, where, ends in ((on_next, "the day after it", behind), (on_end, "it", self.same)) if count
         )
         remedy = self.remedy() if is_odd else "is it the last day in some rows, and the day after it in others?"
         other = f"one of the same {self.key}" if self.key else "another one"
         return f"{self.name}: of rows that follow {other}, {counts}: {remedy}"
 
-    def example_of(self, ends: "array[int]") -> str:
+    def example_of(self, ends: Iterable[Optional[int]]) -> str:
         starts = dict(zip(self.starts, chain(*self.lines)))
-        line, end = next(pair for pair in zip(chain(*self.lines), ends) if pair[1] in starts)
-        return f"line {starts[end]} after line {line}"
+        line, other = next((line, starts[end]) for line, end in zip(chain(*self.lines), ends) if end in starts)
+        return f"line {other} after line {line}"
 
     def equal_starts(self, are_deletes: bool) -> Iterator[str]:
         """Reports updates, or deletes, of one key from one point on."""
@@ -127,9 +141,13 @@ class Ends:
         last_days, first_days = [day for day in known if is_month_end(day)], [day for day in known if day[8:] == "01"]
         ends, starts = (sum(map(self.counts.__getitem__, days)) for days in (last_days, first_days))
         odd, others, days = (starts, ends, first_days) if self.is_last_day else (ends, starts, last_days)
-        if odd > 4 * others and odd > 10 * meeting:
+        if odd > 4 * others and odd > 10 * meeting and (self.is_last_day or odd > 4 * (others + self.late_starts())):
             of_all = f"{ends} ends are last days of a month, {starts} are first days"
             yield f"{self.name} is {days[0]}: {self.remedy()} ({of_all})"
+
+    def late_starts(self) -> int:
+        """How many rows start on the last day of a month, as entries of a diary that are made then."""
+        return sum(map(self.begins.__getitem__, filter(is_month_end, self.begins)))
 
 
 class Overwrites:

@@ -141,6 +141,18 @@ class Doubts(unittest.TestCase):
         rows = pay(["Hill"] * count, **{"from": starts, "to": starts + pd.Timedelta(days=3)})
         self.assertEqual(self.reported(lambda: ruzgalt.join(rows, rows, on="person")), [])
 
+    def test_rows_of_a_day_each_day_by_day(self):
+        """As a diary's, whose entry holds until the next one: an end on which another row starts is no last day."""
+        starts = DAYS("2024-01-29") + pd.to_timedelta(np.arange(5), unit="D")
+        rows = pay(["Hill"] * 5, **{"from": starts, "to": starts + pd.Timedelta(days=1)})
+        for call in (lambda rows: ruzgalt.agg(rows, "count", by="person"), ruzgalt.dip):
+            self.assertEqual(self.told(lambda: call(rows)), [])
+            self.warns(lambda: call(rows.drop(2)), "1 start on the day behind it (row 3 after row 1) and 2 start on it")
+        store = ruzgalt.Store()
+        for day, cents in zip(starts, range(5)):
+            store.table(f"t{cents}", rows, key=["person"], day=day, label=f"entry {cents}")
+        self.assertEqual(self.told(lambda: store.table("diary", store.diary())), [])
+
     def test_many_rows_are_looked_at_by_some_of_their_keys(self):
         count = 20_000
         wrong = pd.concat([years(last=True).assign(person=f"p{place}") for place in range(2)] * (count // 4))
