@@ -7,7 +7,7 @@ from typing import TYPE_CHECKING, Any, Mapping, Optional, Union
 
 import pandas as pd
 
-from ruzgalt.frames import checks, groups, instants, intervals, pairs, shares, split, zones
+from ruzgalt.frames import checks, groups, instants, pairs, shares, split, zones
 from ruzgalt.frames.answer import Columns
 from ruzgalt.frames.arrays import of_objects
 from ruzgalt.frames.checks import are_spread
@@ -113,7 +113,6 @@ def spread(frame: Frame, column: Any, *, each: str = MONTH, by: Names = None, wi
     )
     checks.name("column", column)
     if are_spread(frame=frame):
-        intervals.refuse_spread(options.period)
         from ruzgalt.frames import partitions
         return partitions.grouped(spread_part, frame, (column,), options)
     with OfCall(options.call, options.progress):

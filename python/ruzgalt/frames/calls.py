@@ -7,7 +7,7 @@ from typing import TYPE_CHECKING, Any, Mapping, Optional, Union, overload
 
 import pandas as pd
 
-from ruzgalt.frames import division, groups, intervals, measures, pairs
+from ruzgalt.frames import division, groups, measures, pairs
 from ruzgalt.frames.checks import are_spread
 from ruzgalt.frames.division import Division
 from ruzgalt.frames.errors import Refused
@@ -142,7 +142,6 @@ def join(left: Any, right: Any, on: Names = None, *, left_on: Names = None, righ
         suffixes=suffixes, labels=labels, points_as=points_as, workers=workers, parts=parts, progress=progress,
     )
     if are_spread(left=left, right=right):
-        intervals.refuse_spread(*options.periods)
         from ruzgalt.frames import partitions
         return partitions.paired(pairs.join_part, left, right, on, options)
     with OfCall(options.call, options.progress):
@@ -245,7 +244,6 @@ def anti(left: Any, right: Any, on: Names = None, *, left_on: Names = None, righ
         progress=progress,
     )
     if are_spread(left=left, right=right):
-        intervals.refuse_spread(*options.periods)
         from ruzgalt.frames import partitions
         return partitions.paired(pairs.anti_part, left, right, on, options)
     with OfCall(options.call, options.progress):
@@ -351,7 +349,6 @@ def agg(frame: Any, function: Functions, column: Any = None, *, by: Names = None
     )
     measured = measures.of_call(function, column)
     if are_spread(frame=frame):
-        intervals.refuse_spread(options.period)
         from ruzgalt.frames import partitions, slices
         asked = partitions.agg if options.by else slices.agg
         return asked(frame, measured, options)

@@ -15,7 +15,7 @@ import dask.dataframe as dd
 import numpy as np
 import pandas as pd
 
-from ruzgalt.frames import doubts, groups, values
+from ruzgalt.frames import doubts, groups, intervals, values
 from ruzgalt.frames.computed import counted
 from ruzgalt.frames.errors import Refused
 from ruzgalt.frames.measures import Measures
@@ -114,14 +114,15 @@ def grouped(asked: Callable[..., Any], frame: Any, more: Sequence[Any], options:
 
 def by_value(frame: Any, names: Sequence[Any], decimals: Mapping[Any, int], parts: int) -> Any:
     """The rows, those of equal values in one partition."""
-    refuse_names(frame)
-    labels, meta = label_column(frame._meta), frame._meta
+    meta = frame._meta
+    labelled = with_label_column(meta)
+    refuse_names(frame, labelled)
     tagged = frame.map_partitions(
         sent(with_part, list(names), dict(decimals), parts),
-        meta=meta.assign(**{LABEL: labels, PART: np.empty(0, np.int64)}),
+        meta=intervals.by_sides(labelled).assign(**{PART: np.empty(0, np.int64)}),
     )
     # The divisions were those of the partitions' numbers.
-    return by_part(tagged, parts).map_partitions(sent(with_labels, meta.index.name), meta=meta).clear_divisions()
+    return by_part(tagged, parts).map_partitions(sent(with_labels, labelled), meta=meta).clear_divisions()
 
 
 def by_part(tagged: Any, parts: int) -> Any:
@@ -129,9 +130,9 @@ def by_part(tagged: Any, parts: int) -> Any:
     return tagged.set_index(PART, divisions=[*range(parts), parts - 1], **HOW)
 
 
-def refuse_names(frame: Any) -> None:
+def refuse_names(frame: Any, labelled: Any) -> None:
     """Dask finds no column of the name NaN, and others are added while rows are sent."""
-    for name in (PART, LABEL, OF_DASK, np.nan):
+    for name in (PART, LABEL, OF_DASK, np.nan, *intervals.names_of_sides(labelled)):
         if name in names_of(frame):
             raise Refused("BadName", "Dask can't take a column of this name: .rename(columns=..) it", name)
 
@@ -140,16 +141,18 @@ def with_part(frame: Any, names: List[Any], decimals: Mapping[Any, int], parts: 
     keyed = with_levels(frame, names)
     hashed = values.hashes([values.values_of(column_of(keyed, name), decimals.get(name)) for name in names])
     part = (hashed % np.uint64(parts)).astype(np.int64)
-    return with_labels_twice(frame).assign(**{LABEL: label_column(frame), PART: part})
+    return intervals.by_sides(with_label_column(with_labels_twice(frame))).assign(**{PART: part})
 
 
-def label_column(frame: Any) -> Any:
-    """The labels as a column, in their dtype."""
-    return pd.Series(frame.index, frame.index, dtype=frame.index.dtype)
+def with_label_column(frame: Any) -> Any:
+    """The frame with its labels as a column, in their dtype, and under numbers, since Dask sends no intervals."""
+    labels = pd.RangeIndex(len(frame), name=frame.index.name)
+    return frame.set_axis(labels).assign(**{LABEL: pd.Series(frame.index, labels, dtype=frame.index.dtype)})
 
 
-def with_labels(frame: Any, name: Any) -> Any:
-    """The frame with the labels that stand in a column."""
-    labels, made = frame[LABEL], frame.drop(columns=[LABEL])
-    made.index = pd.Index(labels.array, labels.dtype, name=name, tupleize_cols=False)
+def with_labels(frame: Any, labelled: Any) -> Any:
+    """The frame with the labels that stand in a column, and with intervals, as those of this empty one."""
+    whole = intervals.with_spans(frame, labelled)
+    labels, made = whole[LABEL], whole.drop(columns=[LABEL])
+    made.index = pd.Index(labels.array, labels.dtype, name=labelled.index.name, tupleize_cols=False)
     return made

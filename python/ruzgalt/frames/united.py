@@ -11,7 +11,7 @@ from typing import TYPE_CHECKING, Any, Mapping, Optional, Tuple, Union
 import numpy as np
 import pandas as pd
 
-from ruzgalt.frames import groups, instants, intervals, measures, pairs, sides, split
+from ruzgalt.frames import groups, instants, measures, pairs, sides, split
 from ruzgalt.frames.answer import Columns
 from ruzgalt.frames.arrays import Ints
 from ruzgalt.frames.ask import Found
@@ -95,7 +95,6 @@ def coalesce(frame: Frame, by: Names = None, *, period: PeriodNames = PERIOD, op
         workers=workers, parts=parts, progress=progress,
     )
     if are_spread(frame=frame):
-        intervals.refuse_spread(options.period)
         from ruzgalt.frames import partitions, slices
         asked = partitions.agg if options.by else slices.agg
         return asked(frame, [measures.HELD], options)
@@ -172,7 +171,6 @@ def gaps(frame: Frame, by: Names = None, *, within: Any = None, period: PeriodNa
         points_as=points_as, workers=workers, parts=parts, progress=progress,
     )
     if are_spread(frame=frame):
-        intervals.refuse_spread(options.period)
         from ruzgalt.frames import partitions
         return partitions.grouped(gaps_part, frame, (span_of(frame._meta, options),), options)
     with OfCall(options.call, options.progress):
@@ -298,7 +296,6 @@ def overlaps(frame: Frame, by: Names = None, *, keep_periods: bool = False, labe
         progress=progress,
     )
     if are_spread(frame=frame):
-        intervals.refuse_spread(options.period)
         from ruzgalt.frames import partitions
         return partitions.grouped(pairs.overlaps_part, frame, (), options)
     with OfCall(options.call, options.progress):

@@ -67,22 +67,27 @@ def rows_of(frame, has_labels):
 
 
 class Case:
+    kinds, may_be_open = random_frames.POINTS, True
+
     def __init__(self, seed):
         self.random = random = Random(seed)
-        kind = random.choice(random_frames.POINTS)
-        self.is_open = random.random() < 0.4
+        kind = random.choice(self.kinds)
+        self.is_open = self.may_be_open and random.random() < 0.4
         compared = {f"k{place}": random.choice(["int", "text"]) for place in range(random.choice([1, 1, 2]))}
         sizes = [random.choice([0, 1, 10, 60, 200]) for _ in range(2)]
         self.left = frame(random, sizes[0], kind, self.is_open, compared)
         self.right = other_dtypes(random, frame(random, sizes[1], kind, self.is_open, compared), compared, self.left)
         self.names = list(compared)
         self.parts = random.choice([None, *range(1, 8)])
+        self.starts = self.left["from"].tolist()
+        # What all calls are given, and what spread is given beside.
+        self.words, self.pieces = {"open_end": self.is_open}, {"points_as": "S"}
 
     def questions(self):
         """A name, the answer of the whole, and that of Dask, not computed yet."""
         function = self.random.choice(["count", "sum", "min", "max"])
         amount = [] if function == "count" else ["euros"]
-        words, parts = {"open_end": self.is_open}, {"parts": self.parts}
+        words, parts = self.words, {"parts": self.parts}
         left, right = spread(self.random, self.left), spread(self.random, self.right)
         on = {"on": self.names, **words}
         for name, how in (("join", "inner"), ("unmatched", self.random.choice(["left", "right", "outer"]))):
@@ -99,13 +104,34 @@ class Case:
         yield "agg by", ruzgalt.coalesce(self.left, **by), ruzgalt.coalesce(left, **by, **parts)
         yield "agg", ruzgalt.coalesce(self.left, **words), ruzgalt.coalesce(left, **words, **parts)
         if not self.is_open:
-            whole = ruzgalt.spread(self.left, "euros", each="W", points_as="S", **by)
-            yield "agg by", whole, ruzgalt.spread(left, "euros", each="W", points_as="S", **by, **parts)
+            by_weeks = {"each": "W", **self.pieces, **by}
+            whole = ruzgalt.spread(self.left, "euros", **by_weeks)
+            yield "agg by", whole, ruzgalt.spread(left, "euros", **by_weeks, **parts)
         yield "agg by", ruzgalt.gaps(self.left, **by), ruzgalt.gaps(left, **by, **parts)
         if len(self.left):
-            point = self.random.choice(self.left["from"].tolist())
+            point = self.random.choice(self.starts)
             yield "at", ruzgalt.at(self.left, point, **words), ruzgalt.at(left, point, **words)
             yield "during", ruzgalt.during(self.left, point, None, **words), ruzgalt.during(left, point, None, **words)
+
+
+class IntervalCase(Case):
+    """Periods are of intervals, in a column or in the index; another column has intervals that aren't looked at."""
+
+    kinds, may_be_open = ("ns",), False
+
+    def __init__(self, seed):
+        super().__init__(seed)
+        self.left, self.right = (self.spanned(one, self.random.random() < 0.3) for one in (self.left, self.right))
+        self.words, self.pieces = {"period": "span"}, {}
+
+    def spanned(self, frame, is_index):
+        made = frame.copy()
+        spans = pd.arrays.IntervalArray.from_arrays(made.pop("from"), made.pop("to"), closed="left")
+        places = [self.random.choice([None, 0, 1, 2]) for _ in spans]
+        sides = [[np.nan if place is None else place + step for place in places] for step in (0.0, 1.0)]
+        made["pass"] = pd.arrays.IntervalArray.from_arrays(*map(np.array, sides, ("f8", "f8")), closed="right")
+        made.insert(self.random.randint(0, len(made.columns)), "span", spans)
+        return made.set_index("span") if is_index else made
 
 
 class RandomSpread(unittest.TestCase):
@@ -120,14 +146,24 @@ class RandomSpread(unittest.TestCase):
         if len(whole) and not any(isinstance(dtype, pd.CategoricalDtype) for dtype in whole.dtypes):
             self.assertEqual(list(map(str, found.dtypes)), list(map(str, whole.dtypes)))
             self.assertEqual(list(map(str, lazy.dtypes)), list(map(str, whole.dtypes)))
+        if name == "anti" and len(whole):
+            self.assertEqual((found.index.dtype, found.index.name), (whole.index.dtype, whole.index.name))
+
+    def answers_as_the_whole(self, case):
+        listed = list(case.questions())
+        found = dask.compute(*(lazy for _, _, lazy in listed), scheduler="sync")
+        for (name, whole, lazy), one in zip(listed, found):
+            self.is_as_whole(name, whole, lazy, one)
 
     def test_partitions_answer_as_the_whole_does(self):
         for seed in range(SEED, SEED + RUNS):
             with self.subTest(seed=seed):
-                listed = list(Case(seed).questions())
-                found = dask.compute(*(lazy for _, _, lazy in listed), scheduler="sync")
-                for (name, whole, lazy), one in zip(listed, found):
-                    self.is_as_whole(name, whole, lazy, one)
+                self.answers_as_the_whole(Case(seed))
+
+    def test_partitions_of_intervals_do_too(self):
+        for seed in range(SEED, SEED + RUNS):
+            with self.subTest(seed=seed):
+                self.answers_as_the_whole(IntervalCase(seed))
 
 
 def column(cells, dtype):
