@@ -153,11 +153,15 @@ class OverTime(unittest.TestCase):
         words = ["months", "--program", str(PROGRAM), "--each", each, "--sum", case.named[-1]]
         words += [word for name in case.named[:-1] for word in ("--by", name)]
         words += [] if value is None else ["--where", f"{case.named[0]}={value}"]
+        has_zeros = data.draw(st.booleans())
+        words += [] if has_zeros else ["--no-zeros"]
         with kept(case.script_of("less", taken) + case.script_of("t", added)) as script:
             status, text, said = run(["tools/answers", *words, script, *([] if less is None else ["--less", less])])
         self.assertEqual(status, 0, said)
         counted, taken = ([one for one in rows if value in (None, *one.group[:1])] for rows in (added, taken))
-        self.check_sums(read(text)[1:], differences(counted, taken if less else [], each), each, said)
+        wanted = differences(counted, taken if less else [], each)
+        listed = {piece: exact for piece, exact in wanted.items() if exact or has_zeros}
+        self.check_sums(read(text)[1:], listed, each, said)
         is_noted = value is not None and not (counted or less and taken)
         self.assertEqual("no record has the values of --where" in said, is_noted)
 
@@ -213,6 +217,7 @@ class Words(ToolCase):
         june = "2024-05-01,2024-06-01,0\n2024-06-01,2024-07-01,480\n2024-07-01,2024-08-01,360\n"
         self.check([*months, "last", "--less", "last-1"], "", 0, june)
         self.check([*months, "--less", "last-1"], "", 0, june)
+        self.check([*months, "--less", "last-1", "--no-zeros"], "", 0, "sum_euros\n2024-06-01,2024-07-01,480\n")
         self.check([*months, "last", "--less", "last"], "", 1, "--less last: that is the answer whose amounts are")
         self.check([*months, "--less", "before"], "", 1, "before: not a NUMBER, @LINE, last or last-N")
         self.check([*months, "--less", "@29"], "", 1, "an `at` is of one point alone")

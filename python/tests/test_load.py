@@ -414,6 +414,10 @@ class Dates(Case):
     def test_a_start_that_isn_t_before_its_end_is_refused(self) -> None:
         self.refused("line 2: Start, 2024-03-05, isn't before End, 2024-01-01", rows("A,1,2024-03-05,2024-01-01"))
         self.refused("2024-01-01; if that is the last day, use --last-day", rows("A,1,2024-01-01,2024-01-01"))
+        words = [*WORDS, "--last-day"]
+        for last, written in (("2024-01-31", "2024-01-31"), ("2024-02-29", "29.02.2024")):
+            part = f"line 2: Start, 2024-03-01, is after End, {last}"
+            self.refused(part, rows(f"A,1,2024-03-01,{written}"), *words, "--german")
 
 
 class Updates(Case):

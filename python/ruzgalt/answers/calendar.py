@@ -17,8 +17,8 @@ NO_END = "9999-01-01"
 
 
 class Wish(NamedTuple):
-    """The column whose numbers are summed, those whose values have a sum each, the pieces, the time to count, and which
-    records are counted.
+    """The column whose numbers are summed, those whose values have a sum each, the pieces, the time to count, which
+    records are counted, and whether sums that are exactly 0 are listed.
     """
 
     summed: str
@@ -27,6 +27,7 @@ class Wish(NamedTuple):
     start: Optional[str] = None
     end: Optional[str] = None
     where: conditions.Where = ()
+    has_zeros: bool = True
 
 
 class Sums(NamedTuple):
@@ -65,7 +66,9 @@ def sums(answer: Answer, wish: Wish, less: Optional[Answer] = None) -> Sums:
     for values in grouped.in_order(columns[:-1], {values for side in sides for values in side.records}):
         made = amounts.by_piece((row for side in sides for row in rows_of(side, values, wish)), calendar)
         rounded += sum(one.is_rounded for one in made)
-        found.extend([*period_of(one.piece, calendar), *values, str(one.whole)] for one in made)
+        # A sum that is rounded to 0 isn't 0.
+        listed = (one for one in made if wish.has_zeros or one.whole or one.is_rounded)
+        found.extend([*period_of(one.piece, calendar), *values, str(one.whole)] for one in listed)
     counted = sum(len(records) for side in sides for records in side.records.values())
     return Sums(Table(unique([*PERIOD, *columns]), found), rounded, counted)
 

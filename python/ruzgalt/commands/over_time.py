@@ -31,11 +31,16 @@ def words_of_months(parser: ArgumentParser) -> None:
         "--less", metavar="ANSWER",
         help="subtracts from each sum that of this answer: a PICK, or a question such as rows,T,asof,3",
     )
+    parser.add_argument(
+        "--no-zeros", action="store_true",
+        help="leaves out what is exactly 0, as differences are where nothing differs",
+    )
     printed.words_of_tables(parser)
 
 
 def do_months(options: Namespace) -> None:
-    wish = calendar.Wish(options.sum, options.by, options.each, options.start, options.end, options.where)
+    counted = options.each, options.start, options.end, options.where
+    wish = calendar.Wish(options.sum, options.by, *counted, has_zeros=not options.no_zeros)
     answer, less = summed(options)
     sums = calendar.sums(answer, wish, less)
     printed.show(options, sums.table)

@@ -13,6 +13,7 @@ from ruzgalt.frames.script import Command
 from ruzgalt.frames.sides import Side
 from ruzgalt.frames.tables import Table
 from ruzgalt.script import fields
+from ruzgalt.script.records import visible
 
 
 def texts_of(commands: Sequence[Command], table: Table, name: Any) -> List[str]:
@@ -77,7 +78,11 @@ def of_portion(change: Change, count: int, there: int) -> Iterator[str]:
     if reason is None and count == there > 1 and fields.where_places(command.fields):
         reason = f"its `where` matches all rows of the table: {count} were changed"
     if reason:
-        yield f"{command.word} of {change.name}: {reason}"
+        # Of many changes behind one another it says which one.
+        places = fields.where_places(command.fields)
+        told = [f"{command.fields[place]} is '{visible(command.fields[place + 1])}'" for place in places]
+        where = f" where {' and '.join(told)}" if told else ""
+        yield f"{command.word} of {change.name}{where}: {reason}"
 
 
 def of_end(change: Change, table: Table, count: int) -> Iterator[str]:

@@ -9,7 +9,7 @@ from zlib import crc32
 from ruzgalt.checking.doubts import Ends, Notes, Overwrites, Repeats, Twins
 from ruzgalt.errors import Misfit
 from ruzgalt.loading.columns import Column, End, Start, Text, form_of, mark_of, point_text
-from ruzgalt.loading.dates import as_good_swapped, without_half
+from ruzgalt.loading.dates import as_good_swapped, shifted, without_half
 from ruzgalt.loading.decimals import Marks, Scale, readings
 from ruzgalt.loading.loaded_table import name_for
 from ruzgalt.loading.sheets import Piece, Records
@@ -208,9 +208,15 @@ class Load:
             return
         for line, start, end in zip(lines, starts, ends):
             if start >= end:
-                more = "; if that is the last day, use --last-day" if start == end and len(end) == 10 else ""
-                what = f"{self.options.start}, {start}, isn't before {self.options.end}, {end}{more}"
-                self.add_fault(f"line {line}: {what}")
+                self.add_fault(f"line {line}: {self.options.start}, {start}, {self.empty_period(start, end)}")
+
+    def empty_period(self, start: str, end: str) -> str:
+        """Why it has no point, with the end as the file has it."""
+        last = shifted(end, -1) if self.options.last_day else ""
+        if last:
+            return f"is after {self.options.end}, {last}"
+        more = "; if that is the last day, use --last-day" if start == end and len(end) == 10 else ""
+        return f"isn't before {self.options.end}, {end}{more}"
 
     def keys_of(self, values: Sequence[Sequence[str]]) -> Sequence[object]:
         if len(self.keys) == 1:

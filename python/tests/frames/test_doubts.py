@@ -141,6 +141,18 @@ class Doubts(unittest.TestCase):
         rows = pay(["Hill"] * count, **{"from": starts, "to": starts + pd.Timedelta(days=3)})
         self.assertEqual(self.reported(lambda: ruzgalt.join(rows, rows, on="person")), [])
 
+    def test_a_change_of_no_row_says_which_it_is(self):
+        """Of a batch the line is that of all its changes."""
+        store = ruzgalt.Store()
+        store.table("t", pay())
+
+        def changes():
+            with store.batch():
+                for person in ("Hill", "Byron\u00a0"):
+                    store.update("t", "2024-03-01", "2024-04-01", {"cents": 2}, {"person": person, "cents": 1})
+
+        self.warns(changes, "update of t where person is 'Byron\\xa0' and cents is '1': no row of that time has")
+
     def test_rows_of_a_day_each_day_by_day(self):
         """As a diary's, whose entry holds until the next one: an end on which another row starts is no last day."""
         starts = DAYS("2024-01-29") + pd.to_timedelta(np.arange(5), unit="D")
