@@ -439,7 +439,7 @@ class Asking:
             from and to, the days from which on and before which the commit was the newest, as period[D], or period[S]
             where some have times; newest and commit, its number, in int64; label, a text, which is empty where it has
             none. Of a label's commit without a day newest is 0, and the period is all of time. Rows are by commit,
-            those without a day first.
+            those without a day first; of several commits of a day those without a label aren't there, but for the last.
 
         Raises
         ------

@@ -184,11 +184,12 @@ class Diary:
             labels_of.setdefault(commit, []).append(label)
         for commit in sorted(set(labels_of) - set(self.commits)):
             yield from (Row(points.FIRST, points.NO_END, 0, commit, label) for label in labels_of[commit])
-        for second, commit in zip(self.seconds, self.commits):
+        for place, (second, commit) in enumerate(zip(self.seconds, self.commits), 1):
             later = bisect_right(self.seconds, second)
             end = self.seconds[later] if later < len(self.seconds) else points.NO_END
-            # A diary that somebody made may have a commit on several days.
-            for label in labels_of.pop(commit, [""]):
+            # Of several commits of a day the last is the newest; of the others only those that have labels are there. A
+            # diary that somebody made may have a commit on several days.
+            for label in labels_of.pop(commit, [""] if place == later else []):
                 yield Row(second, end, commit, commit, label)
 
 

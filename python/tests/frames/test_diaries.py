@@ -207,6 +207,17 @@ class Kept(Case):
         self.assertEqual(self.made().diary(after="2024-01-31")["commit"].tolist(), [3, 6, 4, 5])
         self.assertEqual(store().diary().columns.tolist(), rows.columns.tolist())
 
+    def test_of_several_commits_of_a_day_the_last_has_its_row(self):
+        made = store(day="2024-01-10")
+        for number in range(2, 6):
+            made.update("t", "2024-02-01", None, {"n": number}, {"k": "a"}, day="2024-02-10")
+        self.assertEqual(made.diary()["newest"].tolist(), [2, 6])
+        made.table("diary", made.diary())
+        again = ruzgalt.Store.from_script(made.script(), diary="diary")
+        self.same(again, "2024-02-10", 6)
+        entered, wanted = (one.history("t")["entered"].astype(str).tolist() for one in (again, made))
+        self.assertEqual(entered, wanted)
+
     def test_a_script_has_them_again(self):
         made = self.made()
         made.table("diary", made.diary())
