@@ -64,7 +64,7 @@ class Load:
     def __init__(self, sheet: Records, options: Namespace, schema: Optional[Schema]) -> None:
         self.sheet, self.options, self.schema = sheet, options, schema
         self.names = [options.start, options.end, *options.column]
-        refuse_header(sheet.header, self.names)
+        refuse_header(sheet.header, self.names, schema.names if schema else [])
         self.places = [sheet.header.index(name) for name in self.names]
         self.marks = Marks(mark_of(options), bool(options.decimal_mark))
         self.keys = self.parted_by = self.key_places()
@@ -311,7 +311,7 @@ class Load:
                 yield f"{column.name}: {count}; --decimals {column.name}={scale.longest} takes them as they are"
 
 
-def refuse_header(header: List[str], names: List[str]) -> None:
+def refuse_header(header: List[str], names: List[str], of_table: Sequence[str]) -> None:
     if not header:
         raise Misfit("there is no header: the file has nothing but empty lines")
     unknown = [name for name in names if name not in header]
@@ -321,6 +321,9 @@ def refuse_header(header: List[str], names: List[str]) -> None:
         remedy = f"; `(echo 'sep={mark}'; cat FILE)` makes '{mark}' the separator of its fields" if mark else ""
         file = next((name for name in unknown if isfile(name)), None)
         remedy = f"; {visible(file)} is a file: give it by --file or `<`" if file else remedy
+        # Without COLUMNs the names are those of the table, or of its key.
+        same = next((name for name in unknown if name in of_table), None)
+        remedy = f"; {same}=COLUMN names the one for the table's {same}" if same and not remedy else remedy
         raise Misfit(f"not in the header: {', '.join(map(visible, unknown))}; it has {shown}{remedy}")
     if any(read_point(name) for name in names[:2]):
         raise Misfit(f"the first line must have the columns' names, but it has a date: {visible(','.join(header))}")
