@@ -141,13 +141,17 @@ def with_part(frame: Any, names: List[Any], decimals: Mapping[Any, int], parts: 
     keyed = with_levels(frame, names)
     hashed = values.hashes([values.values_of(column_of(keyed, name), decimals.get(name)) for name in names])
     part = (hashed % np.uint64(parts)).astype(np.int64)
-    return intervals.by_sides(with_label_column(with_labels_twice(frame))).assign(**{PART: part})
+    made = intervals.by_sides(with_label_column(with_labels_twice(frame)))
+    made[PART] = part
+    return made
 
 
 def with_label_column(frame: Any) -> Any:
     """The frame with its labels as a column, in their dtype, and under numbers, since Dask sends no intervals."""
-    labels = pd.RangeIndex(len(frame), name=frame.index.name)
-    return frame.set_axis(labels).assign(**{LABEL: pd.Series(frame.index, labels, dtype=frame.index.dtype)})
+    made = frame.copy(deep=False)
+    made.index = pd.RangeIndex(len(frame), name=frame.index.name)
+    made[LABEL] = pd.Series(frame.index, made.index, dtype=frame.index.dtype)
+    return made
 
 
 def with_labels(frame: Any, labelled: Any) -> Any:
