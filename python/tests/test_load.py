@@ -492,7 +492,7 @@ class Deletes(Case):
         self.refused("--delete: pay has no key", self.TEXT, *self.WORDS, "--table", none, "--delete")
         self.refused("--delete needs a COLUMN", self.TEXT, *self.WORDS, "--delete")
         text = self.TEXT.replace("Person", "Who")
-        part = "not in the header: person; it has 'Who', 'euros', 'Start', 'End'; person=COLUMN says which is the"
+        part = "not in the header: person; it has 'Who', 'euros', 'Start', 'End'; person=COLUMN names the one for the"
         self.refused(part, text, *self.WORDS, *self.RECORD, "--delete")
 
     def test_values_and_names_are_to_fit_the_table(self) -> None:

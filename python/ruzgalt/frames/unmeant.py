@@ -80,8 +80,8 @@ def of_portion(change: Change, count: int, there: int) -> Iterator[str]:
     if reason:
         # Of many changes behind one another it says which one.
         places = fields.where_places(command.fields)
-        told = [f"{command.fields[place]} is '{visible(command.fields[place + 1])}'" for place in places]
-        where = f" where {' and '.join(told)}" if told else ""
+        pairs = [f"{command.fields[place]} is '{visible(command.fields[place + 1])}'" for place in places]
+        where = f" where {' and '.join(pairs)}" if pairs else ""
         yield f"{command.word} of {change.name}{where}: {reason}"
 
 

@@ -158,12 +158,12 @@ class Doubts(unittest.TestCase):
         starts = DAYS("2024-01-29") + pd.to_timedelta(np.arange(5), unit="D")
         rows = pay(["Hill"] * 5, **{"from": starts, "to": starts + pd.Timedelta(days=1)})
         for call in (lambda rows: ruzgalt.agg(rows, "count", by="person"), ruzgalt.dip):
-            self.assertEqual(self.told(lambda: call(rows)), [])
+            self.assertEqual(self.reported(lambda: call(rows)), [])
             self.warns(lambda: call(rows.drop(2)), "1 start on the day behind it (row 3 after row 1) and 2 start on it")
         store = ruzgalt.Store()
         for day, cents in zip(starts, range(5)):
             store.table(f"t{cents}", rows, key=["person"], day=day, label=f"entry {cents}")
-        self.assertEqual(self.told(lambda: store.table("diary", store.diary())), [])
+        self.assertEqual(self.reported(lambda: store.table("diary", store.diary())), [])
 
     def test_many_rows_are_looked_at_by_some_of_their_keys(self):
         count = 20_000

@@ -152,8 +152,8 @@ class OfDask(unittest.TestCase):
         """Equal but for the order of partitions."""
         found = computed(got)
         self.assertEqual(got.dtypes.to_dict(), wanted.dtypes.to_dict())
-        told = [one.sort_values(list(one), key=str_of, kind="stable").reset_index(**words) for one in (found, wanted)]
-        pd.testing.assert_frame_equal(*told)
+        both = [one.sort_values(list(one), key=str_of, kind="stable").reset_index(**words) for one in (found, wanted)]
+        pd.testing.assert_frame_equal(*both)
 
     def test_zones_and_one_side_of_two_columns(self):
         for zone in (None, "Europe/Berlin"):
@@ -201,12 +201,12 @@ class OfDask(unittest.TestCase):
 
     def are_refused(self, ask, frame):
         """What is asked of the frame, and of that as one of Dask, in the same words."""
-        told = []
+        reasons = []
         for one in (frame, self.spread(frame)):
             with self.assertRaises(ruzgalt.Refused) as caught:
                 ask(one)
-            told.append((str(caught.exception), caught.exception.name, caught.exception.label))
-        self.assertEqual(*told)
+            reasons.append((str(caught.exception), caught.exception.name, caught.exception.label))
+        self.assertEqual(*reasons)
 
     def test_names_of_sides_are_refused(self):
         taken = self.frame.rename(columns={"x": "_ruzgalt_right0"})
