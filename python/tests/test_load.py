@@ -93,7 +93,7 @@ class LastDays(Case):
         _, notes = load(rows(*days), *WORDS)
         self.assertEqual(notes, [])
         self.noted("2 start on it (line 3 after line 2)", rows(*days), *WORDS, "--last-day")
-        part = "1 start on the day behind it (line 4 after line 3) and 1 start on it (line 3 after line 2): a row"
+        part = "1 start on the day after it (line 4 after line 3) and 1 start on it (line 3 after line 2): a row"
         self.noted(part, rows(*days[:2], "A,3,2024-01-04,2024-01-05"))
 
     def test_last_days_of_months_on_which_rows_start_too_are_loaded_without_a_word(self) -> None:
@@ -102,7 +102,7 @@ class LastDays(Case):
         self.assertEqual(notes, [])
         # Of one row a start may be anywhere.
         others = [f"{end},1,2024-01-01,{end}" for end in days[1:]]
-        self.noted("6 ends are last days of a month, and 0 first ones", rows("A,1,2024-01-31,2024-02-29", *others))
+        self.noted("6 ends are last days of a month, 0 are first days", rows("A,1,2024-01-31,2024-02-29", *others))
 
     def test_the_last_minute_of_a_day_is_reported(self) -> None:
         text = rows("A,1,2024-01-01,2024-03-15 23:59:59")

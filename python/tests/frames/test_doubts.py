@@ -151,7 +151,7 @@ class Doubts(unittest.TestCase):
                 for person in ("Hill", "Byron\u00a0"):
                     store.update("t", "2024-03-01", "2024-04-01", {"cents": 2}, {"person": person, "cents": 1})
 
-        self.warns(changes, "update of t where person is 'Byron\\xa0' and cents is '1': no row of that time has")
+        self.warns(changes, "update of t where person is 'Byron\\xa0' and cents is '1': no row of that time matches")
 
     def test_rows_of_a_day_each_day_by_day(self):
         """As a diary's, whose entry holds until the next one: an end on which another row starts is no last day."""
@@ -159,7 +159,7 @@ class Doubts(unittest.TestCase):
         rows = pay(["Hill"] * 5, **{"from": starts, "to": starts + pd.Timedelta(days=1)})
         for call in (lambda rows: ruzgalt.agg(rows, "count", by="person"), ruzgalt.dip):
             self.assertEqual(self.reported(lambda: call(rows)), [])
-            self.warns(lambda: call(rows.drop(2)), "1 start on the day behind it (row 3 after row 1) and 2 start on it")
+            self.warns(lambda: call(rows.drop(2)), "1 start on the day after it (row 3 after row 1) and 2 start on it")
         store = ruzgalt.Store()
         for day, cents in zip(starts, range(5)):
             store.table(f"t{cents}", rows, key=["person"], day=day, label=f"entry {cents}")
