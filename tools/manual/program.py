@@ -12,7 +12,7 @@ from manual.roff import exact, item, markdown, opening, paragraph, prose, sectio
 TOP = Path(__file__).resolve().parents[2]
 LEFT_OUT = ("Usual mistakes", "The program")
 ENVIRONMENT = """\
-Settings of the C library. Where it isn't set, dipq runs with settings of the allocator that suit it."""
+Settings of the C library. Where it isn't set, dipq runs with large pages of memory."""
 SEE_ALSO = r"""
 \fBdipq-answers\fR(1), \fBdipq-load\fR(1). In the repository of Ruzgalt, and in /usr/share/doc/dipq where its
 package is installed: docs/LANGUAGE.md, which lists usual mistakes too; docs/RECIPES.md and docs/LOADING.md,
