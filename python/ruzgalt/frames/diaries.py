@@ -119,11 +119,14 @@ class Diary:
         return replace(made, seconds=(*self.seconds, note.second), commits=(*self.commits, commit))
 
     def refuse(self, note: Note) -> None:
-        """Raises Refused where a commit has one of the labels, or a later day."""
-        for label in note.labels:
+        """Raises Refused where a commit has one of the labels, one is there twice, or a commit has a later day."""
+        for place, label in enumerate(note.labels):
             if label in self.labels:
                 reason = f"label={checks.shown(label)} is that of commit {self.labels[label]}"
                 raise Refused("TwiceNamed", f"{reason}: give another one; diary() lists them")
+            if label in note.labels[:place]:
+                reason = f"label={checks.shown(label)} is that of the batch and of its last change"
+                raise Refused("TwiceNamed", f"{reason}: give another one to one of them")
         if note.second is not None and self.seconds and note.second < self.seconds[-1]:
             last = f"{points.text_of(self.seconds[-1])}, the day of commit {self.commits[-1]}"
             raise Refused("BadPoint", f"day={points.text_of(note.second)} is before {last}: days can't go back")
@@ -209,7 +212,8 @@ def read(book: Book, name: Any, schemas: Mapping[str, Schema]) -> Diary:
     start, end, *cells = book.answer(script.command("rows", table.name)).block("-pp" + table.readers)
     rows = zip(points.texts_of(start), points.texts_of(end), *([str(cell) for cell in one] for one in cells))
     try:
-        days = [(day, commit) for day, commit in history.days_of(schema, rows) if commit]
+        # A commit of several labels has a row for each.
+        days = list(dict.fromkeys((day, commit) for day, commit in history.days_of(schema, rows) if commit))
     except Misfit as misfit:
         raise Refused("WrongKind", str(misfit)) from None
     columns = {column.name: (column.kind.value, own) for column, own in zip(schema.columns, cells)}

@@ -103,6 +103,18 @@ class Labels(Case):
         self.refuses(lambda: made.raise_by("t", "n", 5, "2024-07-01", dry_run=True, label="first"), "TwiceNamed")
         self.assertEqual((made.script(), len(made.diary())), (before, 1))
 
+    def test_a_batch_and_its_last_change_have_labels_of_their_own(self):
+        made = store()
+        with self.assertRaisesRegex(ruzgalt.Refused, "'a' is that of the batch and of its last change"):
+            with made.batch(label="a"):
+                made.load("t", frame("c"), label="a")
+        with made.batch(label="a", day="2024-03-01"):
+            made.load("t", frame("c"), label="b")
+        self.assertEqual(made.diary()["label"].tolist(), ["b", "a"])
+        made.table("diary", made.diary())
+        again = ruzgalt.Store.from_script(bytes(made.script()), diary="diary")
+        self.assertEqual(again.diary()["label"].tolist(), ["b", "a"])
+
     def test_a_refused_change_leaves_its_label_free(self):
         made = store(key="k")
         self.refuses(lambda: made.load("t", frame(), label="more"), "KeyOverlap")

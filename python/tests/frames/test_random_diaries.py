@@ -34,12 +34,16 @@ class Plain:
         """Whether it is accepted; of several commits the last one has the label, and all have the day."""
         if label is not None and (not self.is_free(label) or not count):
             return False
-        if count and day is not None and any(one["day"] is not None and one["day"] > day for one in self.commits):
+        if self.goes_back(day):
             return False
         self.commits += [{"labels": [], "day": day} for _ in range(count)]
         if label is not None:
             self.commits[-1]["labels"].append(label)
         return True
+
+    def goes_back(self, day):
+        """Whether some commit has a later day; a day that does is refused, whatever the change makes."""
+        return day is not None and any(one["day"] is not None and one["day"] > day for one in self.commits)
 
     def is_free(self, label):
         text = label.strip()
@@ -48,6 +52,8 @@ class Plain:
         return is_one and not any(label in one["labels"] for one in self.commits)
 
     def batch(self, changes, label, day):
+        if self.goes_back(day):
+            return False
         for count, own_label, own_day in changes:
             if not self.change(count, own_label, day if own_day is None else own_day):
                 return False
