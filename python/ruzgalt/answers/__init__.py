@@ -10,6 +10,7 @@
     asking              the program is asked for a script's answers
     conditions          records that have some values
     changes, history    what really changed between two answers; what each commit changed
+    diary               which commit was the newest at a point
     grouped             records that hold for a time, by the values of columns
     calendar, unions    what they come to by month; the periods in which one of a group holds
     next_script         an answer as a table and a load of another script

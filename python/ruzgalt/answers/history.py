@@ -50,8 +50,15 @@ def refuse_missing(found: Sequence[Answer], name: str) -> None:
 
 def days_in(found: Sequence[Answer], diary: str) -> Days:
     """The days of a diary as the script's end has it."""
-    refuse_missing(found, diary)
-    return days_of(found[-1].tables[diary], open_rows(behind(found), diary))
+    rows = rows_in(found, diary)
+    return days_of(found[-1].tables[diary], rows)
+
+
+def rows_in(found: Sequence[Answer], name: str) -> List[List[str]]:
+    """The rows of a table as the script's end has it, by start, end and values."""
+    refuse_missing(found, name)
+    # Other tables' changes needn't be done again.
+    return list(open_rows(behind(one for one in found if name in one.command.record.fields[1:2]), name))
 
 
 def changes_of(
@@ -75,11 +82,11 @@ def changes_of(
 def days_of(schema: Schema, rows: Iterable[Sequence[str]]) -> Days:
     """The days of a diary, each with the newest commit from then on: the number in its first column.
 
-    Its rows are given by start, end and values.
+    Its rows are given by start, end and values. One with 0 is of no commit's day.
     """
     if not schema.columns or schema.columns[0].kind is not Kind.INT:
         raise Misfit(f"{schema.name}: a diary's first column must be an int, the newest commit from a row's start on")
-    return sorted((start, int(newest)) for start, _, newest, *_ in rows)
+    return sorted((start, int(newest)) for start, _, newest, *_ in rows if int(newest))
 
 
 def doubts_of(table: Table, days: Optional[Days], newest: int) -> Iterator[str]:

@@ -50,9 +50,14 @@ def bad_name(field: Field, answer: Answer) -> str:
 
 
 def bad_point(field: Field, _: Answer) -> str:
-    if not forms.POINT.fullmatch(field.text):
+    return of_point(field.text)
+
+
+def of_point(text: str) -> str:
+    """What is wrong with a text that is no point."""
+    if not forms.POINT.fullmatch(text):
         return REASONS["BadPoint"]
-    day = forms.read_point(field.text[:10])
+    day = forms.read_point(text[:10])
     return "isn't a time of day: the last is 23:59:59" if day else "isn't a day that exists"
 
 

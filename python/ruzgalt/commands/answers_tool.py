@@ -288,7 +288,6 @@ def words_of_page(parser: ArgumentParser) -> None:
     parser.add_argument("pick", nargs="*", metavar="PICK=NAME", default=[], help="names an answer's question")
     parser.add_argument("--title", default="", metavar="TEXT", help="the page's title")
     parser.add_argument("--note", default="", metavar="TEXT", help="a note at its top")
-    parser.add_argument("--diary", metavar="TABLE", help="a table whose first column is the newest commit of a time")
     parser.add_argument(
         "--once", action="store_true", help="doesn't compute the answers a second time, and the page says so",
     )
@@ -309,7 +308,6 @@ def words_of_changed(parser: ArgumentParser) -> None:
 def words_of_history(parser: ArgumentParser) -> None:
     parser.add_argument("table", metavar="TABLE", help="a table of the script")
     words_of_where(parser)
-    parser.add_argument("--diary", metavar="TABLE", help="a table whose first column is the newest commit of a time")
     parser.add_argument(
         "--commit", type=some_commits, metavar="N",
         help="only what this commit changed; N-M for those from N to M, N- for all from N on",
@@ -348,10 +346,11 @@ OF_LIST = "A refused command has the refusal's name in place of an answer. The s
 OF_CHANGED = """The first of the two is the one before: `-` is what only it has, `+` what only the second has. Records
 are sorted by their values, columns from the left and numbers by size, and then by start; those of aggregates by group
 and then by start, `-` first."""
+OF_HISTORY = "With --diary each commit has the day on which it was entered."
 OF_PAGE = f"""It is one file that needs no network: `{called.ANSWERS} page SCRIPT > audit.html`. It has what was refused
 and what changed nothing, commits, questions with tables and pictures, what was said then beside what is said now, and
-what each table held. Each answer is computed a second time, and if one differs no page is made. The status is that of
-`list`."""
+what each table held; with --diary commits have their days. Each answer is computed a second time, and if one differs
+no page is made. The status is that of `list`."""
 TOOLS: Dict[str, Tool] = {
     "list": Tool(do_list, "lists each answer with its number, its line and its command", more=OF_LIST),
     "csv": Tool(do_csv, "prints an answer (the last) as CSV with a header, or writes files", words_of_csv),
@@ -371,7 +370,9 @@ TOOLS: Dict[str, Tool] = {
         over_time.do_months, "sums amounts by month, quarter, year or week", over_time.words_of_months,
         more=over_time.OF_MONTHS,
     ),
-    "history": Tool(do_history, "lists what each commit changed of a table, or of one fact", words_of_history),
+    "history": Tool(
+        do_history, "lists what each commit changed of a table, or of one fact", words_of_history, more=OF_HISTORY,
+    ),
     "front": Tool(
         do_front, "says whether answers that were kept are still the front of the script's", words_of_front, False,
     ),
@@ -405,6 +406,11 @@ def parser_of(name: str, tool: Tool) -> ArgumentParser:
             "--ask", action="append", default=[], metavar="[NAME=]COMMAND",
             help="adds a command after the script, whose answer is taken beside those that are picked; NAME=COMMAND "
             "gives it a name, which may have blanks, but no comma",
+        )
+        parser.add_argument(
+            "--diary", metavar="TABLE",
+            help="a table whose first column is the newest commit of a time; by it a question has the commit of a day: "
+            "asof,2024-03-31 is as of the one that was the newest then",
         )
         parser.add_argument("--go-on", action="store_true", help="continues if commands were refused")
     return parser

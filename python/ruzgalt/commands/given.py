@@ -1,10 +1,11 @@
 """The script and its answers that a tool is given, and which of the answers are picked."""
 from argparse import Namespace
+from itertools import chain
 from pathlib import Path
 from typing import Dict, List, NamedTuple, Optional, Sequence
 
 from ruzgalt import answers
-from ruzgalt.answers import Answer, asking, picks
+from ruzgalt.answers import Answer, asking, diary, picks
 from ruzgalt.checking import fitting, refusals, replay
 from ruzgalt.commands import called, streams
 from ruzgalt.commands.progress import Progress
@@ -35,8 +36,8 @@ def read(options: Namespace, shows_refusals: bool = False, script: Optional[byte
     if options.script == options.answers == "-":
         raise Misfit("standard input can't be both the script and its answers")
     named = [questions.named(word) for word in options.ask]
-    options.ask = [question for _, question in named]
     script = bytes_of(options.script) if script is None else script
+    options.ask = by_commits(options, [question for _, question in named], shows_refusals, script)
     text, own_lines = questions.put_behind(script, options.ask)
     # The program works while the script is read.
     running = asking.Running(options.program, text) if options.answers is None else None
@@ -61,6 +62,30 @@ def read(options: Namespace, shows_refusals: bool = False, script: Optional[byte
     asked = [answer for answer in found if answer.command.record.is_asked]
     names = names_of(asked, [name for name, _ in named], questions.lines_of(options.ask, own_lines or 0))
     return Found(found, asked, options.answers is None, names, output)
+
+
+def by_commits(options: Namespace, asked: Sequence[str], shows_refusals: bool, script: bytes) -> List[str]:
+    """The questions, as of commits where they are as of days. The script is answered without them, for its diary."""
+    points = {question: questions.points_of(question) for question in asked}
+    dated = [question for question in asked if points[question]]
+    if not dated:
+        return list(asked)
+    refuse_days(options, dated[0])
+    own = read(Namespace(**{**vars(options), "ask": []}), shows_refusals, script)
+    commits = diary.commits_at(own.answers, options.diary, chain.from_iterable(points.values()))
+    for point, commit in commits.items():
+        warn(f"asof {point} is commit {commit}, by {options.diary}")
+    return [questions.with_commits(question, commits) for question in asked]
+
+
+def refuse_days(options: Namespace, question: str) -> None:
+    """Raises Misfit where a question as of a day can't be asked."""
+    shown = records.short(question.strip())
+    if options.diary is None:
+        raise Misfit(f"{shown}: asof takes a commit's number; with --diary TABLE it also takes a day")
+    if options.answers is not None:
+        remedy = "give a number, or leave --answers out"
+        raise Misfit(f"{shown}: asof takes no day with --answers, since the diary needs a run of its own: {remedy}")
 
 
 def names_of(asked: Sequence[Answer], names: Sequence[str], lines: Sequence[int]) -> Dict[int, str]:

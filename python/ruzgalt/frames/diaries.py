@@ -10,12 +10,12 @@ import difflib
 from bisect import bisect_right
 from dataclasses import dataclass, field, replace
 from itertools import islice
-from typing import TYPE_CHECKING, Any, Dict, Iterator, List, Mapping, NamedTuple, Optional, Sequence, Tuple
+from typing import TYPE_CHECKING, Any, Dict, Iterator, List, Mapping, NamedTuple, Optional, Tuple
 
 import numpy as np
 import pandas as pd
 
-from ruzgalt.answers import history
+from ruzgalt.answers import diary, history
 from ruzgalt.checking.looks import fold
 from ruzgalt.errors import Misfit
 from ruzgalt.frames import checks, instants, points, script
@@ -144,9 +144,9 @@ class Diary:
         raise Refused("NoLabel", f"{reason}; {self.listed()}")
 
     def newest_at(self, option: str, day: Any) -> int:
-        place = bisect_right(self.seconds, instants.second_of(day))
-        if place:
-            return self.commits[place - 1]
+        commit = diary.newest_at(self.seconds, self.commits, instants.second_of(day))
+        if commit is not None:
+            return commit
         given = f"{option}={str(day)!r}"
         if not self.seconds:
             remedy = "give days by day= of changes, or by diary= of Store.from_script"
@@ -213,14 +213,15 @@ def read(book: Book, name: Any, schemas: Mapping[str, Schema]) -> Diary:
     rows = zip(points.texts_of(start), points.texts_of(end), *([str(cell) for cell in one] for one in cells))
     try:
         # A commit of several labels has a row for each.
-        days = list(dict.fromkeys((day, commit) for day, commit in history.days_of(schema, rows) if commit))
+        days = list(dict.fromkeys(history.days_of(schema, rows)))
     except Misfit as misfit:
         raise Refused("WrongKind", str(misfit)) from None
     columns = {column.name: (column.kind.value, own) for column, own in zip(schema.columns, cells)}
     labels = list(labels_in(columns, cells[0]))
     for reason in history.strange_commits([*days, *(("", commit) for _, commit in labels)], newest):
         raise Refused("Future", f"{schema.name}: {reason}")
-    refuse_back(schema.name, days)
+    for reason in diary.steps_back(days):
+        raise Refused("BadNumber", f"{schema.name}: {reason}")
     made = Diary({}, tuple(points.FIRST + forms.seconds(day) for day, _ in days), tuple(one for _, one in days))
     for label, commit in labels:
         if made.labels.get(label) != commit:
@@ -235,9 +236,3 @@ def labels_in(columns: Mapping[str, Tuple[str, Any]], newest: Cells) -> Iterator
     if kind == "text":
         numbers = commits if kind_of_commits == "int" else newest
         yield from ((label, int(commit)) for label, commit in zip(labels, numbers) if label)
-
-
-def refuse_back(name: str, days: Sequence[Tuple[str, int]]) -> None:
-    for (_, before), (day, commit) in zip(days, days[1:]):
-        if commit < before:
-            raise Refused("BadNumber", f"{name}: commit {commit} is the newest from {day} on, but {before} before that")

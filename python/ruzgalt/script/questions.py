@@ -1,10 +1,11 @@
 """Questions that are put behind a script, each of which is to be a command of its own."""
 from itertools import accumulate
-from typing import List, Optional, Sequence, Tuple
+from typing import Iterator, List, Mapping, Optional, Sequence, Tuple
 
 from ruzgalt.errors import Misfit
 from ruzgalt.script import commands, records
 from ruzgalt.script.commands import Command
+from ruzgalt.script.forms import POINT
 from ruzgalt.script.reader import Reader, Source
 from ruzgalt.script.records import Record, short
 
@@ -23,16 +24,44 @@ def named(word: str) -> Tuple[str, str]:
     return name, question
 
 
+def points_of(question: str) -> List[str]:
+    """The points as of which it is asked: those in place of a commit's number, as in asof,2024-03-31."""
+    return [record.fields[-1] for record in dated(source_of(question))]
+
+
+def with_commits(question: str, commits: Mapping[str, int]) -> str:
+    """The question with the commits of its points in their place; without a point it is as it was written."""
+    source = source_of(question)
+    places = {record.number for record in dated(source)}
+    made = ([*one.fields[:-1], str(commits[one.fields[-1]])] if one.number in places else one.fields
+            for one in Reader(source))
+    return records.to_text(made) if places else question
+
+
+def dated(source: Source) -> Iterator[Record]:
+    """The first records of commands as of a point. What else stands in a question may have `asof` as a value."""
+    return (one.record for one in commands.commands(source) if POINT.fullmatch(one.as_of or ""))
+
+
+def source_of(question: str) -> Source:
+    return Source(line_of(question))
+
+
+def line_of(question: str) -> bytes:
+    """The question as it stands behind a script."""
+    return records.encode(question.strip("\r\n")) + b"\n"
+
+
 def put_behind(script: bytes, questions: Sequence[str]) -> Tuple[bytes, Optional[int]]:
     """The script with each question on a line of its own, and how many lines it has itself."""
     if not questions:
         return script, None
     pieces = [script + (b"\n" if script and not script.endswith((b"\n", b"\r")) else b"")]
     for question in questions:
-        stripped = records.encode(question.strip("\r\n"))
-        if not stripped:
+        line = line_of(question)
+        if line == b"\n":
             raise Misfit("--ask: the question is empty")
-        pieces.append(stripped + b"\n")
+        pieces.append(line)
     return b"".join(pieces), count_lines(pieces[0])
 
 
@@ -56,7 +85,7 @@ def refuse_taken(source: Source, begun: List[Command], questions: Sequence[str],
 
 def lines_of(questions: Sequence[str], own_lines: int) -> List[int]:
     """The line on which each question begins behind a script of so many lines."""
-    counts = (count_lines(records.encode(question.strip("\r\n"))) + 1 for question in questions)
+    counts = (count_lines(line_of(question)) for question in questions)
     return list(accumulate(counts, initial=own_lines + 1))[:-1]
 
 

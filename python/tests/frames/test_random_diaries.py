@@ -7,6 +7,10 @@ import unittest
 import pandas as pd
 
 import ruzgalt
+from ruzgalt import answers
+from ruzgalt.answers import diary
+from ruzgalt.errors import Misfit
+from ruzgalt.frames import running
 
 if not importlib.util.find_spec("hypothesis"):
     raise unittest.SkipTest("hypothesis isn't here: apt-get install python3-hypothesis")
@@ -106,6 +110,16 @@ class Diaries(unittest.TestCase):
                 versions = [store.between("t", one, one)["row_id"].tolist() for one in (day.isoformat(), number)]
                 self.assertEqual(*versions)
 
+    def is_as_for_the_tools(self, script, plain):
+        """tools/answers takes the same commits of the diary's table."""
+        found = answers.of(script, running.answer([script], 1).tobytes())
+        for day in ((FIRST + datetime.timedelta(days=place)).isoformat() for place in range(-1, 11)):
+            number = plain.newest(datetime.date.fromisoformat(day))
+            if number is None:
+                self.assertRaises(Misfit, diary.commits_at, found, "diary", [day])
+            else:
+                self.assertEqual(diary.commits_at(found, "diary", [day]), {day: number})
+
     @MANY
     @given(STEPS)
     def test_labels_and_days_are_as_they_are_plainly(self, steps):
@@ -122,6 +136,7 @@ class Diaries(unittest.TestCase):
         self.assertEqual(len(store.log()), len(plain.commits))
         self.is_as(store, plain)
         store.table("diary", store.diary())
+        self.is_as_for_the_tools(bytes(store.script()), plain)
         again = ruzgalt.Store.from_script(bytes(store.script()), diary="diary")
         self.assertEqual(again.diary()["label"].tolist(), store.diary()["label"].tolist())
         self.is_as(again, plain)
