@@ -144,7 +144,7 @@ class Page(unittest.TestCase):
             "keys of both": lambda: warns(lambda: ruzgalt.join(none, none, on="k")),
             "ends that": lambda: warns(lambda: ruzgalt.join(months, other, on="k")),
             "ends at 23:59": lambda: warns(lambda: ruzgalt.dip(late)),
-            "ends behind 2098": lambda: warns(lambda: ruzgalt.dip(frame().assign(to=pd.Timestamp("2199-12-31")))),
+            "ends after 2098": lambda: warns(lambda: ruzgalt.dip(frame().assign(to=pd.Timestamp("2199-12-31")))),
             "no `on=`": lambda: warns(lambda: ruzgalt.join(one, one)),
             "`decimals=`": lambda: warns(lambda: ruzgalt.agg(one, "count", decimals={"eur": 2})),
             "a store's load": lambda: warns(lambda: store.load("u", other)),
