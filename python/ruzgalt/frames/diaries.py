@@ -19,8 +19,8 @@ from ruzgalt.answers import diary, history
 from ruzgalt.checking.looks import fold
 from ruzgalt.errors import Misfit
 from ruzgalt.frames import checks, instants, points, script
-from ruzgalt.frames.arrays import Cells
-from ruzgalt.frames.errors import Refused
+from ruzgalt.frames.arrays import Cells, Ints
+from ruzgalt.frames.errors import Refused, doubt
 from ruzgalt.frames.kinds import Kind
 from ruzgalt.script import forms
 from ruzgalt.script.schemas import Schema
@@ -222,11 +222,27 @@ def read(book: Book, name: Any, schemas: Mapping[str, Schema]) -> Diary:
         raise Refused("Future", f"{schema.name}: {reason}")
     for reason in diary.steps_back(days):
         raise Refused("BadNumber", f"{schema.name}: {reason}")
+    for time in unsaid(start, end, cells[0]):
+        doubt(f"{schema.name}: no row holds {time}; as of a day then the commit before that is taken")
     made = Diary({}, tuple(points.FIRST + forms.seconds(day) for day, _ in days), tuple(one for _, one in days))
     for label, commit in labels:
         if made.labels.get(label) != commit:
             made = made.behind(commit, Note((label_of(label),)))
     return made
+
+
+def unsaid(starts: Ints, ends: Ints, newest: Ints) -> Iterator[str]:
+    """The first time from a diary's begin on at which none of its rows holds that has a commit, if there is one."""
+    rows = zip(starts.tolist(), ends.tolist(), newest.tolist())
+    spans = sorted((start, end) for start, end, commit in rows if commit)
+    reached = spans[0][0] if spans else points.NO_END
+    for start, end in spans:
+        if start > reached:
+            yield f"from {points.text_of(reached)} to {points.text_of(start)}"
+            return
+        reached = max(reached, end)
+    if reached < points.NO_END:
+        yield f"from {points.text_of(reached)} on"
 
 
 def labels_in(columns: Mapping[str, Tuple[str, Any]], newest: Cells) -> Iterator[Tuple[str, int]]:

@@ -116,7 +116,7 @@ class Store(Asking, Raising, Written):
         Warns
         -----
         Doubt
-            Of changes that the program refuses.
+            Of changes that the program refuses, and of the first time that the diary leaves out.
 
         Examples
         --------

@@ -276,6 +276,16 @@ class Kept(Case):
         again = ruzgalt.Store.from_script(bytes(made.script()) + labels.encode(), diary="notes")
         self.same(again, "Grace", 4)
 
+    def test_a_time_that_a_diary_leaves_out_is_doubted(self):
+        script = bytes(self.made().script())
+        for old, new, part, day, number in (
+            ("2024-01-20,2,", "2024-01-18,2,", "from 2024-01-18 to 2024-01-20;", "2024-01-19", 2),
+            ("9999-12-31,4,", "2024-03-01,4,", "from 2024-03-01 on;", "2024-03-05", 4),
+        ):
+            made = script + OF_TOOLS.replace(old, new).encode()
+            with self.subTest(new), self.assertWarnsRegex(ruzgalt.Doubt, f"notes: no row holds {part}"):
+                self.same(ruzgalt.Store.from_script(made, diary="notes"), day, number)
+
     def test_what_is_no_diary_is_refused(self):
         script = bytes(self.made().script())
         for old, new, name, word in (

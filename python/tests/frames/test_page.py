@@ -16,6 +16,8 @@ import ruzgalt
 
 PAGE = Path(__file__).resolve().parents[3] / "docs" / "FRAMES.md"
 FIRST, LAST = datetime.date(2024, 1, 1), datetime.date(9999, 12, 31)
+# A diary that ends.
+DIARY = b"table,d,newest,int\nload,d\nrow,2024-01-01,2024-02-01,1\nend\n"
 # Whether an end is taken, comes back as missing, or is refused: by itself, with open_end, with last_day, with both.
 ENDS = {None: "refused, no end, refused, no end", LAST: "taken, no end, refused, no end",
         LAST - datetime.timedelta(days=1): "taken, taken, taken, refused"}
@@ -152,6 +154,7 @@ class Page(unittest.TestCase):
             "rows of `update_rows`": lambda: warns(lambda: store.update_rows("t", raises)),
             "a portion's end": lambda: warns(lambda: store.delete("t", FIRST, "2024-01-31", {"k": "a"})),
             "refused changes": lambda: warns(lambda: ruzgalt.Store.from_script(b"load,t\nend\n")),
+            "a time that a diary": lambda: warns(lambda: ruzgalt.Store.from_script(DIARY, diary="d")),
         })
 
     def test_blocks_print_what_the_page_says(self):
