@@ -51,7 +51,7 @@ def compared(answer: Answer) -> Tuple[List[Column], List[Held]]:
     start = table.names.index("valid_from")
     left_out = {start, start + 1, *(table.names.index(name) for name in IDS[answer.command.form.answered])}
     places = [place for place in range(len(table.columns)) if place not in left_out]
-    # Of an `at` it is the second that was asked for, since what else held before or behind it isn't known.
+    # Of an `at` it is the second that was asked for, since what else held before or after it isn't known.
     point = point_of(answer)
     records = list(table.texts())
     periods = [(point, next_second(point)) if point else (record[start], record[start + 1]) for record in records]
@@ -60,13 +60,13 @@ def compared(answer: Answer) -> Tuple[List[Column], List[Held]]:
 
 
 def order(columns: List[Column], is_aggregate: bool) -> Callable[[List[str]], Tuple[object, ...]]:
-    """By what changes are listed one behind the other."""
+    """By what changes are listed one after the other."""
     is_int = [column.kind is Kind.INT for column in columns]
 
     def key(change: List[str]) -> Tuple[object, ...]:
         sign, start, _, *texts = change
         values = tuple(int(text) if number else text for number, text in zip(is_int, texts))
-        # `-` is what was before, though its character is behind `+`.
+        # `-` is what was before, though its character comes after `+`.
         return (*values[:-1], start, sign == "+", values[-1]) if is_aggregate else (*values, start)
 
     return key

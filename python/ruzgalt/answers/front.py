@@ -7,7 +7,7 @@ from ruzgalt.script.records import Record, short, visible
 
 
 def difference(kept: bytes, now: bytes) -> Optional[Record]:
-    """The first record of today's answers that isn't the kept one; that behind the last is empty."""
+    """The first record of today's answers that isn't the kept one; that after the last is empty."""
     today = Reader(Source(now))
     for record in Reader(Source(kept)):
         other = today.next()

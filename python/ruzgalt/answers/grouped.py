@@ -46,7 +46,7 @@ def in_order(columns: Sequence[Column], found: Iterable[Values]) -> List[Values]
 
 
 def period_place(answer: Answer) -> int:
-    """The place of a record's start, behind which its end stands."""
+    """The place of a record's start, after which its end stands."""
     return answer.table.names.index(PERIOD[0].name)
 
 

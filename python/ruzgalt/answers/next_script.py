@@ -62,7 +62,7 @@ def refuse_others(answer: Answer) -> None:
 
 
 def own_names(answer: Answer, has_ids: bool) -> List[str]:
-    """The columns beside the period, without ids, which are those of the script behind."""
+    """The columns beside the period, without ids, which are those of the script that was answered."""
     left_out = {column.name for column in PERIOD} | set(() if has_ids else IDS[answer.command.form.answered])
     return [name for name in answer.table.names if name not in left_out]
 

@@ -37,7 +37,7 @@ def pick(
 
 
 def picked(answers: Sequence[Answer], word: str, names: Dict[int, str]) -> Pick:
-    """The answer that a word names, under the name that stands behind it."""
+    """The answer that a word names, under the name that stands after it."""
     which, mark, name = word.partition("=")
     answer = find(answers, which)
     if answer.refusal:

@@ -30,7 +30,7 @@ class Refusal:
 
 @dataclass(frozen=True)
 class Answer:
-    """What a command was answered: a table, or a refusal. Commits are those that were there behind it."""
+    """What a command was answered: a table, or a refusal. Commits are those that were there after it."""
 
     number: int
     command: Command

@@ -49,7 +49,7 @@ class Look(NamedTuple):
         return Table(columns, Rows(len(table.records), lambda: self.records(table.columns, table.records)))
 
     def columns(self, table: Table) -> List[Column]:
-        """Its columns: one that has last days is called so, and another of that name has a mark behind it."""
+        """Its columns: one that has last days is called so, and another of that name has a mark after it."""
         if not self.has_last_days or END not in table.names:
             return table.columns
         place = table.place(END)

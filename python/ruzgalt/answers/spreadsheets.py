@@ -16,7 +16,7 @@ from ruzgalt.script.records import encode
 from ruzgalt.script.schemas import Kind, Table
 
 FORMULA = re.compile("(?![+-]\\Z)(?:[=+@\t\r\n\uff1d\uff0b\uff0d\uff20]|-(?!\\d+(?:[.,]\\d+)?\\Z))", re.ASCII)
-# What stands in the bytes of records of which a field may begin so: a sign, which is seldom there, or a minus behind
+# What stands in the bytes of records of which a field may begin so: a sign, which is seldom there, or a minus after
 # what ends a field, where it isn't that of a number.
 SIGNS = (b"=", b"+", b"@", b"\t", b"\r", b"\xef\xbc")
 MINUSES = (b",-", b'"-', b"\n-")

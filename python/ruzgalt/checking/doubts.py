@@ -45,7 +45,7 @@ class Notes:
 
 
 class Days(Dict[str, str]):
-    """The days so many days behind others, found once of those that are alike; nothing for ends that aren't known."""
+    """The days so many days after others, found once of those that are alike; nothing for ends that aren't known."""
 
     def __init__(self, distance: int) -> None:
         super().__init__()
@@ -57,23 +57,23 @@ class Days(Dict[str, str]):
 
 
 class Ends:
-    """Whether ends look like last days where they are taken for the days behind, or the other way round.
+    """Whether ends look like last days where they are taken for the days after them, or the other way round.
 
-    Of rows with one key some start on the end of another, and some on the day behind it; ends are last days of months
+    Of rows with one key some start on the end of another, and some on the day after it; ends are last days of months
     or first ones. What is kept of a row are numbers for its key and a point, since there may be a million, and they are
     looked at when all are there.
 
-    An end that is taken for the day behind is doubtful in two ways alone. Another row of its key starts on the day
-    behind that, and none on the end itself: as it is read, no row of the key has that day. Or it is the last day of a
+    An end that is taken for the day after is doubtful in two ways alone. Another row of its key starts on the day
+    after that, and none on the end itself: as it is read, no row of the key has that day. Or it is the last day of a
     month, as nearly all ends are, and few rows start on such a day.
     """
 
     def __init__(self, name: str, key: str, is_last_day: bool) -> None:
         self.name, self.key, self.is_last_day = name, key, is_last_day
         self.lines: List[Sequence[int]] = []
-        # Of each row the key with its start, with its end as the file has it, and with the day behind.
+        # Of each row the key with its start, with its end as the file has it, and with the day after it.
         self.starts, self.same, self.behind = array("q"), array("q"), array("q")
-        # The days behind, or before, and how often each end, and each start, is there, since days repeat.
+        # The days after, or before, and how often each end, and each start, is there, since days repeat.
         self.days = Days(-1 if is_last_day else 1)
         self.counts: Counts[str] = Counter()
         self.begins: Counts[str] = Counter()
@@ -102,8 +102,8 @@ class Ends:
         yield from self.month_ends(on_next if self.is_last_day else on_end)
 
     def days_behind(self, starts: Set[int]) -> Iterable[Optional[int]]:
-        """Of each row the key with the day behind its end; none where a row of the key starts on an end that is no last
-        day: of rows of a day each, day by day, each second one starts behind the end of another too."""
+        """Of each row the key with the day after its end; none where a row of the key starts on an end that is no last
+        day: of rows of a day each, day by day, each second one starts after the end of another too."""
         if self.is_last_day:
             return self.behind
         return (None if end in starts else behind for end, behind in zip(self.same, self.behind))

@@ -103,7 +103,7 @@ def is_garbled(value: str) -> bool:
 
 def fold(value: str) -> str:
     """What texts have in common that look alike: without capitals, accents of their own, spaces, zeros in front, or
-    the .0 that a float has behind."""
+    the .0 that a float has at its end."""
     if value.isascii() and value[-1:].isalpha() and "  " not in value and value[0] != " ":
         return value.lower()
     if not value.isascii():

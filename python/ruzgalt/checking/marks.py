@@ -69,7 +69,7 @@ def walk(found: Sequence[Answer]) -> Iterator[Tuple[Answer, Replay]]:
 
 
 class Marks:
-    """What is marked of a script's answers, looked at one behind another."""
+    """What is marked of a script's answers, looked at one after another."""
 
     def __init__(self, found: Sequence[Answer]) -> None:
         self.found = found

@@ -53,7 +53,7 @@ def gaps_in_answer(answer: Answer, key: Sequence[str]) -> Table:
 
 
 def explained(replay: Replay, answer: Answer) -> List[str]:
-    """Which key, and which rows: lines for a person on a load or an update behind these changes, refused for a key."""
+    """Which key, and which rows: lines for a person on a load or an update after these changes, refused for a key."""
     name = answer.command.record.fields[1]
     schema = answer.tables[name]
     found = collisions(replay, name, replay.change(answer), schema.key)

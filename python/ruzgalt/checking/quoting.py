@@ -1,4 +1,4 @@
-"""Quotes and blanks of a script that may not be meant: a quote that takes the records behind it, or behind a blank."""
+"""Quotes and blanks of a script that may not be meant: a quote that takes the records after it, or after a blank."""
 import re
 from typing import Callable, Iterator, List, NamedTuple, Optional, Sequence, Tuple
 
@@ -18,7 +18,7 @@ SINGLE = re.compile(r"\s*'.*'\s*", re.DOTALL)
 BLANK_AT_END = re.compile(r"""[ \t]+[^\s"'].*|[^\s"'](?:.*[^\s'])?[ \t]+""", re.DOTALL)
 # What stands in the bytes of a block where some field has a blank before its quote, or single quotes.
 MAY_BE = re.compile(rb""",[ \t]+"|,[ \t]*'""")
-# And where one has a blank at an end, or a blank behind a comma in it.
+# And where one has a blank at an end, or a blank after a comma in it.
 BLANKS = re.compile(rb"""[,"][ \t]|[ \t](?:[,\r\n"]|$)""")
 
 

@@ -13,7 +13,7 @@ from ruzgalt.script.records import short
 from ruzgalt.script.schemas import Column, Kind, Schema, Table, ints, unique
 
 PERCENT = re.compile(r"[+-]?\d{1,9}(?:\.(?P<decimals>\d{1,9}))?", re.ASCII)
-# Up to where a raise holds, unless that is given: no row is known to end, or else none holds behind the last point.
+# Up to where a raise holds, unless that is given: no row is known to end, or else none holds after the last point.
 NO_END, LAST = "9999-12-31", "9999-12-31T23:59:59"
 
 

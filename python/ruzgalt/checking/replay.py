@@ -91,7 +91,7 @@ class OpenRows:
 
 
 class Replay:
-    """Changes that were done again: the versions of each table behind the last of them."""
+    """Changes that were done again: the versions of each table after the last of them."""
 
     def __init__(self) -> None:
         self.versions: Dict[str, List[Version]] = {}
@@ -158,12 +158,12 @@ def line_of(record: Record) -> int:
 
 
 def pairs(texts: Sequence[str], places: Iterable[int], table: Schema) -> Pairs:
-    """The columns that stand at these places of a change, and the values behind them."""
+    """The columns that stand at these places of a change, and the values after them."""
     return [(table.place(texts[place]), texts[place + 1]) for place in places]
 
 
 def parts(version: Version, portion: Tuple[str, str], set_to: Optional[Pairs], line: int) -> Iterator[Row]:
-    """What comes in place of a row: its part before the portion, that inside of an update, and that behind."""
+    """What comes in place of a row: its part before the portion, that inside of an update, and that after it."""
     row, (start, end) = version.row, portion
     if row.start < start:
         yield Row(row.start, start, row.values, line, version.row_id)

@@ -17,7 +17,7 @@ EMPTY = "the script is empty: it has no command"
 
 
 class Found(NamedTuple):
-    """What was read: all answers, those to the questions put behind the script, and whether the program was asked."""
+    """What was read: all answers, those to the questions put after the script, and whether the program was asked."""
 
     answers: List[Answer]
     asked: List[Answer]

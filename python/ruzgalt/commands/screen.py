@@ -1,6 +1,6 @@
 """What a terminal is shown of a text: each character that would act on it, or can't be seen, by its code.
 
-A control character of a script moves the cursor, colours what stands behind it or turns its direction, so that another
+A control character of a script moves the cursor, colours what stands after it or turns its direction, so that another
 table is read than is there. In a file or a pipe all bytes stay as they are.
 """
 import re

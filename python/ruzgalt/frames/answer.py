@@ -2,7 +2,7 @@
 
     Columns     takes columns with the names that they have where they come from
     frame()     names that several have get suffixes; a name that still is twice is refused
-    of_table()  of one table: a column whose name is taken has `_` behind it
+    of_table()  of one table: a column whose name is taken has `_` after it
     beside()    of two frames or tables
 """
 from __future__ import annotations
@@ -30,7 +30,7 @@ class Columns:
         self.add(own)
 
     def add(self, columns: Iterable[Column], suffix: Optional[str] = None) -> None:
-        """Adds columns behind the others, with what is put behind a name that is taken."""
+        """Adds columns after the others, with what is put after a name that is taken."""
         for name, cells in columns:
             self.names.append(same(name))
             self.cells.append(cells)
@@ -49,7 +49,7 @@ class Columns:
 
 
 def beside(own: Iterable[Column], sides: Iterable[Iterable[Column]], suffixes: Iterable[Optional[str]]) -> Any:
-    """The answer of two frames or tables: its own columns, and theirs, with what is put behind names that are taken."""
+    """The answer of two frames or tables: its own columns, and theirs, with what is put after names that are taken."""
     columns = Columns(own)
     for side, suffix in zip(sides, suffixes):
         columns.add(side, suffix)

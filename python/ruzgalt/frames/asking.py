@@ -1,4 +1,4 @@
-"""The questions of a store. A column whose name the answer has for itself has `_` behind it."""
+"""The questions of a store. A column whose name the answer has for itself has `_` after it."""
 from __future__ import annotations
 
 from typing import TYPE_CHECKING, Any, Mapping, Optional, Union
@@ -424,13 +424,13 @@ class Asking:
     def diary(self, *, after: AsOf = None) -> pd.DataFrame:
         """The labels and days of the commits, as a table of the store keeps them, which a script else doesn't.
 
-        `store.table("diary", store.diary())`, behind all other changes, keeps them; Store.from_script(..,
+        `store.table("diary", store.diary())`, after all other changes, keeps them; Store.from_script(..,
         diary="diary") has them again, and `--diary diary` of tools/answers takes that table.
 
         Parameters
         ----------
         after : int, str, date, datetime, Timestamp or Period, optional
-            The commit, as as_of= takes it, behind which those are that are wanted, where not all: `store.load("diary",
+            The commit, as as_of= takes it, after which those are that are wanted, where not all: `store.load("diary",
             store.diary(after=..))` goes on with a table that is there.
 
         Returns

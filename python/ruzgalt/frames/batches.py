@@ -15,7 +15,7 @@ if TYPE_CHECKING:
 
 @dataclass(frozen=True)
 class Draft:
-    """The changes of a batch, the book behind them if none is refused, and what is given of the batch."""
+    """The changes of a batch, the book after them if none is refused, and what is given of the batch."""
 
     book: Book
     changes: Tuple[Change, ...] = ()

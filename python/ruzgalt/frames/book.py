@@ -130,7 +130,7 @@ def counts_of(output: Output) -> Ints:
 
 
 def accepted(book: Book, asked: Sequence[Change]) -> Tuple[Book, List[Changed], List[str]]:
-    """The book behind changes, what each did, and what may not be meant in them. Raises Refused for the first one.
+    """The book after changes, what each did, and what may not be meant in them. Raises Refused for the first one.
 
     Several are tried in one run; a single one without a run, where that can be.
     """

@@ -78,7 +78,7 @@ class Change:
         return self.made is None and (self.side is not None and not len(self.side) or not self.commands)
 
     def done(self, table: Optional[Table], closed: int) -> Table:
-        """The table behind it."""
+        """The table after it."""
         found = self.made or table
         if found is None:
             raise Refused("NoTable", f"{self.name!r} isn't a table")

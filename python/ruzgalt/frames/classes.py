@@ -32,7 +32,7 @@ def with_classes(sides: Sequence[Side]) -> List[Side]:
 
 
 def together(columns: Iterable[Sequence[Values]], sort: bool = False) -> Numbered:
-    """A number for each row, of some columns in each of which the cells of one side stand behind those of the other.
+    """A number for each row, of some columns in each of which the cells of one side stand after those of the other.
 
     With sort, numbers rise with the values, of which the first column's count most.
     """

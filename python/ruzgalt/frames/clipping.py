@@ -27,7 +27,7 @@ Pieces = List[Ints]
 
 @dataclass(frozen=True)
 class Slices:
-    """The slices of time, by their first points and those behind them."""
+    """The slices of time, by their first points and those after them."""
 
     lows: Ints
     highs: Ints
@@ -119,7 +119,7 @@ def pieces_of(side: Side, asked: Asked, cuts: Ints) -> Pieces:
     """What the slices between these cuts need of rows."""
     if not len(side):
         return [side.start, side.end, NO_INTS, *(numbers for _, numbers in asked)]
-    # Before the first row and behind the last one nothing is to be clipped.
+    # Before the first row and after the last one nothing is to be clipped.
     low, high = np.append(cuts[:1] - 1, side.start.min()).min(), np.append(cuts[-1:] + 1, side.end.max()).max()
     slices = Slices(np.concatenate([[low], cuts]), np.concatenate([cuts, [high]]))
     both = zip(slices.clipped(side, asked), slices.throughout(side, asked))

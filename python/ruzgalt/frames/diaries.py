@@ -171,7 +171,7 @@ class Diary:
         return list(zip(points.texts_of(np.array(self.seconds, np.int64)), self.commits))
 
     def frame(self, after: int) -> pd.DataFrame:
-        """The rows of commits behind this one, as Store.diary has them."""
+        """The rows of commits after this one, as Store.diary has them."""
         rows = [row for row in self.rows() if row.commit > after]
         times = np.array([(row.start, row.end) for row in rows], np.int64).reshape(-1, 2)
         kind = Kind("D" if points.has_all(Kind("D"), times) else "S")

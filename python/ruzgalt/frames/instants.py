@@ -78,7 +78,7 @@ def second_shown(wall: int, point: Any, zone: Any) -> int:
 
 
 def span(start: Any, end: Any, form: Form, zone: Any) -> Tuple[int, int]:
-    """The seconds of a start, and of the first point behind an end as the form has it. Raises Refused."""
+    """The seconds of a start, and of the first point after an end as the form has it. Raises Refused."""
     first = second_in(start, zone)
     behind = points.NO_END if end is None else second_in(end, zone)
     if form.has_last_days:
@@ -93,7 +93,7 @@ def span(start: Any, end: Any, form: Form, zone: Any) -> Tuple[int, int]:
 
 
 def portion(start: Any, end: Any, form: Form) -> Ints:
-    """The seconds of a start, and of the first point behind an end as the form has it; None is no end."""
+    """The seconds of a start, and of the first point after an end as the form has it; None is no end."""
     first = second_of(start)
     if form.has_last_days and first % zones.DAY:
         raise Refused("BadPoint", f"{start!r}: with last_day=True, a start can't have a time")

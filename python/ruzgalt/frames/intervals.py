@@ -100,7 +100,7 @@ def names_of_sides(frame: Any) -> List[str]:
 
 
 def by_sides(frame: Any) -> Any:
-    """The frame as Dask sends rows: left sides in place of intervals, and the right ones behind all columns.
+    """The frame as Dask sends rows: left sides in place of intervals, and the right ones after all columns.
 
     Dask makes sample rows of a frame that it sends, and knows none of intervals.
     """

@@ -78,7 +78,7 @@ def hits(table: Table, command: Command, there: Sequence[Cells], portion: Ints) 
 
 
 def pairs(table: Table, command: Command, places: range) -> Dict[int, Any]:
-    """Which columns stand at these places of a change, by their own places, and the values behind them."""
+    """Which columns stand at these places of a change, by their own places, and the values after them."""
     texts = {table.place(command.fields[place]): command.fields[place + 1] for place in places}
     kinds = [one.kind for one in table.columns.values()]
     return {place: int(text) if kinds[place] == "int" else text for place, text in texts.items()}

@@ -38,7 +38,7 @@ def marks_of(data: Bytes) -> Ints:
 
 
 def outside(data: Bytes, was_inside: bool) -> Tuple[Marks, bool]:
-    """Which bytes stand outside of quotes, behind an even number of them; a field that has one is quoted."""
+    """Which bytes stand outside of quotes, after an even number of them; a field that has one is quoted."""
     quotes = data == QUOTE
     if not was_inside and not quotes.any():
         return np.ones(len(data), bool), False
@@ -151,7 +151,7 @@ def commits(data: Bytes, start: Ints, stop: Ints) -> Cells:
 
 
 def instants(data: Bytes, start: Ints, stop: Ints) -> Cells:
-    """Seconds, of YYYY-MM-DD, and where more stands there of Thh:mm:ss behind it."""
+    """Seconds, of YYYY-MM-DD, and where more stands there of Thh:mm:ss after it."""
     words = eights(data)
     years, days = words[start], words[start + 2]
     century, year, month, day = pairs(years & FOUR | days << BYTE & THIRD | days & FOURTH).T

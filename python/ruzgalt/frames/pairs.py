@@ -86,7 +86,7 @@ def shared_column(taken: Sequence[Taken], name: Any) -> Column:
 
 
 def matched(both: Sequence[Side], options: Options) -> Found:
-    """Start, end, place of the left row and of the right one, in this order; -1 of none is behind all others."""
+    """Start, end, place of the left row and of the right one, in this order; -1 of none comes after all others."""
     found = [split.join(both, options.workers)]
     if options.how in ("left", "outer"):
         found.append(unmatched(both, options))

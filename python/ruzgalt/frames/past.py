@@ -98,7 +98,7 @@ def schema_of(table: Table) -> schemas.Schema:
 
 
 def frame_of(asked: Asked, table: Table, own: Iterable[Column], found: Sequence[Record]) -> Any:
-    """The frame of changes, behind columns of their own."""
+    """The frame of changes, after columns of their own."""
     signs, start, end, *values = list(zip(*found)) or [()] * (len(history.CHANGE) + len(table.columns))
     columns = Columns(own)
     columns.add([("change", of_objects(signs))])

@@ -27,11 +27,11 @@ EPOCH = datetime.datetime(1970, 1, 1)
 LENGTHS = {"D": DAY, "S": 1}
 # A last day that is the day before the one that stands for no end.
 LAST_BUT_ONE = NO_END - DAY
-# The years of points in a time zone, by whether they are of datetime64[ns]: those before and behind are there too.
+# The years of points in a time zone, by whether they are of datetime64[ns]: those before and after are there too.
 ZONED = {False: ("0002", "9998"), True: ("1678", "2261")}
 # Tables of days begin at numbers of days that are so many times another; those of at most so many days are kept.
 YEARS, KEPT = 1 << 13, 1 << 18
-# What is behind the year of a day, by month and day.
+# What comes after the year of a day, by month and day.
 MONTH_DAYS: Cells = np.array([b"-%02d-%02d" % (month, day) for month in range(1, 13) for day in range(1, 32)], "S6")
 
 
@@ -40,7 +40,7 @@ class Form:
     """How periods stand in a frame.
 
     is_open         a missing end stands for 9999-12-31, and comes back as missing
-    has_last_days   an end is the last day of its row, and not the first point behind it
+    has_last_days   an end is the last day of its row, and not the first point after it
     """
 
     is_open: bool = False
@@ -54,7 +54,7 @@ class Form:
         return seconds, kind
 
     def ends_of(self, column: Any) -> Tuple[Ints, Kind]:
-        """The first points behind the rows, and their kind. Raises Refused (BadPoint, WrongKind)."""
+        """The first points after the rows, and their kind. Raises Refused (BadPoint, WrongKind)."""
         if kind_of_period(column.dtype).is_long:
             return behind_of_long(column, self.is_open)
         seconds, kind = seconds_of(column, self.is_open)
@@ -138,7 +138,7 @@ def of_long(column: Any, how: str) -> Tuple[Ints, Kind]:
 
 
 def behind_of_long(column: Any, is_open: bool) -> Tuple[Ints, Kind]:
-    """The first points behind longer periods: an end of March is April 1st, whatever ends are otherwise."""
+    """The first points after longer periods: an end of March is April 1st, whatever ends are otherwise."""
     lasts, kind = of_long(column, "end")
     missing = lasts == NAT
     refuse_missing(missing, is_open, column)
@@ -288,7 +288,7 @@ def period_of(seconds: int) -> Any:
 
 
 def printed(seconds: Ints) -> List[Printed]:
-    """The points as a script has them: their days, and behind these their times, where some aren't midnights."""
+    """The points as a script has them: their days, and after these their times, where some aren't midnights."""
     days = seconds // DAY
     times = seconds - days * DAY
     if not times.any():
@@ -314,7 +314,7 @@ def printed_days(days: Ints) -> Printed:
 
 
 def days_between(low: int, high: int) -> Cells:
-    """A table of these days, and behind them of the one that stands for no end."""
+    """A table of these days, and after them of the one that stands for no end."""
     return table_of_days(np.append(np.arange(low, high + 1), NO_END // DAY))
 
 

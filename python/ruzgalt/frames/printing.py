@@ -39,7 +39,7 @@ class Printed:
 
 
 def rows_of(fields: Sequence[Union[bytes, Printed]], count: int) -> Iterator[bytes]:
-    """So many rows of fields behind one another, some of which all rows share."""
+    """So many rows of fields one after another, some of which all rows share."""
     widths = [len(one) if isinstance(one, bytes) else one.table.itemsize for one in fields]
     whole = np.empty(min(count, CHUNK), ",".join(f"S{width}" for width in widths))
     columns = [(whole[name], one) for name, one in zip(whole.dtype.names or (), fields)]
@@ -64,7 +64,7 @@ def of_numbers(numbers: Ints) -> Printed:
 
 
 def digits_of(numbers: Ints) -> Cells:
-    """Each number in decimal, behind zero bytes where others are longer."""
+    """Each number in decimal, after zero bytes where others are longer."""
     is_negative = numbers < 0
     left = np.where(is_negative, -numbers.astype("u8"), numbers.astype("u8"))
     width = len(str(int(left.max(initial=0))))

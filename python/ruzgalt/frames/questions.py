@@ -217,7 +217,7 @@ def changed(asked: Asked, name: str, before: AsOf, after: AsOf) -> Any:
 
 
 def diary(asked: Asked, after: AsOf) -> Any:
-    """The labels and days of commits behind one, where not of all."""
+    """The labels and days of commits after one, where not of all."""
     return asked.book.diary.frame(number(asked, "after", after, 0))
 
 

@@ -21,7 +21,7 @@ Period = Tuple[Any, ...]
 
 @dataclass(frozen=True)
 class Side:
-    """Rows: the seconds of their starts and of the first points behind them, their values, their places in the frame.
+    """Rows: the seconds of their starts and of the first points after them, their values, their places in the frame.
 
     kind is that of the frame's points; labels is its index; has_intervals: its periods are intervals.
     """

@@ -68,7 +68,7 @@ def agg(frame: Any, measures: Measures, options: Options) -> Any:
 
 
 def delayed(function: Callable[..., Any], *given: Any) -> Any:
-    """The function as Dask asks it of one partition, with what is given behind."""
+    """The function as Dask asks it of one partition, with what is given after it."""
     return dask.delayed(sent(function, *given))
 
 

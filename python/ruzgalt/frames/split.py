@@ -106,7 +106,7 @@ def middle_of(sides: Sides) -> int:
 
 
 def closed_up(before: Found, behind: Found, cut: int) -> Found:
-    """One row in place of two that meet at the cut and are equal behind start and end."""
+    """One row in place of two that meet at the cut and are equal after start and end."""
     ending, starting = np.flatnonzero(before[1] == cut), np.flatnonzero(behind[0] == cut)
     pairs = matches([column[ending] for column in before[2:]], [column[starting] for column in behind[2:]])
     first, second = ending[pairs[0]], starting[pairs[1]]

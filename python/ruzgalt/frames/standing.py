@@ -23,7 +23,7 @@ ROWS = 1_000
 
 
 class Done(NamedTuple):
-    """The rows behind a change, and how many versions it adds and closes."""
+    """The rows after a change, and how many versions it adds and closes."""
 
     rows: Standing
     added: int

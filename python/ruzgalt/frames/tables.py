@@ -25,7 +25,7 @@ class Table:
     """A table's name, its columns without their cells, its key, how its frames are, and the kind of their points.
 
     words: of each column its name in the store.
-    first, last: no row starts before the one second or ends behind the other.
+    first, last: no row starts before the one second or ends after the other.
     """
 
     name: str
@@ -98,7 +98,7 @@ class Table:
             raise Refused("WrongKind", reason, given.name)
 
     def portion(self, start: Any, end: Any) -> Ints:
-        """The seconds of a change's start and of the first point behind it. Raises Refused (BadPoint, BadPeriod)."""
+        """The seconds of a change's start and of the first point after it. Raises Refused (BadPoint, BadPeriod)."""
         portion = instants.portion(start, end, self.form)
         if portion[0] >= portion[1]:
             last = "the last day" if self.form.has_last_days else "the first point after it"

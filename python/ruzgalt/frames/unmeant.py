@@ -46,7 +46,7 @@ def doubts_of(change: Change, table: Table, before: Sequence[Command], counts: I
 
 
 def open_rows(name: str, before: Sequence[Command], counts: Ints) -> int:
-    """How many rows a table has behind some commits."""
+    """How many rows a table has after some commits."""
     of_table = [place for place, one in enumerate(before) if one.fields[1] == name]
     added, closed = counts[of_table].sum(axis=0).tolist()
     return int(added - closed)
@@ -78,7 +78,7 @@ def of_portion(change: Change, count: int, there: int) -> Iterator[str]:
     if reason is None and count == there > 1 and fields.where_places(command.fields):
         reason = f"its `where` matches all rows of the table: {count} were changed"
     if reason:
-        # Of many changes behind one another it says which one.
+        # Of many changes one after another it says which one.
         places = fields.where_places(command.fields)
         pairs = [f"{command.fields[place]} is '{visible(command.fields[place + 1])}'" for place in places]
         where = f" where {' and '.join(pairs)}" if pairs else ""

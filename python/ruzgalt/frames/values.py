@@ -57,7 +57,7 @@ class Texts:
 
     @cached_property
     def table(self) -> Optional[Cells]:
-        """The fields in one width, with zero bytes behind shorter ones; None where they are wide or have any."""
+        """The fields in one width, with zero bytes after shorter ones; None where they are wide or have any."""
         fields = self.fields or [b""]
         if self.width > NARROW or b"\0" in b"".join(fields):
             return None
@@ -123,7 +123,7 @@ def bounds_of(dtype: Any) -> Tuple[int, int]:
 
 
 def categories_of(cells: Cells, dtype: Any) -> Any:
-    """Of these categories; with more behind them, and in no order, where others came in by changes."""
+    """Of these categories; with more after them, and in no order, where others came in by changes."""
     known = plain(np.asarray(dtype.categories), dtype.categories.dtype)
     places: Dict[Any, int] = {one: place for place, one in enumerate(known)}
     codes = np.array([places.setdefault(cell, len(places)) for cell in cells.tolist()], np.int64)
@@ -132,7 +132,7 @@ def categories_of(cells: Cells, dtype: Any) -> Any:
     try:
         return pd.Categorical.from_codes(codes, pd.Index(list(places), dtype=dtype.categories.dtype))
     except (ValueError, OverflowError):
-        # Of texts that differ behind a zero byte alone pandas takes one for the other.
+        # Of texts that differ after a zero byte alone pandas takes one for the other.
         return plain(cells, dtype.categories.dtype)
 
 

@@ -17,7 +17,7 @@ def sent_whole() -> Tuple[Callable[[], Optional[Any]], Callable[[], str]]:
             return None
 
     def place() -> str:
-        """The worker of this task by its name, its address and its host, to be put behind a word; elsewhere nothing."""
+        """The worker of this task by its name, its address and its host, to be put after a word; elsewhere nothing."""
         worker = current()
         if worker is None:
             return ""
@@ -38,7 +38,7 @@ def memory() -> Optional[int]:
 
 
 def sent(function: Callable[..., Any], *given: Any) -> Callable[..., Any]:
-    """The function of partitions, with what is given behind them, as any worker can be asked for it.
+    """The function of partitions, with what is given after them, as any worker can be asked for it.
 
     It goes as bytes that are read when it is called. A worker without this package couldn't read it before, and Dask
     doesn't say which worker that was.

@@ -200,7 +200,7 @@ class Written:
 
 
 def answered(book: Book, question: Any) -> Sequence[Answer]:
-    """The answers to all changes, and to a question behind them. Raises Refused, Stopped."""
+    """The answers to all changes, and to a question after them. Raises Refused, Stopped."""
     if not isinstance(question, str):
         raise checks.wrong("question", question, "must be a question of the language, such as 'rows,pay'")
     with refusing():

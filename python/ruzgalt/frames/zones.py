@@ -50,7 +50,7 @@ def has_time(seconds: Ints, zone: Any) -> Marks:
 
 
 def days_behind(begins: Ints, zone: Any) -> Ints:
-    """The seconds at which the days behind those begin that begin at these."""
+    """The seconds at which the days after those begin that begin at these."""
     return begins_of(walls_of(begins, zone) + DAY, zone)
 
 

@@ -11,7 +11,7 @@ from ruzgalt.script.records import to_text, visible
 def check_of(sheet: Records, table: str, part: str, row_id: str, instant: str) -> Tuple[str, List[str]]:
     """The `check` of the parts, by their first rows: a row for each row of the table, with its part and its id.
 
-    Behind it stands what is noted of the parts' names.
+    After it stands what is noted of the parts' names.
     """
     unknown = [name for name in (part, row_id) if name not in sheet.header]
     if unknown:

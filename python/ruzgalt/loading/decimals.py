@@ -10,7 +10,7 @@ from ruzgalt.script.forms import is_integer
 SPACES, APOSTROPHES = " \u00a0\u202f", "'\u2019"
 # All numbers with fewer digits are some of the store's.
 LONGEST_NUMBER = 18
-# One mark, with three digits behind it, parts thousands as well as decimals.
+# One mark, with three digits after it, parts thousands as well as decimals.
 EITHER = re.compile(r"-?[1-9]\d{0,2}[.,]\d{3}", re.ASCII)
 
 
@@ -24,7 +24,7 @@ def form_of(mark: str) -> "re.Pattern[str]":
 FORMS = {mark: form_of(mark) for mark in ".,"}
 PARTING = re.compile(f"[.,{SPACES}{APOSTROPHES}]")
 OTHER = {".": ",", ",": "."}
-# What may stand before or behind a number as its unit: no digit, mark, sign or bracket of numbers, and no space; an
+# What may stand before or after a number as its unit: no digit, mark, sign or bracket of numbers, and no space; an
 # abbreviation has a point at its end.
 UNIT = re.compile(rf"[^\d.,+\-\u2212()\[\]\s{SPACES}{APOSTROPHES}\"]+\.?")
 WITH_UNIT = re.compile(
@@ -35,7 +35,7 @@ NO_UNITS = ("k", "t", "m", "b", "bn", "mn", "mio", "mrd", "tsd", "keur", "teur",
 
 
 class Number(NamedTuple):
-    """The digits of a number before its mark, and behind it."""
+    """The digits of a number before its mark, and after it."""
 
     sign: str
     whole: str
@@ -51,14 +51,14 @@ def number_in(text: str, mark: str) -> Optional[Number]:
 
 
 def unit_of(text: str) -> str:
-    """What stands before or behind the digits of a text as a unit does; nothing of others."""
+    """What stands before or after the digits of a text as a unit does; nothing of others."""
     found = WITH_UNIT.fullmatch(text.strip(SPACES))
     unit = found["before"] or found["behind"] if found else ""
     return unit if unit.isprintable() else ""
 
 
 def without(unit: str, text: str) -> str:
-    """The text without the unit that stands before or behind it."""
+    """The text without the unit that stands before or after it."""
     sign = "-" if text.startswith("-") else ""
     if text.endswith(unit):
         return text[:-len(unit)].rstrip(SPACES)
@@ -145,7 +145,7 @@ class Scale:
     def fault_of_decimals(self, number: Number, bare: str) -> str:
         """What is wrong with more decimals than there may be, but for zeros; and with three where fewer may be.
 
-        Behind a mark of thousands there are three digits, so these may be thousands of another country, whatever the
+        After a mark of thousands there are three digits, so these may be thousands of another country, whatever the
         other numbers of the file are: a table is often put together from several.
         """
         if len(number.decimals.rstrip("0")) > self.digits:

@@ -140,7 +140,7 @@ class Load:
         return made
 
     def look_at_nameless(self, lines: Sequence[int], fields: List[Sequence[str]]) -> None:
-        """Notes the first value in a column without a name: it may be behind a mark of thousands, without quotes."""
+        """Notes the first value in a column without a name: it may be after a mark of thousands, without quotes."""
         for place in self.nameless:
             found = next((row for row, text in enumerate(fields[place]) if text.strip()), None)
             if found is not None and self.left_out is None:

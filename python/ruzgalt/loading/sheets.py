@@ -29,7 +29,7 @@ class Records(Protocol):
     header: List[str]
 
     def pieces(self) -> Iterator[Piece]:
-        """Those behind the header, without empty ones."""
+        """Those after the header, without empty ones."""
 
     def notes(self, points: Sequence[int], values: Sequence[int]) -> Iterable[str]:
         """What is to be known of the columns at these places, when all is read."""
@@ -84,7 +84,7 @@ class Sheet:
         self.header = list(map(composed, self.next_record()))
 
     def next_record(self) -> List[str]:
-        """The next record that isn't empty; behind the last an empty one."""
+        """The next record that isn't empty; after the last an empty one."""
         piece = self.take(1)
         while piece is not None and not piece.records:
             piece = self.take(1)
@@ -101,7 +101,7 @@ class Sheet:
         return ()
 
     def take(self, count: int) -> Optional[Piece]:
-        """So many records at most, without those of empty fields; None behind the last."""
+        """So many records at most, without those of empty fields; None after the last."""
         records: List[List[str]] = []
         wrong = None
         try:
@@ -112,7 +112,7 @@ class Sheet:
         lines = self.lines_of(records)
         if wrong:
             raise Misfit(f"line {self.line}: {wrong}")
-        # A spreadsheet may have lines of empty fields before the header, and behind the last row.
+        # A spreadsheet may have lines of empty fields before the header, and after the last row.
         firsts = [record[0] for record in records if record]
         if len(firsts) == len(records) and all(map(str.strip, firsts)):
             return Piece(lines, records) if records else None

@@ -17,7 +17,7 @@ MARK = re.compile(r"\{\{(policy|style|data|script)\}\}")
 
 
 def pieces(contents: Contents, steps: str = "") -> Iterator[bytes]:
-    """The page, by pieces. Steps are of tests, and stand behind its own script."""
+    """The page, by pieces. Steps are of tests, and stand after its own script."""
     style, script = read("page.css"), "".join(map(read, SCRIPTS)) + steps
     fixed = {"policy": policy(style, script), "style": style, "script": script}
     parts = MARK.split(read("page.html"))

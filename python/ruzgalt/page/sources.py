@@ -39,7 +39,7 @@ class Marked(NamedTuple):
 
 
 class Sources(NamedTuple):
-    """What a page is made of. Answers are those to the script and to what was asked behind it by name."""
+    """What a page is made of. Answers are those to the script and to what was asked after it by name."""
 
     script: Marked
     # The script as a word of a shell, and the command that makes the page once more, beside the files.
@@ -78,7 +78,7 @@ def files_of(program: str) -> List[Marked]:
 
 
 def questions_for(script: bytes) -> List[str]:
-    """What is asked behind the script for each version of its tables: nothing, where its end would take the question.
+    """What is asked after the script for each version of its tables: nothing, where its end would take the question.
 
     A table that is refused is asked for too, and that is refused.
     """
@@ -94,7 +94,7 @@ def questions_for(script: bytes) -> List[str]:
 
 
 def ask(options: Namespace) -> Sources:
-    """The sources of a page of this script. Where the program answers, it is asked for versions behind the script, and
+    """The sources of a page of this script. Where the program answers, it is asked for versions after the script, and
     answers are done again but where that isn't wanted. Raises Misfit where one isn't what the changes give.
     """
     script = bytes_of(options.script)

@@ -40,7 +40,7 @@ def by_piece(rows: Iterable[Row], pieces: Calendar) -> List[Amount]:
 def sums(rows: Iterable[Row], pieces: Calendar) -> Iterator[Tuple[int, Fraction]]:
     """The exact sum of each piece that a row touches.
 
-    A row costs the same, however many pieces it holds: those behind its first are counted by steps of a running sum.
+    A row costs the same, however many pieces it holds: those after its first are counted by steps of a running sum.
     """
     parts: DefaultDict[int, int] = defaultdict(int)
     holding: DefaultDict[int, int] = defaultdict(int)

@@ -1,7 +1,7 @@
 """Pieces of the calendar: months, quarters, years, and weeks from Monday on.
 
 Points are seconds from the first one that there is, 0001-01-01, a Monday. Pieces of a kind are numbered from 0 on; each
-ends where the next one starts, so that the last one of the year 9999 ends behind all points.
+ends where the next one starts, so that the last one of the year 9999 ends after all points.
 """
 from datetime import date
 from functools import lru_cache

@@ -18,7 +18,7 @@ def width_of(text: str) -> int:
 
 
 def to_cells(text: str, width: int) -> List[str]:
-    """A front of the text, in so many cells at most; behind a wide character an empty one stands."""
+    """A front of the text, in so many cells at most; after a wide character an empty one stands."""
     cells: List[str] = []
     for character in text:
         wide = cell_width(character)

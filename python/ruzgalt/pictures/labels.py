@@ -64,7 +64,7 @@ def starts_behind(boxes: Sequence[Box], frame: Frame) -> List[int]:
 
 
 def place_of(box: Box, before: float, until: int) -> Tuple[str, float, float]:
-    """The label, or what is shown of it, and where it begins and ends, between what stands before and behind it."""
+    """The label, or what is shown of it, and where it begins and ends, between what stands before and after it."""
     label, width = box.bar.label, width_of(box.bar.label) * LETTER
     if width <= box.right - box.left - ROOM:
         return label, box.left + ROOM // 2 + 1, box.right

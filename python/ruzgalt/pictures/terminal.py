@@ -1,4 +1,4 @@
-"""Draws pictures as text: `[==)` is a period from its first cell on and before the one behind it.
+"""Draws pictures as text: `[==)` is a period from its first cell on and before the one after it.
 
 A period that goes on past the edge has `<` or `>` there. One that is shorter than a cell is `|`, several of them in one
 cell are `*`. Of steps, `#` is a value that reaches the line, `.` one that reaches none, or `'` where it is below zero,

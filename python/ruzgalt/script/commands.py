@@ -63,7 +63,7 @@ class Command:
 
 
 def commands(source: Source) -> Iterator[Command]:
-    """The commands of a script, in the order of their answers; those of a block of commands come behind its first."""
+    """The commands of a script, in the order of their answers; those of a block of commands come after its first."""
     reader = Reader(source)
     for record in reader:
         if record.word == "together":

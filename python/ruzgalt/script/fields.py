@@ -50,7 +50,7 @@ def of_row(texts: Sequence[str], table: Optional[Schema]) -> Iterator[Field]:
 
 
 def of_query(texts: Sequence[str], tables: Tables) -> Iterator[Field]:
-    """The table, and behind it points, or numbers."""
+    """The table, and after it points, or numbers."""
     for place, role in enumerate([Role.TABLE, *COMMANDS.get(texts[0], NONE).behind], 1):
         if place < len(texts):
             yield Field(place, texts[place], role, tables.get(texts[place]))
@@ -79,7 +79,7 @@ def of_change(texts: Sequence[str], tables: Tables) -> Iterator[Field]:
 
 
 def where_place(texts: Sequence[str]) -> int:
-    """Where the word `where` stands in an update or a delete: at the place of a column, with pairs behind it."""
+    """Where the word `where` stands in an update or a delete: at the place of a column, with pairs after it."""
     places = range(5, len(texts) - 1, 2) if texts[0] == "update" else range(4, min(5, len(texts)))
     return next((place for place in places if texts[place] == "where"), len(texts))
 

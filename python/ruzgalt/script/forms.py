@@ -45,7 +45,7 @@ def printed(text: str) -> str:
 
 @lru_cache(1 << 4)
 def next_second(point: str) -> str:
-    """The end of the period of that second alone, in which a row holds, so that one is behind it."""
+    """The end of the period of that second alone, in which a row holds, so that one comes after it."""
     return print_point(at_second(seconds(point) + 1))
 
 

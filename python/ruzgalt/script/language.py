@@ -1,7 +1,7 @@
 """The commands of the language, by their words: the one table that says what a command is made of, what it is answered,
 and for what it may be refused. docs/LANGUAGE.md defines them.
 
-A new command is a line in COMMANDS, where the fields behind its word, and its answer, are such as others have. All else
+A new command is a line in COMMANDS, where the fields after its word, and its answer, are such as others have. All else
 that knows a command by its word does something of that one alone: done again, it is in checking/again.
 """
 from dataclasses import dataclass
@@ -22,11 +22,11 @@ class Role(Enum):
 
 
 class Fields(Enum):
-    """What stands behind a command's word."""
+    """What stands after a command's word."""
 
     NOTHING = auto()
     SCHEMA = auto()
-    # A table, and behind it what Command.behind says.
+    # A table, and after it what Command.behind says.
     TABLE = auto()
     # A table, a portion, and pairs of a column and a value.
     PORTION = auto()
@@ -54,7 +54,7 @@ class Answered(Enum):
 class Form:
     """A command as it is shown to a person, its answer, the names by which it may be refused, and what it is made of.
 
-    behind  the fields behind the table, where no word but that is before them
+    behind  the fields after the table, where no word but that is before them
     part    the word of each record of its block, which ends by `end`; refused by these names
     """
 
@@ -73,7 +73,7 @@ class Form:
 
     @property
     def tables(self) -> int:
-        """How many tables stand behind its word."""
+        """How many tables stand after its word."""
         return {Fields.NOTHING: 0, Fields.TABLES: 2}.get(self.fields, 1)
 
     @property
@@ -130,7 +130,7 @@ NONE = Form("", Answered.NOTHING, "BadCommand")
 
 
 def words_of(*fields: Fields) -> Tuple[str, ...]:
-    """The commands behind whose words this stands."""
+    """The commands after whose words this stands."""
     return tuple(word for word, form in COMMANDS.items() if form.fields in fields)
 
 

@@ -1,7 +1,7 @@
 """What the columns of an answer are called, so that each has a name of its own, and those of a store.
 
 An answer has words of its own, as `row_id`, which stay as they are. In an answer of one table a column whose name is
-taken has `_` behind it; in one of two a name that several have gets its side's suffix, and what is twice then is
+taken has `_` after it; in one of two a name that several have gets its side's suffix, and what is twice then is
 refused by whoever asks here. In a store a column has a name of the language, which is like its own.
 """
 import re
@@ -14,7 +14,7 @@ from ruzgalt.script.forms import LONGEST_NAME, is_name
 
 
 def apart(names: Sequence[Any]) -> List[Any]:
-    """The names; one that stood before has `_` behind it, so often that no other has it."""
+    """The names; one that stood before has `_` after it, so often that no other has it."""
     given, taken = set(names), set()  # type: Set[Any], Set[Any]
     made = []
     for name in names:
@@ -32,7 +32,7 @@ def marked(name: Any, taken: Set[Any]) -> str:
 
 
 def with_suffixes(names: Sequence[Any], suffixes: Sequence[Optional[str]]) -> List[Any]:
-    """The names; each of those that stand several times has its suffix behind it, where there is one."""
+    """The names; each of those that stand several times has its suffix after it, where there is one."""
     counts = Counter(names)
     return [f"{name}{suffix}" if suffix and counts[name] > 1 else name for name, suffix in zip(names, suffixes)]
 

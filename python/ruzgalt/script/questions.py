@@ -1,4 +1,4 @@
-"""Questions that are put behind a script, each of which is to be a command of its own."""
+"""Questions that are put after a script, each of which is to be a command of its own."""
 from itertools import accumulate
 from typing import Iterator, List, Mapping, Optional, Sequence, Tuple
 
@@ -48,7 +48,7 @@ def source_of(question: str) -> Source:
 
 
 def line_of(question: str) -> bytes:
-    """The question as it stands behind a script."""
+    """The question as it stands after a script."""
     return records.encode(question.strip("\r\n")) + b"\n"
 
 
@@ -75,7 +75,7 @@ def commands_of(text: bytes, questions: Sequence[str], own_lines: Optional[int])
 
 
 def refuse_taken(source: Source, begun: List[Command], questions: Sequence[str], own_lines: int) -> None:
-    """An open quote or a block without its end takes what stands behind it, and another answer would be shown."""
+    """An open quote or a block without its end takes what stands after it, and another answer would be shown."""
     own = {command.line for command in begun}
     for question, line in zip(questions, lines_of(questions, own_lines)):
         if line not in own:
@@ -84,7 +84,7 @@ def refuse_taken(source: Source, begun: List[Command], questions: Sequence[str],
 
 
 def lines_of(questions: Sequence[str], own_lines: int) -> List[int]:
-    """The line on which each question begins behind a script of so many lines."""
+    """The line on which each question begins after a script of so many lines."""
     counts = (count_lines(line_of(question)) for question in questions)
     return list(accumulate(counts, initial=own_lines + 1))[:-1]
 

@@ -1,4 +1,4 @@
-"""Reads the records of a text one behind another, and keeps of many only where they stand.
+"""Reads the records of a text one after another, and keeps of many only where they stand.
 
 Bytes that are no UTF-8 stay as they are in texts (`surrogateescape`), so what is read and printed again is the same.
 How long a field may be is a matter of the process, by csv.field_size_limit: a tool sets it, and others do for a while.
@@ -31,7 +31,7 @@ ZERO, STAND_IN = "\0", "\ud800"
 
 @contextmanager
 def long_fields() -> Iterator[None]:
-    """Within, fields may be as long as any are; behind it as long as before. Threads come one behind another."""
+    """Within, fields may be as long as any are; after it as long as before. Threads come one after another."""
     with LIMITING:
         before = csv.field_size_limit(LONGEST_FIELD)
         try:
@@ -48,7 +48,7 @@ class Place(NamedTuple):
 
 
 class Source:
-    """The bytes of a script or of answers. Records behind so many lines of its own are asked."""
+    """The bytes of a script or of answers. Records after so many lines of its own are asked."""
 
     # So many bytes are counted at once, where a line is looked for.
     STRIDE = 1 << 16
@@ -165,7 +165,7 @@ class Reader:
         return Skipped(count, is_ended, widths)
 
     def pieces(self, first: Record, width: int) -> Iterator[List[List[str]]]:
-        """The fields of the first record and of those behind it with its word and so many fields, by pieces."""
+        """The fields of the first record and of those after it with its word and so many fields, by pieces."""
         word, piece, count = first.word, [list(first.fields)], 0
         for fields in self.fields:
             if len(fields) == width and fields[0] == word:

@@ -19,7 +19,7 @@ class Record(NamedTuple):
 
     @property
     def place(self) -> str:
-        """Where it stands, for a person: a question that is put behind a script stands in no file."""
+        """Where it stands, for a person: a question that is put after a script stands in no file."""
         return "--ask" if self.is_asked else f"line {self.line}"
 
     @property

@@ -151,7 +151,7 @@ HEADERS: Dict[Answered, Header] = {
 
 
 def group_of(front: Sequence[str]) -> Optional[str]:
-    """The column behind `by`, where an aggregate has one."""
+    """The column after `by`, where an aggregate has one."""
     return front[-1] if len(front) in (5, 6) and front[-2] == "by" else None
 
 
