@@ -157,10 +157,10 @@ fn puts_parts_in_place_of_a_row(rt: HostRuntime) {
 }
 
 // The id of a version, the commit that shows it first, and the one that shows it no more.
-type Span = (u64, u64, Option<u64>);
+type SystemPeriod = (u64, u64, Option<u64>);
 
 // Whether the versions have these ids and commits.
-fn are_spans(versions: &SharedVersions, want: &[Span]) -> bool {
+fn have_system_periods(versions: &SharedVersions, want: &[SystemPeriod]) -> bool {
     if versions.len() != want.len() {
         return false;
     }
@@ -173,18 +173,18 @@ fn are_spans(versions: &SharedVersions, want: &[Span]) -> bool {
     true
 }
 
-fn check_between(rt: &impl Abort, book: &Book, [at, m, n]: [u64; 3], want: &[Span]) {
+fn check_between(rt: &impl Abort, book: &Book, [at, m, n]: [u64; 3], want: &[SystemPeriod]) {
     let versions = book
         .between(at, m, n, name(rt, b"u"))
         .expect(rt, "versions");
-    assert!(rt; are_spans(&versions, want));
+    assert!(rt; have_system_periods(&versions, want));
 }
 
-fn check_from_to(rt: &impl Abort, book: &Book, [at, m, n]: [u64; 3], want: &[Span]) {
+fn check_from_to(rt: &impl Abort, book: &Book, [at, m, n]: [u64; 3], want: &[SystemPeriod]) {
     let versions = book
         .from_to(at, m, n, name(rt, b"u"))
         .expect(rt, "versions");
-    assert!(rt; are_spans(&versions, want));
+    assert!(rt; have_system_periods(&versions, want));
 }
 
 #[test]

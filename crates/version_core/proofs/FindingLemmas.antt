@@ -346,11 +346,12 @@ taken-reached (Delete t p conds) schema portion v e taken =
     ap (λ q. is_some (meet v.row.period q)) (sym same)
     ∙ (and_parts (list_all (is_equal_at schema v.row.values) conds) (is_some (meet v.row.period p)) touched).1
 
-reached-at : (c : Change) (schema : List Column) (portion : Period) (used : ℕ) (rows : List Draft) (spans : List SystemPeriod)
+reached-at : (c : Change) (schema : List Column) (portion : Period) (used : ℕ) (rows : List Draft)
+    (system_periods : List SystemPeriod)
     (place : ℕ) → portion_of c ≡ Some portion
-    → passes (versions_of (numbered used rows) spans) (is_taken c schema) place ≡ true
+    → passes (versions_of (numbered used rows) system_periods) (is_taken c schema) place ≡ true
     → is_reached portion rows place ≡ true
-reached-at c schema portion used [] spans place of taken = absurd (cc)
+reached-at c schema portion used [] system_periods place of taken = absurd (cc)
 reached-at c schema portion used (d ∷ ds) [] place of taken = absurd (cc)
 reached-at c schema portion used (d ∷ ds) (s ∷ ss) zero of taken =
     taken-reached c schema portion (version_of (row_of (used + 1) d) s) of taken
@@ -358,21 +359,23 @@ reached-at c schema portion used (d ∷ ds) (s ∷ ss) (suc place) of taken =
     reached-at c schema portion (used + 1) ds ss place of taken
 
 -- so where the portion reaches none of some rows, the change takes out none of them
-pub none-reached : (c : Change) (schema : List Column) (portion : Period) (rows : List Draft) (spans : List SystemPeriod)
-    (vs : List Version) (places : List ℕ) → portion_of c ≡ Some portion → versions_of (numbered 0 rows) spans ≡ vs
+pub none-reached : (c : Change) (schema : List Column) (portion : Period) (rows : List Draft)
+    (system_periods : List SystemPeriod)
+    (vs : List Version) (places : List ℕ) → portion_of c ≡ Some portion
+    → versions_of (numbered 0 rows) system_periods ≡ vs
     → list_any (is_reached portion rows) places ≡ false → filter (passes vs (is_taken c schema)) places ≡ []
-none-reached c schema portion rows spans vs [] of is none = refl
-none-reached c schema portion rows spans vs (place ∷ places) of is none =
+none-reached c schema portion rows system_periods vs [] of is none = refl
+none-reached c schema portion rows system_periods vs (place ∷ places) of is none =
     let taken = passes vs (is_taken c schema) in
     let both = or_parts (is_reached portion rows place) (list_any (is_reached portion rows) places) none in
     ap (λ b. cond b (place ∷ filter taken places) (filter taken places)) (by_test (taken place) refl both.0)
-    ∙ none-reached c schema portion rows spans vs places of is both.1
+    ∙ none-reached c schema portion rows system_periods vs places of is both.1
   where
     by_test : (b : Bool) → passes vs (is_taken c schema) place ≡ b → is_reached portion rows place ≡ false
         → passes vs (is_taken c schema) place ≡ false
     by_test false e out = e
     by_test true e out =
-        let there = reached-at c schema portion 0 rows spans place of
+        let there = reached-at c schema portion 0 rows system_periods place of
         (ap (λ l. passes l (is_taken c schema) place) is ∙ e) in
         absurd (cc)
 

@@ -89,14 +89,16 @@ all-held [] = refl
 all-held (row ∷ rows) = ap (λ l. row ∷ l) (all-held rows)
 
 -- the versions of the rows at some places, and one more
-pub versions_of-at_places : (places : List ℕ) (spans : List SystemPeriod) (vs : List Version) (place : ℕ) (row : Row)
-    (span : SystemPeriod) → All (λ p. p < length vs) places → length places ≡ length spans
+pub versions_of-at_places : (places : List ℕ) (system_periods : List SystemPeriod) (vs : List Version) (place : ℕ)
+    (row : Row) (system_period : SystemPeriod) → All (λ p. p < length vs) places → length places ≡ length system_periods
     → slice_get (map (λ (v : Version). v.row) vs) place ≡ Some row
-    → versions_of (at_places (places ++ place ∷ []) (map (λ (v : Version). v.row) vs)) (spans ++ span ∷ [])
-    ≡ versions_of (at_places places (map (λ (v : Version). v.row) vs)) spans ++ version_of row span ∷ []
-versions_of-at_places places spans vs place row span within beside there =
+    → versions_of (at_places (places ++ place ∷ []) (map (λ (v : Version). v.row) vs)) (system_periods
+    ++ system_period ∷ [])
+    ≡ versions_of (at_places places (map (λ (v : Version). v.row) vs)) system_periods
+    ++ version_of row system_period ∷ []
+versions_of-at_places places system_periods vs place row system_period within beside there =
     let rows = map (λ (v : Version). v.row) vs in
     let inside = subst (λ n. All (λ p. p < n) places) (sym (length-map vs (λ (v : Version). v.row))) within in
     let same = length-at_places places rows inside ∙ beside in
-    ap (λ l. versions_of l (spans ++ span ∷ [])) (at_places-more places rows place row there)
-    ∙ versions_of-append (at_places places rows) (row ∷ []) spans (span ∷ []) same
+    ap (λ l. versions_of l (system_periods ++ system_period ∷ [])) (at_places-more places rows place row there)
+    ∙ versions_of-append (at_places places rows) (row ∷ []) system_periods (system_period ∷ []) same

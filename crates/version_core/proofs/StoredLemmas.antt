@@ -15,9 +15,9 @@ use Rattle.version_core.specs.Stored.{SystemPeriod, version_of, versions_of}
 use Rattle.version_core.specs.declared.version.Version.{Version}
 
 -- as many versions as rows
-pub length-versions_of : (rows : List Row) (spans : List SystemPeriod) → length rows ≡ length spans
-    → length (versions_of rows spans) ≡ length spans
-length-versions_of [] spans same = same
+pub length-versions_of : (rows : List Row) (system_periods : List SystemPeriod) → length rows ≡ length system_periods
+    → length (versions_of rows system_periods) ≡ length system_periods
+length-versions_of [] system_periods same = same
 length-versions_of (r ∷ rs) [] same = absurd (omega (arith, same))
 length-versions_of (r ∷ rs) (s ∷ ss) same = ap suc (length-versions_of rs ss (omega (arith, same)))
 
@@ -28,61 +28,73 @@ slice_get-inside [] place x e = absurd (cc)
 slice_get-inside (y ∷ ys) zero x e = omega arith
 slice_get-inside (y ∷ ys) (suc place) x e = let rest = slice_get-inside ys place x e in omega (arith, rest)
 
-pub slice_get-versions_of : (rows : List Row) (spans : List SystemPeriod) (place : ℕ) (row : Row) (span : SystemPeriod)
-    → length rows ≡ length spans → slice_get rows place ≡ Some row → span ≡ get_or spans place span
-    → Some (version_of row span) ≡ slice_get (versions_of rows spans) place
-slice_get-versions_of [] spans place row span same r s = absurd (cc)
-slice_get-versions_of (r ∷ rs) [] place row span same e f = absurd (omega (arith, same))
-slice_get-versions_of (r ∷ rs) (s ∷ ss) zero row span same e f =
+pub slice_get-versions_of : (rows : List Row) (system_periods : List SystemPeriod) (place : ℕ) (row : Row)
+    (system_period : SystemPeriod)
+    → length rows ≡ length system_periods → slice_get rows place ≡ Some row
+    → system_period ≡ get_or system_periods place system_period
+    → Some (version_of row system_period) ≡ slice_get (versions_of rows system_periods) place
+slice_get-versions_of [] system_periods place row system_period same r s = absurd (cc)
+slice_get-versions_of (r ∷ rs) [] place row system_period same e f = absurd (omega (arith, same))
+slice_get-versions_of (r ∷ rs) (s ∷ ss) zero row system_period same e f =
     let one : row ≡ r = cc in
-    ap (λ x. Some (version_of x span)) one ∙ ap (λ x. Some (version_of r x)) f
-slice_get-versions_of (r ∷ rs) (s ∷ ss) (suc place) row span same e f =
-    slice_get-versions_of rs ss place row span (omega (arith, same)) e f
+    ap (λ x. Some (version_of x system_period)) one ∙ ap (λ x. Some (version_of r x)) f
+slice_get-versions_of (r ∷ rs) (s ∷ ss) (suc place) row system_period same e f =
+    slice_get-versions_of rs ss place row system_period (omega (arith, same)) e f
 
 -- a version, by its row and what stands beside it
-pub get_or-versions_of : (rows : List Row) (spans : List SystemPeriod) (place : ℕ) (row : Row) (span : SystemPeriod)
-    (vs : List Version) → versions_of rows spans ≡ vs → place < length rows → place < length spans
-    → row ≡ get_or rows place row → span ≡ get_or spans place span
-    → version_of row span ≡ get_or vs place (version_of row span)
-get_or-versions_of [] spans place row span vs e inside beside r s = absurd (omega (arith, inside))
-get_or-versions_of (x ∷ xs) [] place row span vs e inside beside r s = absurd (omega (arith, beside))
-get_or-versions_of (x ∷ xs) (y ∷ ys) zero row span vs e inside beside r s =
-    ap (λ z. version_of z span) r ∙ ap (version_of x) s ∙ ap (λ l. get_or l zero (version_of row span)) e
-get_or-versions_of (x ∷ xs) (y ∷ ys) (suc place) row span vs e inside beside r s =
-    get_or-versions_of xs ys place row span (versions_of xs ys) refl (omega (arith, inside)) (omega (arith, beside)) r s
-    ∙ ap (λ l. get_or l (suc place) (version_of row span)) e
+pub get_or-versions_of : (rows : List Row) (system_periods : List SystemPeriod) (place : ℕ) (row : Row)
+    (system_period : SystemPeriod)
+    (vs : List Version) → versions_of rows system_periods ≡ vs → place < length rows → place < length system_periods
+    → row ≡ get_or rows place row → system_period ≡ get_or system_periods place system_period
+    → version_of row system_period ≡ get_or vs place (version_of row system_period)
+get_or-versions_of [] system_periods place row system_period vs e inside beside r s = absurd (omega (arith, inside))
+get_or-versions_of (x ∷ xs) [] place row system_period vs e inside beside r s = absurd (omega (arith, beside))
+get_or-versions_of (x ∷ xs) (y ∷ ys) zero row system_period vs e inside beside r s =
+    ap (λ z. version_of z system_period) r ∙ ap (version_of x) s
+    ∙ ap (λ l. get_or l zero (version_of row system_period)) e
+get_or-versions_of (x ∷ xs) (y ∷ ys) (suc place) row system_period vs e inside beside r s =
+    get_or-versions_of xs ys place row system_period (versions_of xs ys) refl (omega (arith, inside))
+    (omega (arith, beside)) r s
+    ∙ ap (λ l. get_or l (suc place) (version_of row system_period)) e
 
 -- the version of some row, by what stands beside it
-pub version-beside : (rows : List Row) (spans : List SystemPeriod) (place : ℕ) (span : SystemPeriod) (vs : List Version)
-    → versions_of rows spans ≡ vs → length rows ≡ length spans → place < length spans → span ≡ get_or spans place span
-    → (row : Row) × (version_of row span ≡ get_or vs place (version_of row span))
-version-beside [] spans place span vs e same inside s = absurd (omega (arith, same, inside))
-version-beside (x ∷ xs) [] place span vs e same inside s = absurd (omega (arith, inside))
-version-beside (x ∷ xs) (y ∷ ys) zero span vs e same inside s = (
+pub version-beside : (rows : List Row) (system_periods : List SystemPeriod) (place : ℕ) (system_period : SystemPeriod)
+    (vs : List Version)
+    → versions_of rows system_periods ≡ vs → length rows ≡ length system_periods → place < length system_periods
+    → system_period ≡ get_or system_periods place system_period
+    → (row : Row) × (version_of row system_period ≡ get_or vs place (version_of row system_period))
+version-beside [] system_periods place system_period vs e same inside s = absurd (omega (arith, same, inside))
+version-beside (x ∷ xs) [] place system_period vs e same inside s = absurd (omega (arith, inside))
+version-beside (x ∷ xs) (y ∷ ys) zero system_period vs e same inside s = (
   x,
-  ap (version_of x) s ∙ ap (λ l. get_or l zero (version_of x span)) e,
+  ap (version_of x) s ∙ ap (λ l. get_or l zero (version_of x system_period)) e,
 )
-version-beside (x ∷ xs) (y ∷ ys) (suc place) span vs e same inside s =
-    let rest = version-beside xs ys place span (versions_of xs ys) refl (omega (arith, same)) (omega (arith, inside)) s in (
+version-beside (x ∷ xs) (y ∷ ys) (suc place) system_period vs e same inside s =
+    let rest = version-beside xs ys place system_period (versions_of xs ys) refl (omega (arith, same))
+    (omega (arith, inside)) s in (
       rest.0,
-      rest.1 ∙ ap (λ l. get_or l (suc place) (version_of rest.0 span)) e,
+      rest.1 ∙ ap (λ l. get_or l (suc place) (version_of rest.0 system_period)) e,
     )
 
 -- the version of the draft at a place
-pub version-at : (drafts : List Draft) (spans : List SystemPeriod) (place : ℕ) (draft : Draft) (row : Row) (span : SystemPeriod)
-    (vs : List Version) → versions_of (numbered 0 drafts) spans ≡ vs → place < length drafts → place < length spans
-    → slice_get drafts place ≡ Some draft → row ≡ row_of (place + 1) draft → span ≡ get_or spans place span
-    → version_of row span ≡ get_or vs place (version_of row span)
-version-at drafts spans place draft row span vs e inside beside d r s =
+pub version-at : (drafts : List Draft) (system_periods : List SystemPeriod) (place : ℕ) (draft : Draft) (row : Row)
+    (system_period : SystemPeriod)
+    (vs : List Version) → versions_of (numbered 0 drafts) system_periods ≡ vs → place < length drafts
+    → place < length system_periods
+    → slice_get drafts place ≡ Some draft → row ≡ row_of (place + 1) draft
+    → system_period ≡ get_or system_periods place system_period
+    → version_of row system_period ≡ get_or vs place (version_of row system_period)
+version-at drafts system_periods place draft row system_period vs e inside beside d r s =
     let within : place < length (numbered 0 drafts) = omega (arith, inside, length-numbered 0 drafts) in
     let first : 0 + place + 1 ≡ place + 1 = omega arith in
     let there : slice_get (numbered 0 drafts) place ≡ Some row =
     slice_get-numbered 0 drafts place draft d ∙ ap (λ n. Some (row_of n draft)) first ∙ ap Some (sym r) in
-    get_or-versions_of (numbered 0 drafts) spans place row span vs e within beside
+    get_or-versions_of (numbered 0 drafts) system_periods place row system_period vs e within beside
     (sym (get_or_from_slice_get (numbered 0 drafts) place row row there)) s
 
-pub slice_get-past : (rows : List Row) (spans : List SystemPeriod) (place : ℕ) → length rows ≡ length spans
-    → slice_get rows place ≡ None → slice_get (versions_of rows spans) place ≡ None
+pub slice_get-past : (rows : List Row) (system_periods : List SystemPeriod) (place : ℕ)
+    → length rows ≡ length system_periods
+    → slice_get rows place ≡ None → slice_get (versions_of rows system_periods) place ≡ None
 slice_get-past [] [] place same e = refl
 slice_get-past [] (s ∷ ss) place same e = absurd (omega (arith, same))
 slice_get-past (r ∷ rs) [] place same e = absurd (omega (arith, same))
@@ -90,14 +102,15 @@ slice_get-past (r ∷ rs) (s ∷ ss) zero same e = absurd (cc)
 slice_get-past (r ∷ rs) (s ∷ ss) (suc place) same e = slice_get-past rs ss place (omega (arith, same)) e
 
 -- their rows
-pub rows-versions_of : (rows : List Row) (spans : List SystemPeriod) → length rows ≡ length spans
-    → rows ≡ map (λ (v : Version). v.row) (versions_of rows spans)
-rows-versions_of [] spans same = refl
+pub rows-versions_of : (rows : List Row) (system_periods : List SystemPeriod) → length rows ≡ length system_periods
+    → rows ≡ map (λ (v : Version). v.row) (versions_of rows system_periods)
+rows-versions_of [] system_periods same = refl
 rows-versions_of (r ∷ rs) [] same = absurd (omega (arith, same))
 rows-versions_of (r ∷ rs) (s ∷ ss) same = ap (λ l. r ∷ l) (rows-versions_of rs ss (omega (arith, same)))
 
-pub versions_of-append : (rows more : List Row) (spans others : List SystemPeriod) → length rows ≡ length spans
-    → versions_of (rows ++ more) (spans ++ others) ≡ versions_of rows spans ++ versions_of more others
+pub versions_of-append : (rows more : List Row) (system_periods others : List SystemPeriod)
+    → length rows ≡ length system_periods
+    → versions_of (rows ++ more) (system_periods ++ others) ≡ versions_of rows system_periods ++ versions_of more others
 versions_of-append [] more [] others same = refl
 versions_of-append [] more (s ∷ ss) others same = absurd (omega (arith, same))
 versions_of-append (r ∷ rs) more [] others same = absurd (omega (arith, same))
@@ -111,15 +124,15 @@ versions_of-made n (r ∷ rs) =
     ap (λ l. version_of r (record { from = n; to = None }) ∷ l) (versions_of-made n rs)
 
 -- more of them, which a commit makes
-pub versions_of-grown : (n : ℕ) (rows more all : List Row) (spans now : List SystemPeriod) (count : ℕ)
-    → length rows ≡ length spans → all ≡ rows ++ more → count ≡ length more
-    → now ≡ spans ++ replicate count (record { from = n; to = None })
-    → versions_of all now ≡ versions_of rows spans ++ made n more
-versions_of-grown n rows more all spans now count same a k grown =
+pub versions_of-grown : (n : ℕ) (rows more all : List Row) (system_periods now : List SystemPeriod) (count : ℕ)
+    → length rows ≡ length system_periods → all ≡ rows ++ more → count ≡ length more
+    → now ≡ system_periods ++ replicate count (record { from = n; to = None })
+    → versions_of all now ≡ versions_of rows system_periods ++ made n more
+versions_of-grown n rows more all system_periods now count same a k grown =
     ap (λ l. versions_of l now) a ∙ ap (versions_of (rows ++ more)) grown
-    ∙ ap (λ c. versions_of (rows ++ more) (spans ++ replicate c (record { from = n; to = None }))) k
-    ∙ versions_of-append rows more spans (replicate (length more) (record { from = n; to = None })) same
-    ∙ ap (λ l. versions_of rows spans ++ l) (versions_of-made n more)
+    ∙ ap (λ c. versions_of (rows ++ more) (system_periods ++ replicate c (record { from = n; to = None }))) k
+    ∙ versions_of-append rows more system_periods (replicate (length more) (record { from = n; to = None })) same
+    ∙ ap (λ l. versions_of rows system_periods ++ l) (versions_of-made n more)
 
 closed_at-behind : (n : ℕ) (v : Version) (vs : List Version) (place : ℕ)
     → closed_at n (v ∷ vs) (suc place) ≡ v ∷ closed_at n vs place
@@ -133,26 +146,30 @@ closed_at-behind n v vs place =
     ]
 
 -- one of them that a commit ends
-pub closed_at-versions_of : (n : ℕ) (rows : List Row) (spans : List SystemPeriod) (place : ℕ) (span : SystemPeriod)
-    → length rows ≡ length spans → place < length spans → span ≡ get_or spans place span
-    → versions_of rows (set spans place (record { from = span.from; to = Some n }))
-    ≡ closed_at n (versions_of rows spans) place
-closed_at-versions_of n [] spans place span same inside e = absurd (omega (arith, same, inside))
-closed_at-versions_of n (r ∷ rs) [] place span same inside e = absurd (omega (arith, same))
-closed_at-versions_of n (r ∷ rs) (s ∷ ss) zero span same inside e =
+pub closed_at-versions_of : (n : ℕ) (rows : List Row) (system_periods : List SystemPeriod) (place : ℕ)
+    (system_period : SystemPeriod)
+    → length rows ≡ length system_periods → place < length system_periods
+    → system_period ≡ get_or system_periods place system_period
+    → versions_of rows (set system_periods place (record { from = system_period.from; to = Some n }))
+    ≡ closed_at n (versions_of rows system_periods) place
+closed_at-versions_of n [] system_periods place system_period same inside e = absurd (omega (arith, same, inside))
+closed_at-versions_of n (r ∷ rs) [] place system_period same inside e = absurd (omega (arith, same))
+closed_at-versions_of n (r ∷ rs) (s ∷ ss) zero system_period same inside e =
     ap (λ (x : SystemPeriod). version_of r (record { from = x.from; to = Some n }) ∷ versions_of rs ss) e
-closed_at-versions_of n (r ∷ rs) (s ∷ ss) (suc place) span same inside e =
+closed_at-versions_of n (r ∷ rs) (s ∷ ss) (suc place) system_period same inside e =
     ap (λ l. version_of r s ∷ l)
-    (closed_at-versions_of n rs ss place span (omega (arith, same)) (omega (arith, inside)) e)
+    (closed_at-versions_of n rs ss place system_period (omega (arith, same)) (omega (arith, inside)) e)
     ∙ sym (closed_at-behind n (version_of r s) (versions_of rs ss) place)
 
-pub length-closed : (n : ℕ) (rows : List Row) (spans : List SystemPeriod) (place from : ℕ) → length rows ≡ length spans
-    → length (versions_of rows (set spans place (record { from = from; to = Some n })))
-    ≡ length (versions_of rows spans)
-length-closed n rows spans place from same =
-    let span : SystemPeriod = record { from = from; to = Some n } in
-    length-versions_of rows (set spans place span) (same ∙ sym (length-set spans place span))
-    ∙ length-set spans place span ∙ sym (length-versions_of rows spans same)
+pub length-closed : (n : ℕ) (rows : List Row) (system_periods : List SystemPeriod) (place from : ℕ)
+    → length rows ≡ length system_periods
+    → length (versions_of rows (set system_periods place (record { from = from; to = Some n })))
+    ≡ length (versions_of rows system_periods)
+length-closed n rows system_periods place from same =
+    let system_period : SystemPeriod = record { from = from; to = Some n } in
+    length-versions_of rows (set system_periods place system_period)
+    (same ∙ sym (length-set system_periods place system_period))
+    ∙ length-set system_periods place system_period ∙ sym (length-versions_of rows system_periods same)
 
 length-shown : (n : ℕ) (vs : List Version) → length (shown n vs) ≤ length vs
 length-shown n [] = omega arith
@@ -177,18 +194,22 @@ shown-all n (v ∷ vs) = by_test (length-shown n vs) (shown-all n vs) (shows n v
   by_test few rest false same = absurd (omega (arith, few, same))
 
 -- how many of them are shown
-pub length-shown_of : (n : ℕ) (rows : List Row) (spans : List SystemPeriod) (vs : List Version) → versions_of rows spans ≡ vs
-    → length rows ≡ length spans
-    → count_by (λ (span : SystemPeriod). leb span.from n && is_behind span.to n) spans ≡ length (shown n vs)
+pub length-shown_of : (n : ℕ) (rows : List Row) (system_periods : List SystemPeriod) (vs : List Version)
+    → versions_of rows system_periods ≡ vs
+    → length rows ≡ length system_periods
+    → count_by (λ (system_period : SystemPeriod). leb system_period.from n && is_behind system_period.to n)
+    system_periods ≡ length (shown n vs)
 length-shown_of n [] [] vs e same = ap (λ l. length (shown n l)) e
 length-shown_of n [] (s ∷ ss) vs e same = absurd (omega (arith, same))
 length-shown_of n (r ∷ rs) [] vs e same = absurd (omega (arith, same))
 length-shown_of n (r ∷ rs) (s ∷ ss) vs e same =
-    count-cons (λ (span : SystemPeriod). leb span.from n && is_behind span.to n) s ss
+    count-cons (λ (system_period : SystemPeriod). leb system_period.from n && is_behind system_period.to n) s ss
     ∙ by_test (length-shown_of n rs ss (versions_of rs ss) refl (omega (arith, same))) (shows n (version_of r s))
     ∙ ap (λ l. length (shown n l)) e where
-      by_test : count_by (λ (span : SystemPeriod). leb span.from n && is_behind span.to n) ss ≡ length (shown n (versions_of rs ss))
-          → (b : Bool) → cond b 1 0 + count_by (λ (span : SystemPeriod). leb span.from n && is_behind span.to n) ss
+      by_test : count_by (λ (system_period : SystemPeriod). leb system_period.from n && is_behind system_period.to n) ss
+          ≡ length (shown n (versions_of rs ss))
+          → (b : Bool) → cond b 1 0 + count_by
+          (λ (system_period : SystemPeriod). leb system_period.from n && is_behind system_period.to n) ss
           ≡ length (cons_option (cond b (Some r) None) (shown n (versions_of rs ss)))
       by_test rest true = omega (arith, rest)
       by_test rest false = omega (arith, rest)

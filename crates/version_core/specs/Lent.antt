@@ -6,4 +6,4 @@ use Rattle.version_core.specs.declared.version.Version.{Version}
 
 -- the version that is lent
 abbrev pub lent_version : VersionRef → Version
-lent_version lent = version_of (lent_row lent.row) lent.span
+lent_version lent = version_of (lent_row lent.row) lent.system_period

@@ -10,10 +10,11 @@ pub record SystemPeriod : Type 0 where
 
 -- the version of a row that those commits show
 abbrev pub version_of : Row → SystemPeriod → Version
-version_of row span = record { row = row; sysfrom = span.from; systo = span.to }
+version_of row system_period = record { row = row; sysfrom = system_period.from; systo = system_period.to }
 
 -- the versions of rows, each with what stands beside it
 abbrev pub versions_of : List Row → List SystemPeriod → List Version
-versions_of [] spans = []
+versions_of [] system_periods = []
 versions_of (row ∷ rows) [] = []
-versions_of (row ∷ rows) (span ∷ spans) = version_of row span ∷ versions_of rows spans
+versions_of (row ∷ rows) (system_period ∷ system_periods) =
+    version_of row system_period ∷ versions_of rows system_periods

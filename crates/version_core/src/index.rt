@@ -13,8 +13,8 @@ ghost use Rattle.version_core.specs.Stored.{version_of};
 
 use crate::places::Places;
 use crate::seeker::Seeker;
-use crate::span::Span;
 use crate::stored::StoredVersions;
+use crate::system_period::SystemPeriod;
 use row_core::{NoMemory, Value, ValueRef};
 use std::alloc::Global;
 use table_core::RowRef;
@@ -79,7 +79,7 @@ impl Index {
         ensures { OnOk result (IsIndex (take (place + 1) versions.now) self.new) }
     {
         let version = versions.at(place);
-        if let Some(bucket) = bucket_in(self.column, version.row, &version.span) {
+        if let Some(bucket) = bucket_in(self.column, version.row, &version.system_period) {
             self.buckets[bucket].push(place as u32)?;
         }
         Ok(())
@@ -118,11 +118,11 @@ fn empty_buckets(alloc: Global) -> Result<Vec<Places>, NoMemory>
 }
 
 /// The bucket of a version's value in the column, where it is open and has one.
-fn bucket_in(column: u32, row: RowRef<'_>, span: &Span) -> Option<usize>
-    ensures bucket { result ≡ bucket_in column (version_of (lent_row row.entry) span.now) }
+fn bucket_in(column: u32, row: RowRef<'_>, system_period: &SystemPeriod) -> Option<usize>
+    ensures bucket { result ≡ bucket_in column (version_of (lent_row row.entry) system_period.now) }
     ensures few { IfSome result (λ bucket. bucket < bucket_count) }
 {
-    if !span.is_open() {
+    if !system_period.is_open() {
         return None;
     }
     match row.value(column as usize) {

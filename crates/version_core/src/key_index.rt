@@ -88,7 +88,7 @@ impl KeyIndex {
         ensures { OnOk result (IsKeyIndex (take (place + 1) versions.now) self.new) }
     {
         let version = versions.at(place);
-        if version.span.is_open() {
+        if version.system_period.is_open() {
             let entry = entry_of(&self.columns, place, version.row);
             if let Err(_) = self.entries.insert(entry) {
                 return Err(AllocError);
@@ -113,7 +113,7 @@ impl KeyIndex {
         ensures { IsKeyIndex versions.now self.new }
     {
         if let Some(version) = versions.get(place) {
-            if !version.span.is_open() {
+            if !version.system_period.is_open() {
                 let entry = entry_of(&self.columns, place, version.row);
                 self.entries.remove(&entry);
             }
@@ -216,7 +216,7 @@ fn is_open_before(key: &[u32], version: &VersionRef<'_>, from: Point, new: Draft
     ensures key { result ≡ true → same_key key.now (lent_row version.now.row).values
         (lent_draft new.entry).values ≡ true }
 {
-    version.span.is_open()
+    version.system_period.is_open()
         && version.row.period().from == from
         && from <= new.period().from
         && same_key(key, version.row.draft(), new)

@@ -120,7 +120,7 @@ fn is_open_at(versions: &StoredVersions, place: u32) -> bool
     ensures { result ≡ passes versions.now is_open place }
 {
     match versions.get(place as usize) {
-        Some(version) => version.span.is_open(),
+        Some(version) => version.system_period.is_open(),
         None => false,
     }
 }

@@ -77,7 +77,7 @@ pub(crate) fn plan_change(
     let Some(portion) = seeker.portion() else {
         return Ok(plan);
     };
-    let (rows, _) = versions.rows_and_spans();
+    let (rows, _) = versions.rows_and_system_periods();
     for block in places.chunks(BLOCK) {
         if rows.any_reached(&portion, block) {
             plan_block(alloc, &mut plan, seeker, versions, block)?;
@@ -115,10 +115,10 @@ fn plan_block(
     ensures taken { OnOk result (plan.new.taken.items ≡ plan.old.taken.items ++ filter
         (passes versions.now (is_taken seeker.now.change.now seeker.now.schema.now)) places.now) }
 {
-    let (drafts, spans) = versions.rows_and_spans();
+    let (drafts, system_periods) = versions.rows_and_system_periods();
     for place in places {
         let row = RowRef::of_draft(*place as usize, drafts.at(*place as usize));
-        if seeker.takes(row, &spans[*place as usize]) {
+        if seeker.takes(row, &system_periods[*place as usize]) {
             seeker.push_parts(alloc, &mut plan.parts, row)?;
             plan.taken.push(*place)?;
         }
@@ -134,10 +134,10 @@ pub(crate) fn count_parts(seeker: &Seeker<'_>, versions: &StoredVersions, places
         (current versions.now)) }
 {
     let mut count = 0;
-    let (drafts, spans) = versions.rows_and_spans();
+    let (drafts, system_periods) = versions.rows_and_system_periods();
     for place in places {
         let row = RowRef::of_draft(*place as usize, drafts.at(*place as usize));
-        if seeker.takes(row, &spans[*place as usize]) {
+        if seeker.takes(row, &system_periods[*place as usize]) {
             count += seeker.count_of(row);
         }
     }

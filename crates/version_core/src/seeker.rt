@@ -17,7 +17,7 @@ use crate::portion::{
     SOUGHT_LIMIT, column_at, columns_named, count_changed, count_outside, is_touched, push_changed,
     push_outside,
 };
-use crate::span::Span;
+use crate::system_period::SystemPeriod;
 use crate::version_ref::VersionRef;
 use draft_core::Drafts;
 use period_core::Period;
@@ -120,18 +120,18 @@ impl<'a> Seeker<'a> {
     /// Whether a version is open, and the change takes out its row. The period is tested first: it shows
     /// of most versions that they stay, and of those no commits are read.
     #[inline(always)]
-    pub fn takes(&self, row: RowRef<'_>, span: &Span) -> bool
+    pub fn takes(&self, row: RowRef<'_>, system_period: &SystemPeriod) -> bool
         ensures { result ≡ is_taken self.now.change.now self.now.schema.now
-            (version_of (lent_row row.entry) span.now) }
+            (version_of (lent_row row.entry) system_period.now) }
     {
-        self.reaches(&row.period()) && span.is_open() && self.removes(row)
+        self.reaches(&row.period()) && system_period.is_open() && self.removes(row)
     }
 
     /// Whether a version is open, and the change leaves its row.
     pub fn leaves(&self, version: &VersionRef<'_>) -> bool
         ensures { result ≡ is_left self.now.change.now self.now.schema.now (lent_version version.now) }
     {
-        version.span.is_open() && !self.removes(version.row)
+        version.system_period.is_open() && !self.removes(version.row)
     }
 
     /// Whether the change is one of a portion that shares an instant with the period. It takes out no row

@@ -5,8 +5,8 @@ ghost use Rattle.table_core.specs.Places.{at_places};
 ghost use Rattle.version_core.specs.Lent.{lent_version};
 ghost use Rattle.version_core.specs.Stored.{versions_of};
 
-use crate::span::Span;
 use crate::stored::StoredVersions;
+use crate::system_period::SystemPeriod;
 use crate::version::{Version, VersionList};
 use crate::version_ref::VersionRef;
 use row_core::NoMemory;
@@ -19,7 +19,7 @@ use table_core::{RowRef, SharedRows};
 #[derive(Drop)]
 pub struct SharedVersions {
     rows: SharedRows,
-    spans: Vec<Span>,
+    system_periods: Vec<SystemPeriod>,
 }
 
 impl Model for SharedVersions {
@@ -29,9 +29,9 @@ impl Model for SharedVersions {
 
     ghost Value = { List Version };
 
-    ghost view = { λ s. versions_of s.rows s.spans.items };
+    ghost view = { λ s. versions_of s.rows s.system_periods.items };
 
-    ghost invariant = { λ s. length s.rows ≡ length s.spans.items };
+    ghost invariant = { λ s. length s.rows ≡ length s.system_periods.items };
 }
 
 impl SharedVersions {
@@ -39,16 +39,16 @@ impl SharedVersions {
     pub(crate) fn at_places(
         versions: &StoredVersions,
         places: Vec<u32>,
-        spans: Vec<Span>,
+        system_periods: Vec<SystemPeriod>,
     ) -> Result<SharedVersions, NoMemory>
         requires within { All (λ place. place < length versions.now) places.items }
-        requires beside { length places.items ≡ length spans.items }
+        requires beside { length places.items ≡ length system_periods.items }
         ensures { IfOk result (λ shared. shared ≡ versions_of
-            (at_places places.items (map (λ v. v.row) versions.now)) spans.items) }
+            (at_places places.items (map (λ v. v.row) versions.now)) system_periods.items) }
     {
         Ok(SharedVersions {
             rows: versions.at_places(places)?,
-            spans,
+            system_periods,
         })
     }
 
@@ -56,7 +56,7 @@ impl SharedVersions {
     pub fn len(&self) -> usize
         ensures { result ≡ length self.now }
     {
-        self.spans.len()
+        self.system_periods.len()
     }
 
     /// The version at that place, from 0.
@@ -66,7 +66,7 @@ impl SharedVersions {
     {
         VersionRef {
             row: self.rows.at(place),
-            span: self.spans[place],
+            system_period: self.system_periods[place],
         }
     }
 

@@ -9,7 +9,7 @@ ghost use Rattle.version_core.specs.Stored.{versions_of};
 ghost use Rattle.version_core.specs.Lent.{lent_version};
 
 use crate::commit_number::CommitNumber;
-use crate::span::Span;
+use crate::system_period::SystemPeriod;
 use crate::version_ref::VersionRef;
 use draft_core::Drafts;
 use row_core::NoMemory;
@@ -22,7 +22,7 @@ use table_core::{SharedRows, TableRows};
 #[derive(Drop)]
 pub(crate) struct StoredVersions {
     rows: TableRows,
-    spans: Vec<Span>,
+    system_periods: Vec<SystemPeriod>,
 }
 
 impl Model for StoredVersions {
@@ -32,9 +32,9 @@ impl Model for StoredVersions {
 
     ghost Value = { List Version };
 
-    ghost view = { λ s. versions_of s.rows s.spans.items };
+    ghost view = { λ s. versions_of s.rows s.system_periods.items };
 
-    ghost invariant = { λ s. length s.rows ≡ length s.spans.items };
+    ghost invariant = { λ s. length s.rows ≡ length s.system_periods.items };
 }
 
 impl StoredVersions {
@@ -44,7 +44,7 @@ impl StoredVersions {
     {
         Ok(StoredVersions {
             rows: TableRows::new(alloc)?,
-            spans: Vec::new(alloc),
+            system_periods: Vec::new(alloc),
         })
     }
 
@@ -54,7 +54,7 @@ impl StoredVersions {
     {
         Ok(StoredVersions {
             rows: self.rows.share()?,
-            spans: Vec::from_slice(alloc, &self.spans)?,
+            system_periods: Vec::from_slice(alloc, &self.system_periods)?,
         })
     }
 
@@ -62,7 +62,7 @@ impl StoredVersions {
     pub(crate) fn len(&self) -> usize
         ensures { result ≡ length self.now }
     {
-        self.spans.len()
+        self.system_periods.len()
     }
 
     /// The version at that place.
@@ -83,7 +83,7 @@ impl StoredVersions {
         match self.rows.get(place) {
             Some(row) => Some(VersionRef {
                 row,
-                span: self.spans[place],
+                system_period: self.system_periods[place],
             }),
             None => None,
         }
@@ -92,12 +92,12 @@ impl StoredVersions {
     /// The rows without their ids, and at the same places the commits that show each, so that a pass over
     /// many fetches either list once.
     #[inline(always)]
-    pub(crate) fn rows_and_spans(&self) -> (&Drafts, &[Span])
+    pub(crate) fn rows_and_system_periods(&self) -> (&Drafts, &[SystemPeriod])
         ensures versions { versions_of (numbered 0 result.0.now) result.1.now ≡ self.now }
         ensures rows { length result.0.now ≡ length self.now }
-        ensures spans { length result.1.now ≡ length self.now }
+        ensures system_periods { length result.1.now ≡ length self.now }
     {
-        (self.rows.drafts(), &self.spans)
+        (self.rows.drafts(), &self.system_periods)
     }
 
     /// All rows, which are not copied.
@@ -126,10 +126,10 @@ impl StoredVersions {
             ++ made commit (numbered (length self.old) rows)) }
         ensures err { OnErr result (self.new ≡ self.old) }
     {
-        let before = self.spans.len();
-        push_spans(&mut self.spans, rows.len(), commit)?;
+        let before = self.system_periods.len();
+        push_system_periods(&mut self.system_periods, rows.len(), commit)?;
         if let Err(error) = self.rows.append(alloc, rows) {
-            self.spans.truncate(before);
+            self.system_periods.truncate(before);
             return Err(error);
         }
         Ok(())
@@ -141,21 +141,25 @@ impl StoredVersions {
         ensures closed { self.new ≡ closed_at commit self.old place }
         ensures len { length self.new ≡ length self.old }
     {
-        self.spans[place].close(commit);
+        self.system_periods[place].close(commit);
     }
 }
 
 /// Adds what stands beside so many rows that a commit makes. On refusal there is none more.
-fn push_spans(spans: &mut Vec<Span>, count: usize, commit: CommitNumber) -> Result<(), NoMemory>
-    ensures ok { OnOk result (spans.new.items
-        ≡ spans.old.items ++ replicate count (record { from = commit; to = None })) }
-    ensures err { OnErr result (spans.new.items ≡ spans.old.items) }
+fn push_system_periods(
+    system_periods: &mut Vec<SystemPeriod>,
+    count: usize,
+    commit: CommitNumber,
+) -> Result<(), NoMemory>
+    ensures ok { OnOk result (system_periods.new.items
+        ≡ system_periods.old.items ++ replicate count (record { from = commit; to = None })) }
+    ensures err { OnErr result (system_periods.new.items ≡ system_periods.old.items) }
 {
-    let before = spans.len();
-    let span = Span::since(commit);
+    let before = system_periods.len();
+    let system_period = SystemPeriod::since(commit);
     for _ in 0..count {
-        if let Err(error) = spans.push(span) {
-            spans.truncate(before);
+        if let Err(error) = system_periods.push(system_period) {
+            system_periods.truncate(before);
             return Err(error.into());
         }
     }

@@ -9,8 +9,8 @@ ghost use Rattle.version_core.specs.Shown.{holds_where, shows, shown, versions_a
 ghost use Rattle.version_core.specs.Stored.{version_of};
 
 use crate::shared_versions::SharedVersions;
-use crate::span::Span;
 use crate::stored::StoredVersions;
+use crate::system_period::SystemPeriod;
 use list_core::List;
 use period_core::{Period, Point};
 use row_core::{NoMemory, Row};
@@ -27,10 +27,10 @@ pub struct Version {
 }
 
 /// Whether commit n shows a version.
-fn is_shown(span: &Span, n: u64) -> bool
-    ensures { result ≡ (nat_le span.now.from n && is_behind span.now.to n) }
+fn is_shown(system_period: &SystemPeriod, n: u64) -> bool
+    ensures { result ≡ (nat_le system_period.now.from n && is_behind system_period.now.to n) }
 {
-    span.from() as u64 <= n && span.to().is_none_or(|to| n < to as u64)
+    system_period.from() as u64 <= n && system_period.to().is_none_or(|to| n < to as u64)
 }
 
 /// The rows that commit n shows, which are not copied.
@@ -41,9 +41,9 @@ pub(crate) fn rows_shown(
 ) -> Result<SharedRows, NoMemory>
     ensures { IfOk result (λ rows. rows ≡ shown n versions.now) }
 {
-    let (_, spans) = versions.rows_and_spans();
-    let count = count_shown(spans, n);
-    if count == spans.len() {
+    let (_, system_periods) = versions.rows_and_system_periods();
+    let count = count_shown(system_periods, n);
+    if count == system_periods.len() {
         versions.rows()
     } else {
         versions.at_places(places_shown(alloc, versions, n, None, count)?)
@@ -51,10 +51,14 @@ pub(crate) fn rows_shown(
 }
 
 /// How many versions commit n shows.
-fn count_shown(spans: &[Span], n: u64) -> usize
-    ensures { result ≡ count_by (λ span. nat_le span.from n && is_behind span.to n) spans.now }
+fn count_shown(system_periods: &[SystemPeriod], n: u64) -> usize
+    ensures { result ≡ count_by (λ system_period. nat_le system_period.from n
+        && is_behind system_period.to n) system_periods.now }
 {
-    spans.iter().filter(|span| is_shown(span, n)).count()
+    system_periods
+        .iter()
+        .filter(|system_period| is_shown(system_period, n))
+        .count()
 }
 
 /// The rows that commit n shows and that hold at the point, which are not copied.
@@ -82,10 +86,15 @@ fn places_shown(
     ensures shown { IfOk result (λ places. at_places places.items (map (λ v. v.row) versions.now)
         ≡ filter (holds_where point) (shown n versions.now)) }
 {
-    let (drafts, spans) = versions.rows_and_spans();
+    let (drafts, system_periods) = versions.rows_and_system_periods();
     let mut places = Vec::with_capacity(alloc, room)?;
     for i in 0..drafts.len() {
-        if is_listed(RowRef::of_draft(i, drafts.at(i)), &spans[i], n, point) {
+        if is_listed(
+            RowRef::of_draft(i, drafts.at(i)),
+            &system_periods[i],
+            n,
+            point,
+        ) {
             places.push(as_place(i)?)?;
         }
     }
@@ -93,11 +102,11 @@ fn places_shown(
 }
 
 /// Whether commit n shows the version, and its row holds at the point, if one is given.
-fn is_listed(row: RowRef<'_>, span: &Span, n: u64, point: Option<Point>) -> bool
-    ensures { result ≡ (shows n (version_of (lent_row row.entry) span.now)
+fn is_listed(row: RowRef<'_>, system_period: &SystemPeriod, n: u64, point: Option<Point>) -> bool
+    ensures { result ≡ (shows n (version_of (lent_row row.entry) system_period.now)
         && holds_where point (lent_row row.entry)) }
 {
-    holds_where(row.period(), point) && is_shown(span, n)
+    holds_where(row.period(), point) && is_shown(system_period, n)
 }
 
 /// Whether the period holds the point, if one is given.
@@ -124,24 +133,24 @@ pub(crate) fn versions_seen(
 ) -> Result<SharedVersions, NoMemory>
     ensures { IfOk result (λ list. list ≡ versions_as_of at m last versions.now) }
 {
-    let (_, spans) = versions.rows_and_spans();
+    let (_, system_periods) = versions.rows_and_system_periods();
     let mut places = Vec::new(alloc);
     let mut seen = Vec::new(alloc);
-    for i in 0..spans.len() {
-        let span = spans[i].as_of(at);
-        if is_seen(&span, at, m, last) {
+    for i in 0..system_periods.len() {
+        let system_period = system_periods[i].as_of(at);
+        if is_seen(&system_period, at, m, last) {
             places.push(as_place(i)?)?;
-            seen.push(span)?;
+            seen.push(system_period)?;
         }
     }
     SharedVersions::at_places(versions, places, seen)
 }
 
 /// Whether commits show a version that begins up to `at` and up to `last`, and is not over by m.
-fn is_seen(span: &Span, at: u64, m: u64, last: u64) -> bool
-    ensures { result ≡ (nat_le span.now.from at
-        && (nat_le span.now.from last && is_behind span.now.to m)) }
+fn is_seen(system_period: &SystemPeriod, at: u64, m: u64, last: u64) -> bool
+    ensures { result ≡ (nat_le system_period.now.from at
+        && (nat_le system_period.now.from last && is_behind system_period.now.to m)) }
 {
-    let from = span.from() as u64;
-    from <= at && (from <= last && span.to().is_none_or(|to| m < to as u64))
+    let from = system_period.from() as u64;
+    from <= at && (from <= last && system_period.to().is_none_or(|to| m < to as u64))
 }

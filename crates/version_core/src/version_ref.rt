@@ -2,14 +2,14 @@
 
 ghost use Rattle.std.specs.Prelude.{◌≡◌};
 
-use crate::span::Span;
+use crate::system_period::SystemPeriod;
 use table_core::RowRef;
 
 /// A version of a table, lent by a list of versions.
 #[derive(Clone, Copy)]
 pub struct VersionRef<'a> {
     pub(crate) row: RowRef<'a>,
-    pub(crate) span: Span,
+    pub(crate) system_period: SystemPeriod,
 }
 
 impl<'a> VersionRef<'a> {
@@ -27,14 +27,14 @@ impl<'a> VersionRef<'a> {
     pub fn sysfrom(&self) -> u64
         ensures { result ≡ (lent_version self.now).sysfrom }
     {
-        self.span.from() as u64
+        self.system_period.from() as u64
     }
 
     /// The commit that closed it; none where it is open.
     pub fn systo(&self) -> Option<u64>
         ensures { result ≡ (lent_version self.now).systo }
     {
-        match self.span.to() {
+        match self.system_period.to() {
             None => None,
             Some(commit) => Some(commit as u64),
         }

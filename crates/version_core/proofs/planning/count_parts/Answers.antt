@@ -16,30 +16,31 @@ use Rattle.version_core.proofs.planning.count_parts.Goals.{then-takes, else-take
 pub at-requires : goal.at-requires
 at-requires c =
     let inside = c.requires.places.inside c.loop-place.place-index 0 c.loop-place-test.true in
-    omega (arith, inside, c.rows_and_spans.ensures.rows)
+    omega (arith, inside, c.rows_and_system_periods.ensures.rows)
 
-pub bounds-spans-place : goal.bounds-spans-place
-bounds-spans-place c =
+pub bounds-system_periods-place : goal.bounds-system_periods-place
+bounds-system_periods-place c =
     let inside = c.requires.places.inside c.loop-place.place-index 0 c.loop-place-test.true in
-    omega (arith, inside, c.rows_and_spans.ensures.spans)
+    omega (arith, inside, c.rows_and_system_periods.ensures.system_periods)
 
 pub loop-place-preserved : goal.loop-place-preserved
 loop-place-preserved c =
     let vs = c.args.versions.now in
     let places = c.args.places.now in
     let i = c.loop-place.place-index in
-    let span = c.index-spans-place.result in
+    let system_period = c.index-system_periods-place.result in
     let row = lent_row c.of_draft-row.result in
-    let version = version_of row span in
+    let version = version_of row system_period in
     let taken = is_taken c.args.seeker.now.change.now c.args.seeker.now.schema.now in
     let so_far = filter (passes vs taken) (take i places) in
     let inside : get_or places i 0 < length vs = c.requires.places.inside i 0 c.loop-place-test.true in
-    let beside : get_or places i 0 < length c.rows_and_spans.result.1.now =
-    omega (arith, inside, c.rows_and_spans.ensures.spans) in
-    let found = version-at c.rows_and_spans.result.0.now c.rows_and_spans.result.1.now (get_or places i 0)
-    (lent_draft c.at.result) row span vs c.rows_and_spans.ensures.versions
-    (omega (arith, inside, c.rows_and_spans.ensures.rows)) beside c.at.ensures c.of_draft-row.ensures
-    c.index-spans-place.is in
+    let beside : get_or places i 0 < length c.rows_and_system_periods.result.1.now =
+    omega (arith, inside, c.rows_and_system_periods.ensures.system_periods) in
+    let found = version-at c.rows_and_system_periods.result.0.now c.rows_and_system_periods.result.1.now
+    (get_or places i 0)
+    (lent_draft c.at.result) row system_period vs c.rows_and_system_periods.ensures.versions
+    (omega (arith, inside, c.rows_and_system_periods.ensures.rows)) beside c.at.ensures c.of_draft-row.ensures
+    c.index-system_periods-place.is in
     let counted = c.loop-place.invariant.counted in
     let few = c.loop-place.invariant.few in
     elim c.if-takes.branch [

@@ -39,7 +39,7 @@ any_reached-requires c = λ k d below.
     let vs = c.args.versions.now in
     let both = block-inside vs (chunks_rest c.loop-block.block-iterator) c.in-Some-block.block.now
     (chunks_rest c.next.new.self) c.in-Some-block.ensures.steps.1.0 c.loop-block.invariant.inside in
-    omega (arith, both.0 k d below, c.rows_and_spans.ensures.rows)
+    omega (arith, both.0 k d below, c.rows_and_system_periods.ensures.rows)
 
 pub plan_block-requires-clause-inside : goal.plan_block-requires-clause-inside
 plan_block-requires-clause-inside c =
@@ -81,8 +81,9 @@ loop-block-preserved c =
     let block = c.in-Some-block.block.now in
     let rest = chunks_rest c.next.new.self in
     let taken = c.loop-block.plan.taken.items in
-    let none = none-reached c.args.seeker.now.change.now c.args.seeker.now.schema.now c.in-Some.portion c.rows_and_spans.result.0.now
-    c.rows_and_spans.result.1.now vs block (sym c.portion.ensures ∙ c.in-Some.is) c.rows_and_spans.ensures.versions
+    let none = none-reached c.args.seeker.now.change.now c.args.seeker.now.schema.now c.in-Some.portion
+    c.rows_and_system_periods.result.0.now c.rows_and_system_periods.result.1.now vs block
+    (sym c.portion.ensures ∙ c.in-Some.is) c.rows_and_system_periods.ensures.versions
     (sym c.any_reached.ensures ∙ c.if-any_reached.false) in
     record {
       can_next = search rules;

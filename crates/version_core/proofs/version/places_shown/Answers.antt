@@ -19,16 +19,17 @@ loop-i-preserved c =
     let vs = c.args.versions.now in
     let all = map (λ (v : Version). v.row) vs in
     let i = c.loop-i.i in
-    let drafts = c.rows_and_spans.result.0.now in
-    let spans = c.rows_and_spans.result.1.now in
-    let inside : i < length vs = omega (arith, c.loop-i-test.true, c.rows_and_spans.ensures.rows) in
-    let beside : i < length spans = omega (arith, inside, c.rows_and_spans.ensures.spans) in
-    let span = c.index-spans-i.result in
+    let drafts = c.rows_and_system_periods.result.0.now in
+    let system_periods = c.rows_and_system_periods.result.1.now in
+    let inside : i < length vs = omega (arith, c.loop-i-test.true, c.rows_and_system_periods.ensures.rows) in
+    let beside : i < length system_periods = omega (arith, inside, c.rows_and_system_periods.ensures.system_periods) in
+    let system_period = c.index-system_periods-i.result in
     let row = lent_row c.of_draft.result in
-    let v = version_of row span in
-    let found = version-at drafts spans i (lent_draft c.at.result) row span vs c.rows_and_spans.ensures.versions
+    let v = version_of row system_period in
+    let found = version-at drafts system_periods i (lent_draft c.at.result) row system_period vs
+    c.rows_and_system_periods.ensures.versions
     (omega (arith, c.loop-i-test.true)) beside c.at.ensures c.of_draft.ensures
-    c.index-spans-i.is in
+    c.index-system_periods-i.is in
     elim c.if-is_listed.branch [
       | then-is_listed+in_ok-as_place+in_ok-push w ↦
           let grown = ap (λ (u : Vec ℕ Global). u.items) w.places-is ∙ w.in_ok-push.ensures.items
@@ -55,4 +56,5 @@ pub returns-clause-shown : goal.returns-clause-shown
 returns-clause-shown c =
     c.loop-i.invariant.shown
     ∙ ap (λ vs. filter (holds_where c.args.point) (shown c.args.n vs))
-    (take_all c.loop-i.i c.args.versions.now (omega (arith, c.loop-i-test.false, c.rows_and_spans.ensures.rows)))
+    (take_all c.loop-i.i c.args.versions.now
+    (omega (arith, c.loop-i-test.false, c.rows_and_system_periods.ensures.rows)))

@@ -7,15 +7,17 @@ use Rattle.version_core.proofs.Seen.{all-held}
 use Rattle.version_core.proofs.StoredLemmas.{length-shown_of, shown-all}
 use Rattle.version_core.proofs.version.rows_shown.Goals as goal
 
-pub returns-then-count-spans : goal.returns-then-count-spans
-returns-then-count-spans c =
-    let slices = c.rows_and_spans.ensures in
-    let counted = length-shown_of c.args.n (numbered 0 c.rows_and_spans.result.0.now) c.rows_and_spans.result.1.now
+pub returns-then-count-system_periods : goal.returns-then-count-system_periods
+returns-then-count-system_periods c =
+    let slices = c.rows_and_system_periods.ensures in
+    let counted = length-shown_of c.args.n (numbered 0 c.rows_and_system_periods.result.0.now)
+    c.rows_and_system_periods.result.1.now
     c.args.versions.now slices.versions
-    (length-numbered 0 c.rows_and_spans.result.0.now ∙ slices.rows ∙ sym slices.spans) in
+    (length-numbered 0 c.rows_and_system_periods.result.0.now ∙ slices.rows ∙ sym slices.system_periods) in
     IfOk-weaker c.rows.result _ _
     (λ rows e. e ∙ shown-all c.args.n c.args.versions.now
-    (sym counted ∙ sym c.count_shown-count.ensures ∙ c.if-count-spans.true ∙ slices.spans)) c.rows.ensures
+    (sym counted ∙ sym c.count_shown-count.ensures ∙ c.if-count-system_periods.true ∙ slices.system_periods))
+    c.rows.ensures
 
 pub returns-in_ok-places_shown : goal.returns-in_ok-places_shown
 returns-in_ok-places_shown c =

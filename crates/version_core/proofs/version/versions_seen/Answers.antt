@@ -16,21 +16,27 @@ loop-i-preserved c =
     let vs = c.args.versions.now in
     let all = map (λ (v : Version). v.row) vs in
     let i = c.loop-i.i in
-    let drafts = c.rows_and_spans.result.0.now in
-    let spans = c.rows_and_spans.result.1.now in
-    let beside : i < length spans = omega (arith, c.loop-i-test.true) in
-    let inside : i < length vs = omega (arith, beside, c.rows_and_spans.ensures.spans) in
-    let same : length (numbered 0 drafts) ≡ length spans =
-    omega (arith, length-numbered 0 drafts, c.rows_and_spans.ensures.rows, c.rows_and_spans.ensures.spans) in
-    let span = c.index-spans-i.result in
-    let found = version-beside (numbered 0 drafts) spans i span vs c.rows_and_spans.ensures.versions same beside
-    c.index-spans-i.is in
-    let v = version_of found.0 span in
-    let now = c.as_of-span.result in
+    let drafts = c.rows_and_system_periods.result.0.now in
+    let system_periods = c.rows_and_system_periods.result.1.now in
+    let beside : i < length system_periods = omega (arith, c.loop-i-test.true) in
+    let inside : i < length vs = omega (arith, beside, c.rows_and_system_periods.ensures.system_periods) in
+    let same : length (numbered 0 drafts) ≡ length system_periods =
+    omega (
+      arith,
+      length-numbered 0 drafts,
+      c.rows_and_system_periods.ensures.rows,
+      c.rows_and_system_periods.ensures.system_periods,
+    ) in
+    let system_period = c.index-system_periods-i.result in
+    let found = version-beside (numbered 0 drafts) system_periods i system_period vs
+    c.rows_and_system_periods.ensures.versions same beside
+    c.index-system_periods-i.is in
+    let v = version_of found.0 system_period in
+    let now = c.as_of-system_period.result in
     let places = c.loop-i.places.items in
     let seen = c.loop-i.seen.items in
     let test = ap (λ (s : SystemPeriod). leb s.from c.args.at && (leb s.from c.args.last && is_behind s.to c.args.m))
-    (sym c.as_of-span.ensures) ∙ sym c.is_seen.ensures in
+    (sym c.as_of-system_period.ensures) ∙ sym c.is_seen.ensures in
     elim c.if-is_seen.branch [
       | then-is_seen+in_ok-as_place+in_ok-push+in_ok-push-2 w ↦
           let grown = ap (λ (u : Vec ℕ Global). u.items) w.places-is ∙ w.in_ok-push.ensures.items
@@ -45,7 +51,8 @@ loop-i-preserved c =
                 ∙ ap (versions_of (at_places (places ++ i ∷ []) all)) more
                 ∙ versions_of-at_places places seen vs i v.row now c.loop-i.invariant.within c.loop-i.invariant.beside
                 (row-at vs i v inside found.1)
-                ∙ ap (λ s. versions_of (at_places places all) seen ++ version_of v.row s ∷ []) c.as_of-span.ensures
+                ∙ ap (λ s. versions_of (at_places places all) seen ++ version_of v.row s ∷ [])
+                c.as_of-system_period.ensures
                 ∙ versions_as_of-more c.args.at c.args.m c.args.last i vs v
                 (versions_of (at_places places all) seen) inside found.1 (test ∙ w.if-is_seen.true) c.loop-i.invariant.seen;
           }

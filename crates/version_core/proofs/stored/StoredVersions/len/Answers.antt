@@ -4,5 +4,5 @@ use Rattle.version_core.proofs.stored.StoredVersions.len.Goals as goal
 
 pub returns : goal.returns
 returns c =
-    let same = length-versions_of c.self.inside.rows c.self.inside.spans.items c.self.invariant in
-    omega (arith, c.self.inside.spans.ok.0, same, ap length c.self.view_is)
+    let same = length-versions_of c.self.inside.rows c.self.inside.system_periods.items c.self.invariant in
+    omega (arith, c.self.inside.system_periods.ok.0, same, ap length c.self.view_is)

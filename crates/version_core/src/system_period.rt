@@ -11,14 +11,14 @@ use std::mem::size_of;
 /// take 8 bytes, as there is one for each version: no commit has the number 0, which says here that none
 /// has closed it. Contracts see both ends.
 #[derive(Clone, Copy)]
-pub(crate) struct Span {
+pub(crate) struct SystemPeriod {
     from: u32,
     to: u32,
 }
 
-const _: () = prove!(size_of::<Span>() == 8);
+const _: () = prove!(size_of::<SystemPeriod>() == 8);
 
-impl Model for Span {
+impl Model for SystemPeriod {
     ghost use Rattle.std.specs.Prelude.{◌==◌, if◌then◌else◌, Some, None, unwrap_or};
     ghost use Rattle.version_core.specs.Stored.{SystemPeriod};
 
@@ -29,12 +29,12 @@ impl Model for Span {
     ghost inverse = { λ v. record { from = v.from; to = unwrap_or v.to 0 } };
 }
 
-impl Span {
+impl SystemPeriod {
     /// That of a version which the commit makes.
     pub(crate) fn since(commit: CommitNumber) -> Self
         ensures { result ≡ record { from = commit; to = None } }
     {
-        Span {
+        SystemPeriod {
             from: commit.get(),
             to: 0,
         }
@@ -55,13 +55,13 @@ impl Span {
     }
 
     /// The same as the first `at` commits know it: an end past them is open.
-    pub(crate) fn as_of(&self, at: u64) -> Span
+    pub(crate) fn as_of(&self, at: u64) -> SystemPeriod
         ensures { result ≡ record { from = self.now.from; to = end_at at self.now.to } }
     {
         if self.to as u64 <= at {
             *self
         } else {
-            Span {
+            SystemPeriod {
                 from: self.from,
                 to: 0,
             }
