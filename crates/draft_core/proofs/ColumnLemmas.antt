@@ -173,7 +173,7 @@ pub long-set : (count i : ℕ) (cs : List ColumnValues) (c : ColumnValues) → A
     → count ≤ length (values_of_column c) → AreLong count (set cs i c)
 long-set count i cs c long fits = All-set (λ column. count ≤ length (values_of_column column)) cs i c fits long
 
--- a column whose first values have others behind them
+-- a column whose first values have others after them
 pub first-more : (count : ℕ) (old new more : List Value) → count ≤ length old → new ≡ take count old ++ more
     → (take count new ≡ take count old) × (length new ≡ count + length more)
 first-more count old new more long is =
@@ -217,7 +217,7 @@ pub no_value-in_column : (ps : List Period) (cs : List ColumnValues) (a : AlikeR
 no_value-in_column ps cs a place i is inside none =
     sym (ap (λ l. slice_get l i) (values-in_row ps cs a place is inside) ∙ no_value-at place cs i none)
 
--- ---- columns in turn, each replaced by one that has more behind the first values
+-- ---- columns in turn, each replaced by one that has more after the first values
 
 pub step-kept : (count i : ℕ) (old cs : List ColumnValues) (c now : ColumnValues) (more : List Value)
     → Keep count old cs → AreLong count cs → i < length cs → now ≡ get_or cs i now

@@ -1,6 +1,8 @@
--- Rows are reached where their periods are.
-use Rattle.std.proofs.Common.{◌≡◌, ℕ, zero, suc, ◌||◌, List, [], ◌∷◌, map, refl, ap, ◌∙◌}
-use Rattle.std.specs.List.{list_any}
+-- Rows are reached where their periods are, and whether any is, from one place to the next.
+use Rattle.std.proofs.Common.{◌≡◌, ℕ, zero, suc, ◌+◌, ◌<◌, ◌||◌, Bool, List, [], ◌∷◌, Some, ap, false, get_or, length, map, refl, sym, take, ◌∙◌}
+use Rattle.std.specs.List.{list_any, slice_get}
+use Rattle.std.specs.Prelude.{option_map, unwrap_or}
+use Rattle.std.proofs.lemmas.List.Folds.{list_any_more}
 use Rattle.period_core.specs.declared.period.Period.{Period}
 use Rattle.row_core.specs.declared.draft.Draft.{Draft}
 use Rattle.row_core.specs.declared.value.Value.{Value}
@@ -26,3 +28,19 @@ any_reached-rows portion ps columns (place ∷ places) =
     let here = reached-met portion rows place ∙ ap (λ l. is_met portion l place) (periods-rows 0 ps columns) in
     ap (λ b. b || list_any (is_reached portion rows) places) here
     ∙ ap (λ b. is_met portion ps place || b) (any_reached-rows portion ps columns places)
+
+-- the item at a place passes the test; past the last none does
+abbrev pub passes_at : {X : Type 0} → (X → Bool) → List X → ℕ → Bool
+passes_at test items place = unwrap_or (option_map test (slice_get items place)) false
+
+-- whether an item at one of the first places passes the test, by one place more
+pub any_at-more : {X : Type 0} (test : X → Bool) (items : List X) (places : List ℕ) (i : ℕ) (item : X)
+    (any here : Bool) → i < length places → slice_get items (get_or places i 0) ≡ Some item → here ≡ test item
+    → any ≡ list_any (passes_at test items) (take i places)
+    → (any || here) ≡ list_any (passes_at test items) (take (i + 1) places)
+any_at-more test items places i item any here inside at is so_far =
+    let there : passes_at test items (get_or places i 0) ≡ here =
+    ap (λ o. unwrap_or (option_map test o) false) at ∙ sym is in
+    ap (λ b. b || here) so_far
+    ∙ ap (λ b. list_any (passes_at test items) (take i places) || b) (sym there)
+    ∙ sym (list_any_more (passes_at test items) places i 0 inside)

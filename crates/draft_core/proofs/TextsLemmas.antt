@@ -1,4 +1,4 @@
--- Texts one behind another: more of them, the first of them, each of them.
+-- Texts one after another: more of them, the first of them, each of them.
 use Rattle.std.proofs.Common.{ℕ, zero, suc, ◌≡◌, ◌<◌, ◌≤◌, ◌+◌, ◌-◌, List, [], ◌∷◌, ◌++◌, All, Some, length, take, drop, map, slice_get, refl, sym, subst, ap, ◌∙◌, arith, length-append, length-take-le, drop-drop, take_at, take-append-drop}
 use Rattle.std.proofs.Math.Seq.{drop-append_seam}
 use Rattle.std.proofs.lemmas.List.Elements.{All-append, All-cons, All-nil, All-push, All-tail, All-take}
@@ -31,7 +31,7 @@ text-there (first ∷ texts) (suc i) text all e = text-there texts i text (All-t
 
 -- ---- one more
 
--- by where it ends behind the bytes as they are lent
+-- by where it ends after the bytes, as they are lent
 pub pushed-text : (ends bytes text lent grown longer : List ℕ) (end : ℕ) → AreTexts ends bytes → IsText text
     → lent ≡ bytes → end ≡ length lent + length text → grown ≡ ends ++ end ∷ [] → longer ≡ bytes ++ text
     → AreTexts grown longer × (cut 0 grown longer ≡ cut 0 ends bytes ++ text ∷ [])
@@ -47,9 +47,9 @@ pushed-text ends bytes text lent grown longer end (at, all) is b e g l =
       parts,
     )
 
--- ---- more behind them
+-- ---- more after them
 
--- where texts end that come behind n bytes
+-- where texts end that come after n bytes
 abbrev pub behind : ℕ → List ℕ → List ℕ
 behind n ends = map (λ end. n + end) ends
 
@@ -95,7 +95,7 @@ appended-texts ends bytes more text lent shared grown longer start (at, all) (at
       parts,
     )
 
--- no text ends behind the bytes
+-- no text ends after the bytes
 pub ends-within : (from : ℕ) (ends : List ℕ) (size : ℕ) → EndsAt from ends size → All (λ end. end ≤ size) ends
 ends-within from [] size h = All-nil (λ end. end ≤ size)
 ends-within from (end ∷ ends) size (h, more) =
@@ -107,7 +107,7 @@ start_at-next : (from end : ℕ) (ends : List ℕ) (k : ℕ) → start_at from (
 start_at-next from end ends zero = refl
 start_at-next from end ends (suc k) = refl
 
--- the text of a number starts behind the start, and within the bytes
+-- the text of a number starts after the start, and within the bytes
 start_at-within : (from : ℕ) (ends : List ℕ) (size k : ℕ) → EndsAt from ends size → k < length ends
     → (from ≤ start_at from ends k) × (start_at from ends k ≤ size)
 start_at-within from [] size k h lt = absurd (omega arith)

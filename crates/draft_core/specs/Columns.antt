@@ -40,7 +40,8 @@ rows_by_column place (period ∷ periods) columns =
 abbrev pub AreLong : ℕ → List ColumnValues → Type 0
 AreLong count columns = All (λ column. count ≤ length (values_of_column column)) columns
 
--- the columns are of the kinds that they were, and have the values that they had at the first places
+-- the columns are of the kinds that they were, and have the values that they had at the first
+-- places
 abbrev pub Keep : ℕ → List ColumnValues → List ColumnValues → Type 0
 Keep count old new = (map kind_of_column new ≡ map kind_of_column old)
     × (map (λ column. take count (values_of_column column)) new
@@ -55,6 +56,7 @@ pub record AlikeRows : Type 0 where
   pub kinds : List Kind
   pub rows : List Draft
 
--- rows of these kinds can lie behind those in columns: there are none yet, or they are of the same kinds
+-- rows of these kinds can lie after those in columns: there are none yet, or they are of the same
+-- kinds
 abbrev pub Takes : AlikeRows → List Kind → Type 0
 Takes columns kinds = (columns.rows ≡ []) ⊎ (kinds ≡ columns.kinds)

@@ -15,7 +15,7 @@ use crate::texts::Texts;
 use row_core::{Failure, Kind, Text, Value, ValueRef, ValueRefused, read_number};
 use std::alloc::Global;
 
-/// The values of a column, one behind another.
+/// The values of a column, one after another.
 #[derive(Debug, Drop)]
 pub(crate) enum ColumnValues {
     Numbers(Vec<i64>),
@@ -78,8 +78,8 @@ impl ColumnValues {
         }
     }
 
-    /// Adds a value of the kind behind the first `count`, which alone are left of those that are there.
-    /// On refusal none is added.
+    /// Adds a value of the kind after the first `count`, which alone are left of those that are
+    /// there. On refusal none is added.
     pub(crate) fn push(&mut self, count: usize, value: &Value) -> Result<(), NoMemory>
         requires { kind_of value.now ≡ kind_of_column self.old }
         ensures kind { kind_of_column self.new ≡ kind_of_column self.old }
@@ -97,8 +97,8 @@ impl ColumnValues {
         Ok(())
     }
 
-    /// Adds the value of the kind that the bytes write, behind the first `count`, which alone are left of
-    /// those that are there. On refusal none is added.
+    /// Adds the value of the kind that the bytes write, after the first `count`, which alone are
+    /// left of those that are there. On refusal none is added.
     pub(crate) fn read(&mut self, count: usize, bytes: &[u8]) -> Result<(), Failure<ValueRefused>>
         ensures kind { kind_of_column self.new ≡ kind_of_column self.old }
         ensures ok { OnOk result ((value : AnyValue)
@@ -117,8 +117,8 @@ impl ColumnValues {
         Ok(())
     }
 
-    /// Adds the first values of another column of the kind, `more_count` of them, behind the first `count`
-    /// of these, which alone are left. On refusal none is added.
+    /// Adds the first values of another column of the kind, `more_count` of them, after the first
+    /// `count` of these, which alone are left. On refusal none is added.
     pub(crate) fn append(
         &mut self,
         count: usize,

@@ -24,8 +24,8 @@ use row_core::{
 use std::alloc::Global;
 use std::marker::Model;
 
-/// Rows whose values lie by columns: each row has a value of the same kind in each. What a column has
-/// behind the last row's value is no row's. Contracts see the kinds and the rows.
+/// Rows whose values lie by columns: each row has a value of the same kind in each. What a column
+/// has after the last row's value is no row's. Contracts see the kinds and the rows.
 #[derive(Debug, Drop)]
 pub(crate) struct Columns {
     periods: Vec<Period>,
@@ -99,7 +99,8 @@ impl Columns {
         are_like(&self.values, &other.values)
     }
 
-    /// Whether each row has as many values as there are columns of a table, each of its column's kind.
+    /// Whether each row has as many values as there are columns of a table, each of its column's
+    /// kind.
     pub(crate) fn all_fit(&self, schema: &Schema) -> bool
         ensures { result ≡ list_all (λ d. fits schema.now d.values) self.now.rows }
     {
@@ -184,8 +185,8 @@ impl Columns {
         Ok(drafts)
     }
 
-    /// Adds a row of the period, with copies of the values, which are of the kinds. On refusal there are
-    /// none more.
+    /// Adds a row of the period, with copies of the values, which are of the kinds. On refusal
+    /// there are none more.
     pub(crate) fn push(&mut self, period: Period, values: &[Value]) -> Result<(), NoMemory>
         requires { map kind_of values.now ≡ self.old.kinds }
         ensures ok { OnOk result (self.new ≡ record self.old {
@@ -199,7 +200,8 @@ impl Columns {
         Ok(())
     }
 
-    /// Adds the row of the fields: two points, and one field for each column, which are of the kinds.
+    /// Adds the row of the fields: two points, and one field for each column, which are of the
+    /// kinds.
     pub(crate) fn read<L: Fields>(
         &mut self,
         columns: &[Column],
@@ -218,7 +220,7 @@ impl Columns {
         Ok(())
     }
 
-    /// Puts rows of the same kinds behind these. On refusal there are none more.
+    /// Puts rows of the same kinds after these. On refusal there are none more.
     pub(crate) fn append(&mut self, more: Columns) -> Result<(), NoMemory>
         requires { more.kinds ≡ self.old.kinds }
         ensures ok { OnOk result (self.new
@@ -244,8 +246,8 @@ impl DeepCopy for Columns {
     }
 }
 
-/// Whether the portion shares an instant with a period at one of the places. This writes nothing and doesn't
-/// branch at a period, so that it takes the same short time wherever they lie.
+/// Whether the portion shares an instant with a period at one of the places. This writes nothing
+/// and doesn't branch at a period, so that it takes the same short time wherever they lie.
 fn any_met(periods: &[Period], portion: &Period, places: &[u32]) -> bool
     requires { All (λ place. place < length periods.now) places.now }
     ensures { result ≡ list_any (is_met portion.now periods.now) places.now }
@@ -342,7 +344,7 @@ fn copy_columns(alloc: Global, columns: &[ColumnValues]) -> Result<Vec<ColumnVal
     Ok(copies)
 }
 
-/// Adds each column's value behind its first `count`.
+/// Adds each column's value after its first `count`.
 fn push_values(
     columns: &mut Vec<ColumnValues>,
     count: usize,
@@ -362,8 +364,8 @@ fn push_values(
     Ok(())
 }
 
-/// Adds the first values of other columns of the same kinds, so many of each, behind the first `count`
-/// of these.
+/// Adds the first values of other columns of the same kinds, so many of each, after the first
+/// `count` of these.
 fn append_values(
     columns: &mut Vec<ColumnValues>,
     count: usize,
@@ -388,8 +390,8 @@ fn append_values(
     Ok(())
 }
 
-/// The period of the row of the fields, whose values are added in their columns behind the first `count`, up
-/// to the first that is refused anything.
+/// The period of the row of the fields, whose values are added in their columns after the first
+/// `count`, up to the first that is refused anything.
 fn read_onto<L: Fields>(
     values: &mut Vec<ColumnValues>,
     count: usize,
@@ -414,8 +416,8 @@ fn read_onto<L: Fields>(
     Ok(period)
 }
 
-/// Adds the value of each field behind the two points in its column behind the first `count`, up to the
-/// first field that is refused anything.
+/// Adds the value of each field after the two points to its column, after the first `count`, up to
+/// the first field that is refused anything.
 fn read_values<L: Fields>(
     values: &mut Vec<ColumnValues>,
     count: usize,

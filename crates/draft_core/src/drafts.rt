@@ -19,8 +19,8 @@ use row_core::{Draft, Kind, Schema, Value, ValueRef, Values};
 use std::alloc::Global;
 use std::marker::Model;
 
-/// How drafts lie: by columns, as those of one table do; or each on its own, where some haven't values of
-/// the same kinds as the others.
+/// How drafts lie: by columns, as those of one table do; or each on its own, where some haven't
+/// values of the same kinds as the others.
 #[derive(Debug, Drop)]
 pub(crate) enum Form {
     Alike(Columns),
@@ -107,8 +107,9 @@ impl Drafts {
     ///
     /// # Errors
     ///
-    /// `NoMemory` where a growth is refused, or where the texts of a column would have 2^32 bytes or more,
-    /// which those of 1,000,000 rows never have. Then there are none more, and the draft is dropped.
+    /// `NoMemory` where a growth is refused, or where the texts of a column would have 2^32 bytes
+    /// or more, which those of 1,000,000 rows never have. Then there are none more, and the draft
+    /// is dropped.
     pub fn push(&mut self, draft: Draft) -> Result<(), NoMemory>
         ensures ok { OnOk result (self.new ≡ self.old ++ draft ∷ []) }
         ensures err { OnErr result (self.new ≡ self.old) }
@@ -129,7 +130,7 @@ impl Drafts {
         push_row(self.alloc, &mut self.form, period, values)
     }
 
-    /// Puts more drafts behind these.
+    /// Puts more drafts after these.
     ///
     /// # Errors
     ///
@@ -151,8 +152,8 @@ impl Drafts {
         }
     }
 
-    /// Whether the portion shares an instant with a draft at one of the places. Of drafts that lie by
-    /// columns it reads the periods alone.
+    /// Whether the portion shares an instant with a draft at one of the places. Of drafts that lie
+    /// by columns it reads the periods alone.
     pub fn any_reached(&self, portion: &Period, places: &[u32]) -> bool
         requires { All (λ place. place < length self.now) places.now }
         ensures { result ≡ list_any (is_reached portion.now self.now) places.now }
@@ -325,8 +326,8 @@ fn push_apart(
     Ok(())
 }
 
-/// Adds a draft, with copies of the values, to columns of their kinds; where the columns are of others, it
-/// is answered with all drafts, each on its own. The first draft sets the kinds.
+/// Adds a draft, with copies of the values, to columns of their kinds; where the columns are of
+/// others, it is answered with all drafts, each on its own. The first draft sets the kinds.
 fn push_alike(
     alloc: Global,
     columns: &mut Columns,
@@ -365,7 +366,7 @@ fn kinds_of(alloc: Global, values: &[Value]) -> Result<Vec<Kind>, NoMemory>
     Ok(kinds)
 }
 
-/// Puts more drafts behind those. On refusal there are none more.
+/// Puts more drafts after those. On refusal there are none more.
 fn append(alloc: Global, form: &mut Form, more: Form) -> Result<(), NoMemory>
     ensures ok { OnOk result (drafts_in form.new ≡ drafts_in form.old ++ drafts_in more) }
     ensures alike { OnOk result (AreAlike form.new ↔ TakesRows form.old more) }
@@ -381,7 +382,7 @@ fn append(alloc: Global, form: &mut Form, more: Form) -> Result<(), NoMemory>
     Ok(())
 }
 
-/// Puts more drafts behind those that lie each on its own.
+/// Puts more drafts after those that lie each on its own.
 fn append_apart(alloc: Global, drafts: &mut Vec<Draft>, more: Form) -> Result<(), NoMemory>
     ensures ok { OnOk result (drafts.new.items ≡ drafts.old.items ++ drafts_in more) }
     ensures err { OnErr result (drafts.new.items ≡ drafts.old.items) }
@@ -394,8 +395,8 @@ fn append_apart(alloc: Global, drafts: &mut Vec<Draft>, more: Form) -> Result<()
     Ok(())
 }
 
-/// Puts more drafts behind those in columns; where they are of other kinds, all are answered, each on its
-/// own.
+/// Puts more drafts after those in columns; where they are of other kinds, all are answered, each
+/// on its own.
 fn append_alike(
     alloc: Global,
     columns: &mut Columns,
@@ -413,8 +414,8 @@ fn append_alike(
     }
 }
 
-/// Puts the rows of more columns behind those; where they are of other kinds, all are answered, each on its
-/// own.
+/// Puts the rows of more columns after those; where they are of other kinds, all are answered, each
+/// on its own.
 fn append_columns(
     alloc: Global,
     columns: &mut Columns,
@@ -441,7 +442,7 @@ fn append_columns(
     Ok(Some(both(columns.drafts(alloc)?, more.drafts(alloc)?)?))
 }
 
-/// These drafts, and more behind them.
+/// These drafts, and more after them.
 fn both(drafts: Vec<Draft>, more: Vec<Draft>) -> Result<Vec<Draft>, NoMemory>
     ensures { IfOk result (λ all. all.items ≡ drafts.items ++ more.items) }
 {

@@ -1,7 +1,7 @@
 #![tactic(auto)]
 
-//! Rows that are to be loaded, and those that a table keeps: they lie by columns, and are read from bytes
-//! straight into these.
+//! Rows that are to be loaded, and those that a table keeps: they lie by columns, and are read from
+//! bytes straight into these.
 
 mod column_values;
 mod columns;

@@ -11,7 +11,8 @@ use row_core::{Failure, Fields, RowRefused, Schema};
 use std::alloc::Global;
 use std::marker::Model;
 
-/// Reads rows of a table's columns, one after another. Contracts see the columns, and the rows so far.
+/// Reads rows of a table's columns, one after another. Contracts see the columns, and the rows so
+/// far.
 #[derive(Drop)]
 pub struct RowReader<'a> {
     alloc: Global,
@@ -45,8 +46,8 @@ impl<'a> RowReader<'a> {
     }
 
     /// Reads one more row: two points, and one field for each column. Want of memory is answered
-    /// only where no field is refused; so are texts of a column that would have 2^32 bytes or more, which those
-    /// of 1,000,000 rows never have.
+    /// only where no field is refused; so are texts of a column that would have 2^32 bytes or more,
+    /// which those of 1,000,000 rows never have.
     pub fn read<L: Fields>(self, fields: L) -> Result<Self, Failure<RowRefused>>
         ensures { IsAnswer
             (map_ok (λ row. record self.entry { rows = self.entry.rows ++ row ∷ [] })

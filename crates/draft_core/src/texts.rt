@@ -1,4 +1,4 @@
-//! Texts that lie one behind another.
+//! Texts that lie one after another.
 
 ghost use Rattle.std.specs.Prelude.{◌≡◌, ◌<◌, ◌≤◌, ◌+◌, ◌^◌, ◌++◌, ◌∷◌, [], All, length, map, slice_get, take, IfOk, OnErr, OnOk, Some};
 ghost use Rattle.row_core.specs.Limits.{text_limit};
@@ -9,9 +9,9 @@ use std::alloc::{AllocError, Global};
 use std::fmt;
 use std::marker::Model;
 
-/// Texts one behind another: the bytes of all, and where each ends among them. A table has so few
-/// texts, and these are so short, that 32 bits hold such a place; rows that no table may take can have more.
-/// Contracts see the list of the texts.
+/// Texts one after another: the bytes of all, and where each ends among them. A table has so few
+/// texts, and these are so short, that 32 bits hold such a place; rows that no table may take can
+/// have more. Contracts see the list of the texts.
 #[derive(Drop)]
 pub(crate) struct Texts {
     bytes: Vec<u8>,
@@ -122,7 +122,7 @@ impl fmt::Debug for Texts {
     }
 }
 
-/// The place so many bytes behind those.
+/// The place so many bytes after those.
 ///
 /// # Errors
 ///
@@ -136,7 +136,7 @@ fn place_behind(bytes: &[u8], more: usize) -> Result<u32, NoMemory>
     }
 }
 
-/// Adds where texts end that come behind so many bytes. On refusal there are none more.
+/// Adds where texts end that come after so many bytes. On refusal there are none more.
 fn push_ends(ends: &mut Vec<u32>, start: usize, more: &[u32]) -> Result<(), NoMemory>
     requires { All (λ end. start + end < 2 ^ 32) more.now }
     ensures ok { OnOk result (ends.new.items
