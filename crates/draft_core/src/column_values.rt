@@ -23,14 +23,14 @@ pub(crate) enum ColumnValues {
 }
 
 impl ColumnValues {
-    /// No values yet, of that kind.
-    pub(crate) fn new(alloc: Global, kind: Kind) -> Self
-        ensures kind { kind_of_column result ≡ kind }
-        ensures values { values_of_column result ≡ [] }
+    /// No values yet, of that kind, with room for so many; the bytes of texts have none.
+    pub(crate) fn with_room(alloc: Global, kind: Kind, count: usize) -> Result<Self, NoMemory>
+        ensures kind { IfOk result (λ column. kind_of_column column ≡ kind) }
+        ensures values { IfOk result (λ column. values_of_column column ≡ []) }
     {
         match kind {
-            Kind::Int => ColumnValues::Numbers(Vec::new(alloc)),
-            Kind::Text => ColumnValues::Texts(Texts::new(alloc)),
+            Kind::Int => Ok(ColumnValues::Numbers(Vec::with_capacity(alloc, count)?)),
+            Kind::Text => Ok(ColumnValues::Texts(Texts::with_room(alloc, count)?)),
         }
     }
 

@@ -57,18 +57,20 @@ impl Columns {
         }
     }
 
-    /// No rows, whose values will be of these kinds.
-    pub(crate) fn new(alloc: Global, kinds: &[Kind]) -> Result<Columns, NoMemory>
+    /// No rows, whose values will be of these kinds, with room for so many.
+    pub(crate) fn with_room(
+        alloc: Global,
+        kinds: &[Kind],
+        count: usize,
+    ) -> Result<Columns, NoMemory>
         ensures { IfOk result (λ columns. columns ≡ record { kinds = kinds.now; rows = [] }) }
     {
         let mut values = Vec::with_capacity(alloc, kinds.len())?;
         for kind in kinds {
-            values.push(ColumnValues::new(alloc, *kind))?;
+            values.push(ColumnValues::with_room(alloc, *kind, count)?)?;
         }
-        Ok(Columns {
-            periods: Vec::new(alloc),
-            values,
-        })
+        let periods = Vec::with_capacity(alloc, count)?;
+        Ok(Columns { periods, values })
     }
 
     /// How many rows there are.

@@ -344,7 +344,7 @@ fn push_alike(
     ensures err { OnErr result (columns.new.rows ≡ columns.old.rows) }
 {
     if columns.is_empty() {
-        *columns = Columns::new(alloc, &kinds_of(alloc, values)?)?;
+        *columns = Columns::with_room(alloc, &kinds_of(alloc, values)?, 1)?;
     }
     if columns.are_of(values) {
         columns.push(period, values)?;

@@ -17,6 +17,8 @@ use std::marker::Model;
 pub struct RowReader<'a> {
     alloc: Global,
     schema: &'a Schema,
+    /// How many rows the first one makes room for.
+    room: usize,
     rows: Columns,
 }
 
@@ -34,13 +36,14 @@ impl<'a> Model for RowReader<'a> {
 }
 
 impl<'a> RowReader<'a> {
-    /// No row yet, of these columns.
-    pub fn new(alloc: Global, schema: &'a Schema) -> Self
+    /// No row yet, of these columns. The first one makes room for so many.
+    pub fn new(alloc: Global, schema: &'a Schema, room: usize) -> Self
         ensures { result ≡ record { columns = schema.entry.now; rows = [] } }
     {
         RowReader {
             alloc,
             schema,
+            room,
             rows: Columns::empty(alloc),
         }
     }
@@ -56,12 +59,14 @@ impl<'a> RowReader<'a> {
         let RowReader {
             alloc,
             schema,
+            room,
             mut rows,
         } = self;
-        match add_row(alloc, schema, &mut rows, fields) {
+        match add_row(alloc, schema, room, &mut rows, fields) {
             Ok(()) => Ok(RowReader {
                 alloc,
                 schema,
+                room,
                 rows,
             }),
             Err(Failure::Refused(refused)) => Err(Failure::Refused(refused)),
@@ -80,10 +85,12 @@ impl<'a> RowReader<'a> {
     }
 }
 
-/// Adds the row of the fields, up to the first that is refused anything.
+/// Adds the row of the fields, up to the first that is refused anything. The first row makes room for
+/// so many.
 fn add_row<L: Fields>(
     alloc: Global,
     schema: &Schema,
+    room: usize,
     rows: &mut Columns,
     fields: L,
 ) -> Result<(), Failure<RowRefused>>
@@ -96,7 +103,7 @@ fn add_row<L: Fields>(
         (row_of schema.now (L.fields fields)) (Err failure)) }
 {
     if rows.is_empty() {
-        *rows = Columns::new(alloc, &schema.kinds(alloc)?)?;
+        *rows = Columns::with_room(alloc, &schema.kinds(alloc)?, room)?;
     }
     rows.read(schema.as_slice(), fields)
 }

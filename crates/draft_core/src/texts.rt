@@ -32,14 +32,14 @@ impl Model for Texts {
 }
 
 impl Texts {
-    /// No texts.
-    pub(crate) fn new(alloc: Global) -> Self
-        ensures { result ≡ [] }
+    /// No texts, with room for the ends of so many.
+    pub(crate) fn with_room(alloc: Global, count: usize) -> Result<Self, NoMemory>
+        ensures { IfOk result (λ texts. texts ≡ []) }
     {
-        Texts {
+        Ok(Texts {
             bytes: Vec::new(alloc),
-            ends: Vec::new(alloc),
-        }
+            ends: Vec::with_capacity(alloc, count)?,
+        })
     }
 
     /// How many there are.

@@ -1,5 +1,5 @@
 //! The rows of a load.
-ghost use Rattle.std.specs.Prelude.{◌≡◌, ◌+◌, ◌<◌, ◌^◌, ◌++◌, ◌∷◌, [], IfOk, Ok, MatchResult, length};
+ghost use Rattle.std.specs.Prelude.{◌≡◌, ◌+◌, ◌<◌, ◌≤◌, ◌^◌, ◌++◌, ◌∷◌, [], IfOk, Ok, MatchResult, length};
 ghost use Rattle.std.specs.List.{enumerate_from};
 ghost use Rattle.share_core.specs.Pieces.{piece};
 ghost use Rattle.row_core.specs.declared.draft.Draft.{Draft as AnyDraft};
@@ -39,19 +39,20 @@ fn read_next<'s>(
     }
 }
 
-/// The rows of some records of a load, the first of them of this number.
+/// The rows of some records of a load, the first of them of this number, with room for so many.
 fn rows_of_records(
     alloc: Global,
     schema: &Schema,
     lines: Lines<'_>,
     number: u64,
+    room: usize,
 ) -> Result<Drafts, Failure>
     requires { number + length (lines_in lines) < 2 ^ 64 }
     ensures { MatchResult result
         (λ rows. loaded_rows schema.now number (lines_in lines.entry) ≡ Ok rows)
         (IsFailureOf (loaded_rows schema.now number (lines_in lines.entry))) }
 {
-    let mut reader = RowReader::new(alloc, schema);
+    let mut reader = RowReader::new(alloc, schema, room);
     for place in 0..lines.len() {
         let line = lines.get(place);
         reader = read_next(reader, line, number + place as u64)?;
@@ -72,15 +73,31 @@ fn rows_in_range(
     ensures { IfOk result (λ read. drafts_told schema.now
         (piece places (enumerate_from number (lines_in lines.entry))) ≡ read) }
 {
-    let (from, to) = places_within(places, lines.len());
-    match rows_of_records(alloc, schema, lines.range(from, to), number + from as u64) {
+    let count = lines.len();
+    let (from, to) = places_within(places, count);
+    let room = room_of(from, to, count);
+    match rows_of_records(
+        alloc,
+        schema,
+        lines.range(from, to),
+        number + from as u64,
+        room,
+    ) {
         Ok(rows) => Ok(Ok(rows)),
         Err(Failure::Refused(fault)) => Ok(Err(fault)),
         Err(Failure::NoMemory) => Err(AllocError),
     }
 }
 
-/// The rows that ranges of records gave, behind one another, or the first range's fault that has one.
+/// For how many rows the range from one place on and before another makes room, where a load has so many records:
+/// the first range for all, since the rows of the others are put after its own.
+fn room_of(from: usize, to: usize, count: usize) -> usize
+    requires { from ≤ to }
+{
+    if from == 0 { count } else { to - from }
+}
+
+/// The rows that ranges of records gave, one after another, or the first range's fault that has one.
 fn in_one_list(alloc: Global, ranges: Vec<Result<Drafts, Fault>>) -> Result<Drafts, Failure>
     ensures { MatchResult result (λ rows. all_drafts ranges.items ≡ Ok rows)
         (IsFailureOf (all_drafts ranges.items)) }
@@ -108,10 +125,11 @@ pub(crate) fn loaded_rows<T: Threads + Sync>(
         (IsFailureOf (loaded_rows schema.now number (lines_in lines.entry))) }
 {
     let Crew { rt, alloc, .. } = *crew;
-    let shares = Shares::of(alloc, lines.len(), crew.workers, &|place: usize| place)?;
+    let count = lines.len();
+    let shares = Shares::of(alloc, count, crew.workers, &|place: usize| place)?;
     if shares.len() == 1 {
         // Most loads are of a row or a few, which no list of ranges is made for.
-        return rows_of_records(alloc, schema, lines, number);
+        return rows_of_records(alloc, schema, lines, number, count);
     }
     let ranges = shared_out(
         rt,

@@ -106,14 +106,14 @@ fn read_more_rows(alloc: Global) -> Result<(), Ended> {
     let long = b"a text of more than fourteen bytes";
     let first = fields(alloc, &[b"2024-01-01", b"2024-01-02", b"7", long])?;
     let second = fields(alloc, &[b"2024-01-02", b"2024-01-03", b"8", b"y"])?;
-    let reader = RowReader::new(alloc, &schema)
+    let reader = RowReader::new(alloc, &schema, 1)
         .read(first.as_slice())?
         .read(second.as_slice())?;
     let rows = reader.into_rows();
     let values = rows.get(1).ok_or(Ended::Wrong)?.values(alloc)?;
     let want = [Value::Int(8), text(alloc, b"y")?];
     holds(rows.len() == 2 && values.as_slice() == want.as_slice())?;
-    let reader = RowReader::new(alloc, &schema).read(first.as_slice())?;
+    let reader = RowReader::new(alloc, &schema, 1).read(first.as_slice())?;
     let narrow = first.get(..3).ok_or(Ended::Wrong)?;
     refuses(reader.read(narrow), RowRefused::WrongWidth)
 }

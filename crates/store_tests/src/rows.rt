@@ -155,7 +155,7 @@ fn fields_of(rt: &(impl Abort + Alloc<A = Global>), number: usize, letters: usiz
 #[test]
 fn reads_rows_one_after_another(rt: HostRuntime) {
     let schema = columns(&rt);
-    let mut reader = RowReader::new(rt.alloc(), &schema);
+    let mut reader = RowReader::new(rt.alloc(), &schema, 1_000);
     for number in 0..2_100 {
         let fields = fields_of(&rt, number, number % 20);
         reader = reader.read(&fields[..]).expect(&rt, "a row");

@@ -1,6 +1,6 @@
 use Rattle.std.proofs.Common.{◌≡◌, map, take}
 use Rattle.draft_core.specs.Columns.{kind_of_column}
-use Rattle.draft_core.proofs.columns.Columns.new.Given as goal
+use Rattle.draft_core.proofs.columns.Columns.with_room.Given as goal
 
 -- the kinds so far
 abbrev pub invariant-loop-kind : goal.invariant-loop-kind
