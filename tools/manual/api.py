@@ -15,7 +15,7 @@ HEAD = [
     "# API", "",
     "For who calls `ruzgalt` from Python: what it offers, call by call. [FRAMES](FRAMES.md) is the page to read first: "
     "what the calls are for, which kinds of columns there are, what is refused. `tools/make-api` makes this page of "
-    "the docstrings, which `help(ruzgalt.join)` prints; tests run the examples, behind `import pandas as pd` and "
+    "the docstrings, which `help(ruzgalt.join)` prints; tests run the examples, after `import pandas as pd` and "
     "`import ruzgalt`.",
 ]
 
@@ -32,7 +32,7 @@ def page() -> Iterator[str]:
 
 
 def subjects() -> Iterator[Tuple[str, Any]]:
-    """What is public, by its name: calls and classes, each class with its methods behind it."""
+    """What is public, by its name: calls and classes, each class with its methods after it."""
     for name in ruzgalt.__all__:
         if name not in NO_CALLS:
             subject = getattr(ruzgalt, name)
@@ -42,7 +42,7 @@ def subjects() -> Iterator[Tuple[str, Any]]:
 
 
 def methods(name: str, subject: type) -> Iterator[Tuple[str, Any]]:
-    """Those that a class of the package defines, and that are for its users; what it stands on comes behind."""
+    """Those that a class of the package defines, and that are for its users; what it stands on comes after them."""
     bases = [base for base in inspect.getmro(subject) if base.__module__.startswith("ruzgalt.")]
     for word, one in (pair for base in bases for pair in vars(base).items()):
         is_method = inspect.isfunction(one) or isinstance(one, (classmethod, property))

@@ -65,7 +65,7 @@ def cells_of(row: str) -> List[str]:
 
 
 def table(rows: Sequence[str]) -> Iterator[str]:
-    """An item for each row. What stands in its third cell and behind is named by the table's head."""
+    """An item for each row. What stands in its third cell and after it is named by the table's head."""
     cells = [cells_of(row) for row in rows]
     heads = [head.capitalize() for head in cells[0]]
     for first, second, *others in cells[2:]:

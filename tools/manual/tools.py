@@ -80,7 +80,7 @@ def load() -> Iterator[str]:
 
 
 def synopsis(parser: ArgumentParser) -> List[str]:
-    """The command, and what stands behind it without a hyphen."""
+    """The command, and what stands after it without a hyphen."""
     given = [action for action in parser._actions if not action.option_strings]
     names = " ".join(rf"[\fI{one.metavar}\fR ..]" if one.nargs == "*" else rf"\fI{one.metavar}\fR" for one in given)
     return [rf"\fB{prose(parser.prog)}\fR {names} [\fIOPTION\fR ..] < \fIFILE\fR"]
