@@ -33,7 +33,7 @@ def rows_at(frame: Any, rows: Ints, is_wide: bool = False) -> Any:
 
 
 def labels_at(frame: Any, rows: Ints, is_wide: bool = False) -> Any:
-    labels = frame.index.to_flat_index().to_series(pd.RangeIndex(len(frame)))
+    labels = frame.index.to_flat_index().to_series(index=pd.RangeIndex(len(frame)))
     return rows_at(labels.to_frame(), rows, is_wide).iloc[:, 0]
 
 

@@ -86,6 +86,9 @@ class Unmatched(unittest.TestCase):
         levels = left.set_axis(pd.MultiIndex.from_tuples([("a", 1)]))
         got = ruzgalt.join(levels, right, on="k", how="left", labels=True)
         self.assertEqual(got["left_label"].tolist(), [("a", 1)])
+        for labels in (DAYS[:1], DAYS[:1].tz_localize("Europe/Berlin")):
+            got = ruzgalt.join(left.set_axis(labels), right, on="k", how="outer", labels=True)
+            self.assertEqual((got["left_label"].dtype, got["left_label"].tolist()), (labels.dtype, [labels[0], pd.NaT]))
 
     def test_a_compared_level_is_a_column(self):
         left, right = frame({"k": [1, 2]}).set_index("k"), frame({"k": [2, 3]}).set_index("k")
