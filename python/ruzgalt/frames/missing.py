@@ -42,12 +42,19 @@ def either(one: Any, other: Any, places: Sequence[Ints], is_wide: bool = False) 
     is_first = places[0] >= 0
     rows = [places[0][is_first], places[1][~is_first]]
     parts = [column.take(own) for column, own in zip((one, other), rows) if len(own)]
-    made = pd.concat(parts or [one.iloc[:0]], ignore_index=True)
-    dtype = pd.concat([one.iloc[:0], other.iloc[:0]]).dtype if is_wide else made.dtype
+    made = concatenated(parts or [one.iloc[:0]])
+    dtype = concatenated([one.iloc[:0], other.iloc[:0]]).dtype if is_wide else made.dtype
     for column, own in zip((one, other), rows):
         refuse_rounded(column, own, dtype)
     order = np.argsort(np.concatenate([np.flatnonzero(is_first), np.flatnonzero(~is_first)]))
     return made.astype(dtype).take(order).reset_index(drop=True)
+
+
+def concatenated(parts: Sequence[Any]) -> Any:
+    """The cells one after another. True beside numbers stays True, in objects; pandas 1.5 makes 1 of it, and warns."""
+    is_bool = [part.dtype == bool for part in parts]
+    kept = [part.astype(object) for part in parts] if any(is_bool) and not all(is_bool) else parts
+    return pd.concat(kept, ignore_index=True)
 
 
 def refuse_rounded(column: Any, rows: Ints, dtype: Any) -> None:

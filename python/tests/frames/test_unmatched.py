@@ -66,6 +66,13 @@ class Unmatched(unittest.TestCase):
                     wanted = wanted.astype({"k": one.dtype}) if how == "left" else wanted
                     pd.testing.assert_frame_equal(got.drop(columns=["from", "to"]), wanted)
 
+    def test_true_beside_numbers_stays_true(self):
+        bools, numbers = frame({"k": [True, False]}), frame({"k": [1, 2]})
+        for left, right, wanted in ((bools, numbers, [True, False, 2]), (numbers, bools, [1, 2, False])):
+            with self.subTest(wanted):
+                got = ruzgalt.join(left, right, on="k", how="outer")["k"]
+                self.assertEqual((got.dtype, list(map(repr, got))), (object, list(map(repr, wanted))))
+
     def test_a_number_that_a_float_does_not_hold_is_refused(self):
         left = frame({"k": [1, 2, 3], "x": [2**53, 2**53 + 1, 2**62]})
         for how, keys, wanted in (("left", [2, 9], [2**53, 2**53 + 1, 2**62]), ("right", [2], [2**53 + 1])):
