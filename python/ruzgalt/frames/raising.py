@@ -19,6 +19,9 @@ if TYPE_CHECKING:
     from ruzgalt.frames.book import Book
     from ruzgalt.frames.tables import Table
 
+# What is done in place of a raise of a column that may have missing cells.
+OF_ROWS = "take rows(), .dropna() to leave such rows out, and give update_rows what they come to"
+
 
 class Raising:
     """The part of a store that raises amounts."""
@@ -112,7 +115,7 @@ def raise_of(book: Book, table: Table, column: Any, how: Any, which: Any) -> rai
     first, behind = map(points.text_of, table.portion(start, end))
     where, rounding = which
     fields = condition(table, where)[1:]
-    table.column(column)
+    table.refuse_missing(column, "would be raised too", OF_ROWS)
     if rounding is not None:
         checks.one_of("round", rounding, ROUNDINGS)
     wish = raises.Wish(

@@ -193,7 +193,7 @@ class Store(Asking, Raising, Written):
             How many decimals a column of floats or Decimals has, as `{"hours": 2}`.
         missing : dict, optional
             What stands in the store for a missing cell of a column, as `{"note": "?"}`: a value that no cell has. It
-            comes back as missing; such a column isn't compared or added up.
+            comes back as missing; such a column isn't compared, added up or raised.
         label : str, optional
             What the change's commit is called, of several the last one: as_of= takes it. No other commit has it.
         day : str, date, datetime, Timestamp or Period, optional

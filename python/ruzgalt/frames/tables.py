@@ -19,6 +19,9 @@ from ruzgalt.frames.singles import Cell
 from ruzgalt.frames.values import Texts, Values
 from ruzgalt.script import forms, naming
 
+# What is done in place of a question about a column that may have missing cells.
+OF_FRAMES = "take rows(), .dropna() to leave such rows out, and ruzgalt.join, anti or agg"
+
 
 @dataclass(frozen=True)
 class Table:
@@ -131,10 +134,9 @@ class Table:
         given = self.options.missing.get(same(name))
         return None if given is None else stand_ins.of_column(self.column(name), given)
 
-    def refuse_missing(self, name: Any, doing: str) -> None:
+    def refuse_missing(self, name: Any, doing: str, remedy: str = OF_FRAMES) -> None:
         """Raises Refused where the column isn't there, or may have missing cells, which this can't be done with."""
         if self.stand_in(name) is not None:
-            remedy = "take rows(), .dropna() to leave such rows out, and ruzgalt.join, anti or agg"
             raise Refused("WrongKind", f"it has missing cells, and their value {doing}; {remedy}", name)
 
     # What the table's points become.

@@ -91,6 +91,7 @@ class StandIns(unittest.TestCase):
         for call in (
             lambda: store.join("t", "t", on="whole"), lambda: store.anti("t", "t", left_on="whole", right_on="k"),
             lambda: store.agg("t", "sum", "whole"), lambda: store.agg("t", {"whole": ["count"]}),
+            lambda: store.raise_by("t", "whole", 100, "2024-01-10"),
         ):
             self.refuses("WrongKind", "whole", ".dropna()", call)
         self.refuses("BadCommand", "whole", "key", lambda: made(key=["k", "whole"]))
