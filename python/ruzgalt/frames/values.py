@@ -19,7 +19,7 @@ import numpy as np
 import pandas as pd
 
 from ruzgalt.frames import arrow, printing
-from ruzgalt.frames.arrays import Cells, Ints, of_objects
+from ruzgalt.frames.arrays import Cells, Ints, Marks, of_objects
 from ruzgalt.frames.errors import Refused, refuse
 from ruzgalt.frames.printing import Printed
 from ruzgalt.script import forms
@@ -254,8 +254,17 @@ def scaled(column: Any, digits: int) -> Ints:
         refuse(~(np.abs(whole) < 2.0**bits), column, "BadNumber", reason)
         reason = f"not exactly a number of {digits} decimals; give more by decimals=, or .round({digits}) it"
         refuse((whole / 10.0**digits).astype(dtype) != cells, column, "BadNumber", reason)
+        reason = f"in the {bits} bits of a float it is another number of {digits} decimals too; use Decimals"
+        refuse(are_shared(whole, digits, dtype), column, "BadNumber", reason)
     numbers: Ints = whole.astype(np.int64)
     return numbers
+
+
+def are_shared(whole: Cells, digits: int, dtype: Any) -> Marks:
+    """Which whole numbers of 10^-digits are the same float of this dtype as the next one below or above."""
+    below, own, above = (((whole + step) / 10.0**digits).astype(dtype) for step in (-1, 0, 1))
+    marked: Marks = (below == own) | (own == above)
+    return marked
 
 
 def scaled_decimals(column: Any, digits: int) -> Ints:
@@ -287,8 +296,10 @@ def unscaled(cells: Cells, column: Values) -> Any:
     digits, dtype = column.digits or 0, column.dtype
     if dtype == object:
         return of_objects([decimal.Decimal(f"{int(cell)}E-{digits}") for cell in cells])
-    bits = np.finfo(getattr(dtype, "numpy_dtype", dtype)).nmant + 1
-    if len(cells) and max(abs(int(cells.max())), abs(int(cells.min()))) >= 2**bits:
+    own = getattr(dtype, "numpy_dtype", dtype)
+    bits = np.finfo(own).nmant + 1
+    is_large = len(cells) and max(abs(int(cells.max())), abs(int(cells.min()))) >= 2**bits
+    if is_large or are_shared(cells.astype("f8"), digits, own).any():
         reason = f"the answer has a number too large for the {bits} bits of a float: use Decimals"
         raise Refused("BadNumber", reason, column.name)
     return pd.Series(cells.astype("f8") / 10.0**digits).astype(dtype).array

@@ -155,6 +155,18 @@ class Values(unittest.TestCase):
                 self.assertEqual(found.codes.tolist()[:3], [10, -1234, 29])
                 pd.testing.assert_series_equal(pd.Series(found.restored(found.codes)), column)
 
+    def test_a_float_of_two_numbers_is_refused(self):
+        """From 2^17 on cents are nearer to one another than floats of 32 bits are."""
+        cells = np.array([131071.99, 140000.0, 140000.01, 140000.02], "f4")
+        self.assertEqual(values.values_of(pd.Series(cells[:2]), 2).codes.tolist(), [13_107_199, 14_000_000])
+        for dtype in ("float32", "Float32"):
+            column = pd.Series(cells, dtype=dtype)
+            with self.subTest(dtype), self.assertRaisesRegex(ruzgalt.Refused, "another number of 2 decimals too"):
+                values.values_of(column, 2)
+            found = values.values_of(column.iloc[:2], 2)
+            with self.assertRaisesRegex(ruzgalt.Refused, "24 bits of a float: use Decimals"):
+                found.restored(found.codes + 2)
+
     def test_hashes_are_the_same_on_each_machine(self):
         numbers = values.Values("k", "int", np.array([-1, 0, 2**40], np.int64))
         texts = values.Values("k", "text", np.array([0, 1, 2], np.int64), values.Texts(["", "a\0b", "é"]))
