@@ -65,8 +65,8 @@ def paired(asked: Pairs, left: Any, right: Any, on: Names, options: Options) -> 
     if not names[0]:
         raise Refused("BadCommand", "frames of Dask need on=: without it, each row may meet each")
     frames = [with_labels_flat(frame) for frame in (left, right)]
-    doubts.of_decimals(options.decimals, *frames)
     metas = [frame._meta if isinstance(frame, dd.DataFrame) else frame.iloc[:0] for frame in frames]
+    doubts.of_decimals(options.decimals, *map(with_levels, metas, names))
     meta = asked(metas[0], metas[1], on, options)
     with keeping_objects(meta, *metas):
         spread = [frame if isinstance(frame, dd.DataFrame) else as_one(frame) for frame in frames]
@@ -84,7 +84,7 @@ def with_labels_flat(frame: Any) -> Any:
 
 def agg(frame: Any, measures: Measures, options: Options) -> Any:
     """Of groups: those in a partition are in order, and partitions are in none."""
-    doubts.of_decimals(options.decimals, frame)
+    doubts.of_decimals(options.decimals, with_levels(frame._meta, options.by or ()))
     meta = groups.agg_part(frame._meta, measures, options)
     with keeping_objects(meta, frame._meta):
         parts = options.parts or frame.npartitions
@@ -103,7 +103,7 @@ def grouped(asked: Callable[..., Any], frame: Any, more: Sequence[Any], options:
     """What is asked of each group's rows: of a frame of pandas, what else there is, and options."""
     if not options.by:
         raise Refused("BadCommand", "a frame of Dask needs by=: without it, all rows belong together")
-    doubts.of_decimals(options.decimals, frame)
+    doubts.of_decimals(options.decimals, with_levels(frame._meta, options.by or ()))
     meta = asked(frame._meta, *more, options)
     with keeping_objects(meta, frame._meta):
         parts = options.parts or frame.npartitions

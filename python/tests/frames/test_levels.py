@@ -1,6 +1,7 @@
 """Levels of an index in on= and by=, as pandas.merge and groupby take them."""
 import importlib.util
 import unittest
+import warnings
 
 import pandas as pd
 
@@ -94,6 +95,12 @@ class Levels(unittest.TestCase):
         self.assertEqual((got.index.name, sorted(got.index)), ("k", ["a", "b"]))
         got = ruzgalt.agg(left, "sum", "x", by="k").compute().sort_values(["k", "from"]).reset_index(drop=True)
         pd.testing.assert_frame_equal(got, ruzgalt.agg(LEFT, "sum", "x", by="k"))
+        left = dd.from_pandas(in_index(LEFT.assign(n=[1.5, 2.5, 1.5]), "n").sort_index(), npartitions=2)
+        with warnings.catch_warnings():
+            warnings.simplefilter("error", ruzgalt.Doubt)
+            self.assertEqual(len(ruzgalt.join(left, left, on="n", decimals={"n": 1}).compute()), 5)
+            self.assertEqual(len(ruzgalt.agg(left, "count", by="n", decimals={"n": 1}).compute()), 4)
+            self.assertEqual(len(ruzgalt.coalesce(left, by="n", decimals={"n": 1}).compute()), 2)
 
 
 if __name__ == "__main__":
