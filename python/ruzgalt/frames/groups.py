@@ -68,7 +68,17 @@ def index_at(frame: Any, names: Sequence[Any], rows: Ints) -> Any:
     columns = groups_at(frame, names, rows)
     if len(columns) == 1:
         return pd.Index(columns[0][1], name=columns[0][0])
-    return pd.MultiIndex.from_arrays([cells for _, cells in columns], names=[name for name, _ in columns])
+    levels, codes = zip(*(level_of(cells) for _, cells in columns))
+    return pd.MultiIndex(levels, codes, names=[name for name, _ in columns])
+
+
+def level_of(cells: Any) -> Tuple[Any, Ints]:
+    """A level of an index, and the places of the cells in it. By numpy of texts, which pandas ends at a zero byte."""
+    if pd.api.types.infer_dtype(cells) == "string" and not isinstance(cells.dtype, pd.CategoricalDtype):
+        found, places = np.unique(np.asarray(cells, object), return_inverse=True)
+        return pd.Index(found, dtype=cells.dtype), places
+    made = pd.MultiIndex.from_arrays([cells])
+    return made.levels[0], made.codes[0]
 
 
 def side_of(frame: Any, asked: Measures, options: Options) -> Side:

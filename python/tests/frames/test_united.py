@@ -98,6 +98,11 @@ class Divisions(unittest.TestCase):
     def test_groups_of_several_columns(self):
         rows = frame(("2024-01-01", "2024-01-03", "a", 1), ("2024-01-02", "2024-01-05", "a", 2))
         self.assertEqual(ruzgalt.dip(rows, ["k", "x"]).count.to_dict(), {("a", 1): 1, ("a", 2): 1})
+        texts = ["a", "a\0", "a\0b", "b"]
+        several = pd.concat([frame(("2024-01-01", "2024-01-03", text, 1)) for text in reversed(texts)])
+        for dtype in (object, "string"):
+            count = ruzgalt.dip(several.astype({"k": dtype}), ["k", "x"]).count
+            self.assertEqual((count.index.tolist(), count.index.dtypes["k"]), ([(text, 1) for text in texts], dtype))
         self.assertEqual(ruzgalt.dip(rows.set_index("k"), "k").count.to_dict(), {"a": 2})
         self.assertEqual(len(ruzgalt.dip(rows.iloc[:0], "k").count), 0)
         with mock.patch.object(split, "ROWS", 1), self.assertRaises(ruzgalt.Refused) as caught:
