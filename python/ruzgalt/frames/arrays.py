@@ -23,6 +23,12 @@ def of_objects(cells: Sequence[Any]) -> Cells:
     return array
 
 
+def equal_to(cells: Cells, value: object) -> Marks:
+    """Which cells are this number or text: of a text itself numpy leaves out zero bytes at its end."""
+    marked: Marks = np.asarray(cells == (of_objects([value]) if isinstance(value, str) else value), bool)
+    return marked
+
+
 def joined(parts: List[Cells]) -> Cells:
     return parts[0] if len(parts) == 1 else np.concatenate(parts)
 

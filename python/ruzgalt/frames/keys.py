@@ -7,7 +7,7 @@ from typing import Any, Dict, Iterator, List, Optional, Sequence, Tuple
 import numpy as np
 
 from ruzgalt.frames import instants, points, zones
-from ruzgalt.frames.arrays import Cells, Ints, Marks, of_objects
+from ruzgalt.frames.arrays import Cells, Ints, Marks, equal_to, of_objects
 from ruzgalt.frames.errors import Refused
 from ruzgalt.frames.script import Command
 from ruzgalt.frames.sides import Side
@@ -73,7 +73,7 @@ def hits(table: Table, command: Command, there: Sequence[Cells], portion: Ints) 
     """On which of the rows an update or a delete of a portion acts."""
     is_hit: Marks = (there[1] < portion[1]) & (portion[0] < there[2])
     for place, value in pairs(table, command, fields.where_places(command.fields)).items():
-        is_hit &= there[3 + place] == value
+        is_hit &= equal_to(there[3 + place], value)
     return is_hit
 
 

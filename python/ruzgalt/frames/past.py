@@ -9,7 +9,7 @@ from ruzgalt.answers import changes, history
 from ruzgalt.checking.replay import Row, Version
 from ruzgalt.frames import points, script
 from ruzgalt.frames.answer import Column, Columns
-from ruzgalt.frames.arrays import Cells, Ints, of_objects
+from ruzgalt.frames.arrays import Cells, Ints, equal_to, of_objects
 from ruzgalt.frames.changes import condition
 from ruzgalt.frames.errors import Refused, doubt
 from ruzgalt.frames.kinds import Kind
@@ -62,7 +62,7 @@ def versions_of(asked: Asked, table: Table, wanted: Sequence[Tuple[int, str]]) -
     columns = asked.book.answer(question).block("ippcc" + table.readers)
     for place, value in wanted:
         own = columns[len(VERSION) + place]
-        is_wanted = own == (int(value) if own.dtype.kind == "i" else value)
+        is_wanted = equal_to(own, int(value) if own.dtype.kind == "i" else value)
         columns = [one[is_wanted] for one in columns]
     ids, start, end, made, closed, *cells = columns
     rows = rows_of(start, end, cells)

@@ -11,7 +11,7 @@ import numpy as np
 import pandas as pd
 
 from ruzgalt.frames import checks, singles, values
-from ruzgalt.frames.arrays import Cells
+from ruzgalt.frames.arrays import Cells, equal_to
 from ruzgalt.frames.errors import Refused, refuse
 from ruzgalt.frames.singles import Cell
 from ruzgalt.frames.values import Texts, Values
@@ -60,7 +60,7 @@ def without(column: Any, digits: Optional[int]) -> Values:
 
 def restored(column: Values, cells: Cells, stand_in: Optional[Cell]) -> Any:
     """The cells in the dtype that the column came from, or one with missing cells where that has none."""
-    is_missing = np.zeros(len(cells), bool) if stand_in is None else np.asarray(cells == stand_in, bool)
+    is_missing = np.zeros(len(cells), bool) if stand_in is None else equal_to(cells, stand_in)
     there = column.restored(cells[~is_missing])
     if not is_missing.any():
         return there

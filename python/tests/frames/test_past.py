@@ -97,6 +97,12 @@ class Past(unittest.TestCase):
         self.assertEqual(len(made.history("u", first="2024-04-02", last=8)), 4)
         self.assertEqual(list(made.history("t", points_as="date")["from"])[0].isoformat(), "2024-01-01")
 
+    def test_a_zero_byte_at_the_end_of_a_text_counts(self):
+        made, texts_of_t = ruzgalt.Store(), ["a", "a\0"]
+        made.table("t", pd.DataFrame({"from": DAY("2024-01-01"), "to": DAY("2024-02-01"), "k": texts_of_t}))
+        for text in texts_of_t:
+            self.assertEqual(made.history("t", {"k": text})["k"].tolist(), [text])
+
     def test_what_is_refused(self):
         made, bare = store(), ruzgalt.Store()
         bare.table("t", store().rows("t")[["from", "to"]])

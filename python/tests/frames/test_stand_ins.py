@@ -61,6 +61,11 @@ class StandIns(unittest.TestCase):
         self.assertEqual(list(map(str, rows["whole"])), ["7", "<NA>", "-1"])
         self.assertEqual(rows["note"].tolist(), ["a", None, ""])
 
+    def test_a_zero_byte_at_its_end_counts(self):
+        store, cells = ruzgalt.Store(), ["a", "a\0", None]
+        store.table("t", frame()[["from", "to"]].assign(note=cells), missing={"note": "a\0\0"})
+        self.assertEqual(store.rows("t")["note"].tolist(), cells)
+
     def test_changes_take_missing_values(self):
         store = made()
         store.update("t", "2024-01-10", "2024-01-11", {"whole": pd.NA, "note": None, "hours": float("nan")}, {"k": 1})

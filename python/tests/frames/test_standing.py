@@ -91,6 +91,12 @@ class Standing(unittest.TestCase):
             made.load("t", frame(k=["a\0", "a\0b"], cents=[1, 2]))
         self.assertEqual(len(made.rows("t")), 6)
 
+    def test_a_zero_byte_at_the_end_of_a_text_counts(self):
+        made = store(frame(k=["a\0", "b"], cents=[1, 2]))
+        self.assertEqual(made.update("t", "2024-01-01", None, {"cents": 5}, {"k": "a\0"}).closed, 1)
+        rows = made.rows("t")
+        self.assertEqual(dict(zip(rows["k"], rows["cents"])), {"a\0": 5, "b": 2})
+
     def test_a_commit_of_which_the_program_says_else_stops_the_store(self):
         done = standing.Standing.behind
 
