@@ -164,7 +164,10 @@ def counted(side: Side, options: Options) -> Side:
 
 
 def shown(side: Side, options: Options) -> Side:
-    """The rows with what clocks show in their zone. Raises Refused of times there, since an hour may be shown twice."""
+    """The rows with the days that they have in their zone, each from midnight on, though clocks may begin it at one.
+
+    Raises Refused of times there, since an hour may be shown twice.
+    """
     zone = side.kind.zone
     if zone is None:
         return side
@@ -173,7 +176,8 @@ def shown(side: Side, options: Options) -> Side:
         if has_time.any():
             reason = f"in {zone} days have 23 to 25 hours, so points must be days; .dt.floor('D') drops the time"
             raise Refused("BadPoint", reason, name, label_at(has_time, side.labels[side.places]))
-    return side.during(zones.walls_of(side.start, zone), zones.walls_of(side.end, zone))
+    walls = [zones.walls_of(seconds, zone) for seconds in (side.start, side.end)]
+    return side.during(*(one - one % zones.DAY for one in walls))
 
 
 def fractions(found: Shares, amount: Values) -> Any:

@@ -226,6 +226,12 @@ class LastDays(unittest.TestCase):
                 self.assertEqual(days_behind(wanted[:-1], zone).tolist(), wanted[1:].tolist())
                 self.assertEqual(days_before(wanted[1:], zone).tolist(), wanted[:-1].tolist())
 
+    def test_amounts_are_spread_by_days_where_one_begins_at_one(self):
+        """In São Paulo the fourth day began at one o'clock: of 30 days a row has the first three, another the rest."""
+        points = pd.to_datetime(["2018-11-01", "2018-11-04T01:00", "2018-12-01"]).tz_localize("America/Sao_Paulo")
+        rows = pd.DataFrame({"from": points[:2], "to": points[1:], "cents": [30, 60]})
+        self.assertEqual(ruzgalt.spread(rows, "cents", exact=True)["cents"].tolist(), [3 + 54])
+
     def test_a_time_is_refused_and_a_missing_end_is_none(self):
         days = pd.DataFrame({name: midnights("Europe/Berlin", "2024-03-31") for name in ("from", "to")})
         late = days.assign(to=days["to"] + pd.Timedelta(hours=1))
