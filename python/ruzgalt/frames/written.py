@@ -64,6 +64,9 @@ class Written:
 
     book: Book
 
+    def seen(self) -> Book:
+        raise NotImplementedError
+
     def script(self) -> Script:
         """All changes that were accepted, as ./dipq and tools/answers read them.
 
@@ -189,7 +192,7 @@ class Written:
         >>> store.picture("rows,pay", by="person").svg.count("<svg")
         1
         """
-        found = answered(self.book, question)
+        found = answered(self.seen(), question)
         if width is not None:
             width = checks.whole("width", width, 40, 100_000)
         limits = [None if point is None else instants.text_of(point) for point in (start, end)]
@@ -211,6 +214,10 @@ def answered(book: Book, question: Any) -> Sequence[Answer]:
         raise checks.wrong("question", question, "must be one question, not a change")
     output = running.answer([text], book.workers).tobytes()
     found = answers.of_commands(begun, output, is_own=True)
+    for place, one in enumerate(found[:-1]):
+        # Of a batch, whose changes aren't accepted yet.
+        if one.refusal:
+            raise book.refusal(place, ["error", "", one.refusal.name])
     if found[-1].refusal:
         raise refusal(Command(begun[-1].record.fields, []), ["error", "", found[-1].refusal.name])
     return found

@@ -64,6 +64,17 @@ class Written(unittest.TestCase):
         shown = self.store.picture("rows,pay", **words, **where).svg
         self.assertTrue('width="300"' in shown and "4800" in shown and "5000" not in shown, shown)
 
+    def test_a_picture_in_a_batch_is_of_its_changes(self):
+        with self.store.batch():
+            self.store.update("pay", "2024-01-01", None, {"cents": 77777}, {"person": "Grace"})
+            words = {"label": "cents", "where": {"person": "Grace"}}
+            self.assertIn("77777", self.store.picture("rows,pay", **words).svg)
+        with self.assertRaises(ruzgalt.Refused) as caught, self.store.batch():
+            self.store.load("pay", self.store.rows("pay").drop(columns="row_id"))
+            self.store.picture("rows,pay", by="person")
+        self.assertEqual(caught.exception.name, "KeyOverlap")
+        self.assertIn("both hold at", caught.exception.reason)
+
     def test_what_is_no_picture_is_refused(self):
         for question in (*NO_QUESTIONS, 5):
             with self.subTest(question), self.assertRaises(ruzgalt.Refused):
