@@ -111,6 +111,7 @@ def shown(group: Any) -> str:
 
 def dip(frame: Any, options: Options) -> Division[Any]:
     side = sides.side_of(frame, [], options.period, options.form, {})
+    doubts.of_decimals(options.decimals, frame)
     doubts.of_ends(side, [], options.period[-1], options.form.has_last_days)
     if not split.means_of(options.workers).fits([side]):
         limit = f"{len(side):,} rows, but a table can have {split.ROWS:,}, and a division can't be made in batches"

@@ -178,6 +178,7 @@ class Doubts(unittest.TestCase):
         words = {"on": "person", "decimals": {"eur": 2}}
         self.assertEqual(self.reported(lambda: ruzgalt.join(pay(), other, **words)), [])
         self.warns(lambda: ruzgalt.anti(pay(), pay(), **words), "'eur'")
+        self.warns(lambda: ruzgalt.dip(pay(), decimals={"eur": 2}), "'eur'")
 
     def test_frames_that_are_not_compared_in_their_only_common_column(self):
         left, right = pay(), pay().drop(columns="cents")
