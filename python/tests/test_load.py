@@ -257,6 +257,14 @@ class ManyValues(Case):
                 text = rows(*(f"{name},1,2024-01-01,2024-03-05" for name in names))
                 self.noted(f"Name is '{other}', and is loaded as that: it looks like '{form.format(250)}'", text)
 
+    def test_two_lines_of_one_field_are_no_number(self) -> None:
+        for form, words in (("{}.25", ["--decimals", "Pay=2"]), ("{}", ["--table", Tables.RECORD])):
+            numbers = [form.format(number) for number in range(10, 30)]
+            lines = [f"{number},{number},2024-01-01,2024-03-05" for number in numbers]
+            text = rows(*lines, f'A,"{numbers[0]}\n{numbers[1]}",2024-01-01,2024-03-05')
+            with self.subTest(form):
+                self.refused("line 22: Pay is '", text, *WORDS, *words, "--line-breaks")
+
     def test_numbers_past_the_store_s_are_refused(self) -> None:
         words = [*WORDS, "--decimals", "Pay=2"]
         text = rows("A,92233720368547758.08,2024-01-01,2024-03-05")

@@ -5,6 +5,7 @@ from operator import eq
 from typing import Dict, Optional, Sequence, Tuple
 
 from ruzgalt.loading.decimals import SPACES, number_in
+from ruzgalt.script.forms import in_lines
 from ruzgalt.script.records import visible
 
 # Marks of how a text runs, control characters, and ends of lines and paragraphs.
@@ -43,9 +44,8 @@ ROUNDED = re.compile(r"-?\d+(?:[.,]\d+)?[eE][+-]?\d+", re.ASCII)
 
 def are_plain(texts: Sequence[str]) -> bool:
     """Whether all of the texts look like themselves, at once; some that do are left out."""
-    lines = "\n".join([*texts, ""])
-    is_right = lines.count("\n") == len(texts) and "  " not in lines and " \n" not in lines
-    if not is_right or not LINES.fullmatch(lines) or "&" in lines and ENTITY.search(lines):
+    lines = in_lines(texts)
+    if "  " in lines or " \n" in lines or not LINES.fullmatch(lines) or "&" in lines and ENTITY.search(lines):
         return False
     return lines.isascii() or unicodedata.is_normalized("NFKC", lines) and not GARBLED.search(lines)
 

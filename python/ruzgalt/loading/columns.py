@@ -9,7 +9,7 @@ from ruzgalt.errors import Misfit
 from ruzgalt.loading import dates
 from ruzgalt.loading.dates import NO_END
 from ruzgalt.loading.decimals import SPACES, Scale
-from ruzgalt.script.forms import TEXT_LIMIT, is_integer, is_short
+from ruzgalt.script.forms import TEXT_LIMIT, in_lines, is_integer, is_short
 from ruzgalt.script.records import Printer, visible
 from ruzgalt.script.schemas import Kind
 
@@ -130,7 +130,7 @@ class Text(Column):
     def made_at_once(self, values: Sequence[str]) -> Sequence[str]:
         """Plain texts, none of which looks like another one, in quotes where they need them; or whole numbers."""
         if self.kind is Kind.INT:
-            return values if INTEGERS.fullmatch("\n".join([*values, ""])) else []
+            return values if INTEGERS.fullmatch(in_lines(values)) else []
         if not are_plain(values) or max(map(len, values)) > TEXT_LIMIT // 2 or not self.look_alikes.are_apart(values):
             return []
         # Of what stands in quotes they have commas alone.

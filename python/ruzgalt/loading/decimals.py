@@ -4,7 +4,7 @@ import shlex
 from typing import List, NamedTuple, Optional, Sequence
 
 from ruzgalt.errors import Misfit
-from ruzgalt.script.forms import is_integer
+from ruzgalt.script.forms import in_lines, is_integer
 
 # Spreadsheets part thousands by these too: a space, a no-break space, and a narrow one; Swiss ones by apostrophes.
 SPACES, APOSTROPHES = " \u00a0\u202f", "'\u2019"
@@ -113,7 +113,7 @@ class Scale:
     def at_once(self, texts: Sequence[str]) -> List[str]:
         """What numbers become that all have just these decimals, and can't be read in two ways; nothing of others."""
         form = rf"(?:\d{{1,12}}{re.escape(self.marks.mark)}\d{{{self.digits}}}\n)+"
-        lines = "\n".join([*texts, ""])
+        lines = in_lines(texts)
         if self.digits in (0, 3) or self.digits > 6 or not re.fullmatch(form, lines, re.ASCII):
             return []
         self.marks.is_settled, self.longest = True, max(self.longest, self.digits)

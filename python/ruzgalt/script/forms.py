@@ -2,7 +2,7 @@
 import re
 from datetime import datetime, timedelta
 from functools import lru_cache
-from typing import Optional
+from typing import Optional, Sequence
 
 POINT = re.compile(r"(\d{4})-(\d\d)-(\d\d)(?:T(\d\d):(\d\d):(\d\d))?", re.ASCII)
 INTEGER = re.compile(r"0|-?[1-9]\d*", re.ASCII)
@@ -89,6 +89,12 @@ def is_utf8(text: str) -> bool:
         return True
     except UnicodeEncodeError:
         return False
+
+
+def in_lines(texts: Sequence[str]) -> str:
+    """The texts, a line each, to be looked at together; nothing where one has a line end itself."""
+    lines = "\n".join([*texts, ""])
+    return lines if lines.count("\n") == len(texts) else ""
 
 
 def is_short(text: str) -> bool:
