@@ -265,6 +265,12 @@ class ManyValues(Case):
             with self.subTest(form):
                 self.refused("line 22: Pay is '", text, *WORDS, *words, "--line-breaks")
 
+    def test_a_text_with_too_many_bytes_is_refused_among_many(self) -> None:
+        names = [*(f"Person {number}" for number in range(20)), 1365 * "漢" + "A"]
+        self.assertEqual(len(self.made(names)), 21)
+        text = rows(*(f"{name},1,2024-01-01,2024-03-05" for name in [*names[:-1], 1366 * "漢"]))
+        self.refused("a text can have at most 4,096 bytes", text)
+
     def test_numbers_past_the_store_s_are_refused(self) -> None:
         words = [*WORDS, "--decimals", "Pay=2"]
         text = rows("A,92233720368547758.08,2024-01-01,2024-03-05")

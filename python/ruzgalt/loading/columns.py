@@ -18,6 +18,8 @@ TO_SPACE = str.maketrans(SPACES, " " * len(SPACES))
 
 # So few new values are made one by one.
 FEW = 8
+# So many characters are no text that is too long: none has more than four bytes.
+SHORT = TEXT_LIMIT // 4
 # What stands in quotes in a record.
 MARKED = re.compile('[,"\r\n]')
 # Whole numbers, a line each, that surely are some of the store.
@@ -131,7 +133,7 @@ class Text(Column):
         """Plain texts, none of which looks like another one, in quotes where they need them; or whole numbers."""
         if self.kind is Kind.INT:
             return values if INTEGERS.fullmatch(in_lines(values)) else []
-        if not are_plain(values) or max(map(len, values)) > TEXT_LIMIT // 2 or not self.look_alikes.are_apart(values):
+        if not are_plain(values) or max(map(len, values)) > SHORT or not self.look_alikes.are_apart(values):
             return []
         # Of what stands in quotes they have commas alone.
         return [f'"{value}"' if "," in value else value for value in values]
@@ -145,8 +147,7 @@ class Text(Column):
                 remedy = f"--decimals {self.name}={digits} makes other numbers whole"
                 raise Misfit(f"not a whole number, such as 5000; {remedy}")
             return made
-        # No character has more than four bytes.
-        if len(made) > TEXT_LIMIT // 4 and not is_short(made):
+        if len(made) > SHORT and not is_short(made):
             raise Misfit("a text can have at most 4,096 bytes")
         why = doubt_of(made, self.mark)
         other = self.look_alikes.other(made)
