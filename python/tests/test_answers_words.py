@@ -299,6 +299,15 @@ class Spreadsheets(ToolCase):
                     self.assertEqual(printed, (0, *one))
             self.check(["tools/answers", "csv", name, "--german"], "", 1, "answers: --german needs --for-spreadsheet")
 
+    def test_a_number_in_quotes_is_one_up_to_its_end(self) -> None:
+        said = "answers: a spreadsheet would run a field, -2,x: --for-spreadsheet prevents it\n"
+        for text, wanted in (("-2,50", ""), ("-2,x", said)):
+            row = f'2024-01-01,2024-02-01,"{text}"\n'
+            script = f"table,t,a,text\nload,t\nrow,{row}end\nrows,t\n"
+            with self.subTest(text), kept(f"ok,1\nok,2\nrow,1,{row}end,1\n") as answers:
+                found = run(["tools/answers", "csv", "-", "--answers", answers], script)
+                self.assertEqual(found, (0, f"row_id,valid_from,valid_to,a\n1,{row}", wanted))
+
 
 class Asked(ToolCase):
     def test_a_question_is_taken_beside_what_is_picked(self) -> None:

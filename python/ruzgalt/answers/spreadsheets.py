@@ -17,10 +17,10 @@ from ruzgalt.script.schemas import Kind, Table
 
 FORMULA = re.compile("(?![+-]\\Z)(?:[=+@\t\r\n\uff1d\uff0b\uff0d\uff20]|-(?!\\d+(?:[.,]\\d+)?\\Z))", re.ASCII)
 # What stands in the bytes of records of which a field may begin so: a sign, which is seldom there, or a minus after
-# what ends a field, where it isn't that of a number.
+# what ends a field, where it isn't that of a number. In quotes a number may go on behind its comma, so any minus may.
 SIGNS = (b"=", b"+", b"@", b"\t", b"\r", b"\xef\xbc")
 MINUSES = (b",-", b'"-', b"\n-")
-MAY_RUN = re.compile(rb"[,\n]\"?(?:[=+@\t\r]|\xef\xbc[\x8b\x8d\x9d\xa0]|-(?!\d+[,\n]))")
+MAY_RUN = re.compile(rb"[,\n](?:\"?(?:[=+@\t\r]|\xef\xbc[\x8b\x8d\x9d\xa0])|\"-|-(?!\d+[,\n]))")
 GUARD = "'"
 
 
