@@ -127,6 +127,9 @@ class Words(ToolCase):
         query = "select person, valid_to, sum(euros) as total from pay group by person"
         more = ["--query", query, "--decimals", "total=2", "--last-day"]
         self.check([*sqlite, *more], "", 0, 'person,last_day,total\n"Byron, Ada",2024-12-31,54.00\n')
+        query = "select valid_to, person as last_day, valid_to from pay where row_id = 2"
+        wanted = 'last_day,last_day_,last_day\n2024-12-31,"Hill, Grace",2024-12-31\n'
+        self.check([*sqlite, "--query", query, "--last-day"], "", 0, wanted)
 
 
 if __name__ == "__main__":

@@ -49,16 +49,11 @@ class Look(NamedTuple):
         return Table(columns, Rows(len(table.records), lambda: self.records(table.columns, table.records)))
 
     def columns(self, table: Table) -> List[Column]:
-        """Its columns: one that has last days is called so, and another of that name has a mark after it."""
+        """Its columns: those that have last days are called so, and another of that name has a mark after it."""
         if not self.has_last_days or END not in table.names:
             return table.columns
-        place = table.place(END)
-        names = table.names
-        others = naming.apart([LAST_DAY, *names[:place], *names[place + 1:]])[1:]
-        return [
-            Column(name, column.kind)
-            for name, column in zip([*others[:place], LAST_DAY, *others[place:]], table.columns)
-        ]
+        others = iter(naming.apart([LAST_DAY, *(name for name in table.names if name != END)])[1:])
+        return [Column(LAST_DAY if one.name == END else next(others), one.kind) for one in table.columns]
 
     def records(self, columns: Sequence[Column], records: Iterable[Row]) -> Iterator[Row]:
         looks = [self.look_of(column) for column in columns]
