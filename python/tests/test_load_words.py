@@ -68,6 +68,7 @@ class Loads(ToolCase):
     def test_a_spreadsheet_s_first_line_is_left_out(self) -> None:
         is_open = 'row,2024-12-01,9999-12-31,"Hill, Grace",500\n'
         self.check(GERMAN, "sep=;\n" + CSV.format("5", "1.12.2024 ", "31.12.9999"), 0, is_open)
+        self.check(LOADS, 'sep="\nName"Pay"Start"End\nA"1"2024-01-01"2024-03-05\n', 1, "it has 'sep=\"'")
 
     def test_stray_quotes_are_refused(self) -> None:
         stray = 'Name;Pay;Start;End\n"Hill" G;5;2024-01-01;2024-02-01\n'

@@ -13,7 +13,8 @@ from ruzgalt.errors import Misfit
 
 # Records are worked on by so many at once, a column after another.
 PIECE = 1 << 9
-SEPARATOR = re.compile(r'"?sep=(.)"?')
+# A quote separates nothing, since fields stand in them.
+SEPARATOR = re.compile(r'"?sep=([^"])"?')
 
 
 class Piece(NamedTuple):
