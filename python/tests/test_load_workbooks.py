@@ -114,6 +114,18 @@ class Workbooks(ToolCase):
         status, text, said = loaded(workbook({"A": [["From", "To", "N"], row]}), words)
         self.assertEqual((status, text), (0, f"load,t\nrow,2024-01-01,2024-02-01,{number}\nend\n"), said)
 
+    def test_the_number_of_a_cell_has_no_mark_that_shows_another_one_s(self) -> None:
+        for numbers in ([12.5], [number + 0.25 for number in range(20)]):
+            rows = [[date(2024, 1, 1), date(2024, 2, 1), value] for value in [*numbers, "7,500"]]
+            words = ["N", "--decimals", "N=2"]
+            status, text, said = loaded(workbook({"A": [["From", "To", "N"], *rows]}), words)
+            self.assertEqual((status, text), (1, "csv-to-load failed\n"))
+            self.assertIn(f"line {len(rows) + 1}: N is '7,500': its mark may separate thousands or decimals", said)
+            rows.append([*rows[0][:2], "1,234.50"])
+            status, text, said = loaded(workbook({"A": [["From", "To", "N"], *rows]}), words)
+            self.assertEqual((status, said), (0, ""))
+            self.assertTrue(text.endswith(",750000\nrow,2024-01-01,2024-02-01,123450\nend\n"), text)
+
     def test_a_formula_has_its_last_value(self) -> None:
         rows: List[List[Any]] = [["From", "To", "N"], [date(2024, 1, 1), date(2024, 2, 1), "=SUM(1,2)"]]
         status, text, said = loaded(computed(workbook({"A": rows}), "3"), ["N"])

@@ -34,6 +34,11 @@ WITH_UNIT = re.compile(
 NO_UNITS = ("k", "t", "m", "b", "bn", "mn", "mio", "mrd", "tsd", "keur", "teur", "k€", "t€", "m€", "cr", "dr", "s", "h")
 
 
+class Figure(str):
+    """The number of a workbook's cell as a text. The mark in it is the one that is given, and shows nothing of others.
+    """
+
+
 class Number(NamedTuple):
     """The digits of a number before its mark, and after it."""
 
@@ -76,7 +81,7 @@ class Marks:
         self.either: Optional["Either"] = None
 
     def look_at(self, name: str, text: str, bare: str, is_faulty: bool) -> None:
-        if self.is_settled or not ("." in bare or "," in bare):
+        if self.is_settled or isinstance(text, Figure) or not ("." in bare or "," in bare):
             return
         if not EITHER.fullmatch(bare):
             self.is_settled = True
@@ -105,7 +110,7 @@ class Scale:
         # Most numbers are as simple as this, and can't be read in two ways.
         if count != 3 and count <= self.digits and (whole + decimals).isdigit() and whole and bool(mark) == bool(count):
             if text.isascii() and len(whole) + self.digits <= LONGEST_NUMBER:
-                self.marks.is_settled = self.marks.is_settled or bool(mark)
+                self.marks.is_settled = self.marks.is_settled or bool(mark) and not isinstance(text, Figure)
                 self.longest = max(self.longest, count)
                 return (whole + decimals + "0" * (self.digits - count)).lstrip("0") or "0"
         return self.read(text)
@@ -116,7 +121,8 @@ class Scale:
         lines = in_lines(texts)
         if self.digits in (0, 3) or self.digits > 6 or not re.fullmatch(form, lines, re.ASCII):
             return []
-        self.marks.is_settled, self.longest = True, max(self.longest, self.digits)
+        self.marks.is_settled = self.marks.is_settled or not all(isinstance(text, Figure) for text in texts)
+        self.longest = max(self.longest, self.digits)
         digits = lines.replace(self.marks.mark, "")
         has_zeros = digits.startswith("0") or "\n0" in digits
         return list(map(str, map(int, digits.split()))) if has_zeros else digits.split()

@@ -13,6 +13,7 @@ from itertools import islice
 from typing import Any, Counter as Counts, Iterator, List, Optional, Sequence, Tuple
 
 from ruzgalt.errors import Misfit
+from ruzgalt.loading.decimals import Figure
 from ruzgalt.loading.sheets import PIECE, Piece, composed
 from ruzgalt.script.records import visible
 
@@ -106,7 +107,7 @@ def text_of_number(value: float, mark: str) -> str:
     whole, point, decimals = format(Decimal(format(value, ".15g")), "f").partition(".")
     decimals = decimals.rstrip("0")
     more = "0" if len(decimals) == 3 else ""
-    return f"{whole}{mark}{decimals}{more}" if decimals else whole
+    return Figure(f"{whole}{mark}{decimals}{more}" if decimals else whole)
 
 
 def sheet_of(data: bytes, name: Optional[str], has_values: bool) -> Any:
