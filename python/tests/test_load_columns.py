@@ -130,8 +130,12 @@ class Words(ToolCase):
             (["grade=New"], "not in the header: New"),
             (["note=Neu", *table], "Neu: pay has no column note; its columns are name, grade"),
             (["Name", "Neu", "--update", "Name"], "give the table's by NAME=Name or --table"),
+            (["name=Alt", "Name", *table], "Name: the table's column name is given twice"),
+            (["name=Alt", "Name", "--delete", "--table", table[1] + ",n,int"], "Name: the table's column name is"),
         ]:
             self.check([*self.LOADS, *words], self.FILE, 1, note)
+        file = self.FILE.replace("Alt", "old")
+        self.check([*self.LOADS, "old=Neu", "old", "--delete"], file, 1, "old: the table's column old is given twice")
 
     def test_a_load_takes_its_other_columns_by_their_names(self) -> None:
         table = ["--table", "table,pay,name,text,grade,text,key,name", "--drop-equal"]

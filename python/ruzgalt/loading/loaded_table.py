@@ -49,6 +49,7 @@ def fit(options: Namespace, schema: Schema, header: Sequence[str]) -> Tuple[Sche
     Fills the COLUMNs in where none is given, for deletes those of the key, and of a load those that stand beside
     renamed ones. Refuses columns that aren't the table's, as far as names show it.
     """
+    refuse_twins(options, schema.names)
     left_out: List[str] = []
     if options.renamed and not (options.update or options.delete):
         options.column = in_order(options, schema, header)
@@ -64,6 +65,14 @@ def fit(options: Namespace, schema: Schema, header: Sequence[str]) -> Tuple[Sche
     options.update = [name_of(name, of_file) for name in options.update]
     options.decimals = [(name_of(name, of_file), digits) for name, digits in options.decimals]
     return fitted, left_out
+
+
+def refuse_twins(options: Namespace, known: Sequence[str]) -> None:
+    """Refuses two COLUMNs for one of the table's, as far as its names are known: the values of one would be lost."""
+    names = [plain(name_for(options, column)) for column in options.column]
+    for place, name in enumerate(names):
+        if name in known and name in names[:place]:
+            raise Misfit(f"{visible(options.column[place])}: the table's column {name} is given twice")
 
 
 def key_of(schema: Schema) -> List[str]:

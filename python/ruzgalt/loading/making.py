@@ -11,7 +11,7 @@ from ruzgalt.errors import Misfit
 from ruzgalt.loading.columns import Column, End, Start, Text, form_of, mark_of, point_text
 from ruzgalt.loading.dates import as_good_swapped, shifted, without_half
 from ruzgalt.loading.decimals import Marks, Scale, readings
-from ruzgalt.loading.loaded_table import name_for
+from ruzgalt.loading.loaded_table import name_for, refuse_twins
 from ruzgalt.loading.sheets import Piece, Records
 from ruzgalt.script import records
 from ruzgalt.script.forms import is_name, read_point
@@ -243,6 +243,8 @@ class Load:
         if wrong and not self.is_load:
             remedy = f"give the table's by NAME={visible(wrong[0])} or --table"
             raise Misfit(f"{visible(wrong[0])} can't be the name of a table's column: {remedy}")
+        if not self.is_load:
+            refuse_twins(self.options, names)
         return names
 
     def records_of(self, columns: List[Sequence[str]]) -> List[str]:
