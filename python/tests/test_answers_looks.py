@@ -80,6 +80,15 @@ class Words(ToolCase):
         self.check([*sqlite, *query, "mean=2"], "", 1, "--decimals mean: 4800.0 isn't a whole number")
         self.check([*sqlite, *query, "cents=2"], "", 1, "cents: not a column of numbers; those are mean, euros")
 
+    def test_a_column_s_own_name_says_its_decimals_before_that_of_another(self) -> None:
+        script = "table,t,cents,int,sum_cents,int\nload,t\nrow,2024-01-01,2024-02-01,500,7\nend\nrows,t\n"
+        words = ["--decimals", "cents=2", "--decimals", "sum_cents=0"]
+        with kept("ok,1\nok,2\nrow,1,2024-01-01,2024-02-01,500,7\nend,1\n") as answers:
+            csv = ["tools/answers", "csv", "-", "--answers", answers]
+            for given_words in (words, [*words[2:], *words[:2]]):
+                self.check([*csv, *given_words], script, 0, "1,2024-01-01,2024-02-01,5.00,7\n")
+            self.check([*csv, *words, "--decimals", "cents=0"], script, 1, "--decimals cents: given twice")
+
     def test_an_end_with_a_time_is_no_last_day(self) -> None:
         script = "table,t,n,int\nload,t\nrow,2024-01-01,2024-01-02T08:00:00,1\nend\nrows,t\n"
         answered = "ok,1\nok,2\nrow,1,2024-01-01,2024-01-02T08:00:00,1\nend,1\n"

@@ -17,18 +17,21 @@ class Amounts:
     is_german: bool = False
 
     def of(self, name: str) -> Optional[int]:
-        """The decimals of a column, by its own name or by that of the table's which it was made of."""
+        """The decimals of a column, by its own name, or else by that of the table's which it was made of."""
         names = [name, *(name[len(word):] for word in BEFORE if name.startswith(word))]
-        return next((digits for column, digits in self.digits if column in names), None)
+        return next((digits for one in names for column, digits in self.digits if column == one), None)
 
     def refuse_strangers(self, *tables: Table) -> None:
-        """A name that no column of numbers has would be taken for used."""
+        """A name that no column of numbers has would be taken for used, and so would a second number for one."""
+        names = [name for name, _ in self.digits]
         columns = (column for table in tables for column in table.columns if column.kind is Kind.INT)
         known = list(dict.fromkeys(column.name for column in columns))
         for name, _ in self.digits:
             if not any(Amounts([(name, 0)]).of(one) == 0 for one in known):
                 there = f"those are {', '.join(known)}" if known else "there are none"
                 raise Misfit(f"--decimals {name}: not a column of numbers; {there}")
+            if names.count(name) > 1:
+                raise Misfit(f"--decimals {name}: given twice")
 
     def known_to(self, table: Table) -> "Amounts":
         """Only the columns that the table has."""
