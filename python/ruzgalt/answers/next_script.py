@@ -50,6 +50,8 @@ def schema_of(answer: Answer, wish: Wish) -> Tuple[List[int], Schema]:
     for name in wish.key:
         if name not in names:
             raise Misfit(f"--key {short(name)}: not one of the table's columns {', '.join(names)}")
+        if wish.key.count(name) > 1:
+            raise Misfit(f"--key {name}: given twice")
     columns = (Column(name, kind_of(answer, place)) for name, place in zip(names, places))
     return places, Schema(wish.table, tuple(columns), tuple(map(names.index, wish.key)))
 
