@@ -72,14 +72,15 @@ def workbook(sheets: Dict[str, Sequence[Sequence[Any]]]) -> bytes:
     return data.getvalue()
 
 
-def computed(data: bytes, value: str) -> bytes:
-    """The workbook with a value behind each formula, which openpyxl doesn't write."""
+def computed(data: bytes, value: str, kind: str = "n") -> bytes:
+    """The workbook with a value of a kind behind each formula, which openpyxl doesn't write."""
     made = io.BytesIO()
     with zipfile.ZipFile(io.BytesIO(data)) as old, zipfile.ZipFile(made, "w") as new:
         for name in old.namelist():
             text = old.read(name)
             for empty in (b"</f><v></v>", b"</f><v />", b"</f><v/>"):
                 text = text.replace(empty, b"</f><v>%s</v>" % value.encode())
+            text = text.replace(b"><f>", b' t="%s"><f>' % kind.encode())
             new.writestr(name, text)
     return made.getvalue()
 
@@ -131,6 +132,8 @@ class Workbooks(ToolCase):
         status, text, said = loaded(computed(workbook({"A": rows}), "3"), ["N"])
         self.assertEqual((status, text), (0, "load,t\nrow,2024-01-01,2024-02-01,3\nend\n"))
         self.assertIn("csv-to-load: N has formulas in 1 cells, loaded with their last computed values\n", said)
+        status, text, said = loaded(computed(workbook({"A": rows}), "", "str"), ["N"])
+        self.assertEqual((status, text), (0, "load,t\nrow,2024-01-01,2024-02-01,\nend\n"))
         status, text, said = loaded(workbook({"A": rows}), ["N"])
         self.assertEqual((status, text), (1, "csv-to-load failed\n"))
         self.assertIn("cell C2 has a formula without a saved value", said)

@@ -67,7 +67,8 @@ class Workbook:
     def text(self, cell: Any, formula: Any, place: int) -> str:
         if formula.data_type == "f":
             self.computed[place] += 1
-            if cell.value is None:
+            # The empty text is a value too, of which the kind alone is saved.
+            if cell.value is None and cell.data_type != "str":
                 what = "a formula without a saved value: open and save the file in a spreadsheet"
                 raise Misfit(f"cell {formula.coordinate} has {what}")
         self.dates[place] += isinstance(cell.value, date)
