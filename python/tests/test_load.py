@@ -275,6 +275,8 @@ class ManyValues(Case):
         words = [*WORDS, "--decimals", "Pay=2"]
         text = rows("A,92233720368547758.08,2024-01-01,2024-03-05")
         self.refused("the store's numbers are from -92233", text, *words)
+        # Python itself makes no number of so many digits.
+        self.refused("the store's numbers are from -92233", text.replace(",9", "," + "9" * 5000), *words)
         text = text.replace(",9", ",-9")
         self.loaded("load,pay\nrow,2024-01-01,2024-03-05,A,-9223372036854775808\nend\n", text, *words)
 

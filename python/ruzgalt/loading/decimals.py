@@ -137,8 +137,8 @@ class Scale:
         if fault:
             raise Misfit(fault)
         self.longest = max(self.longest, len(number.decimals))
-        whole = int(number.whole.lstrip("0") + number.decimals[:self.digits].ljust(self.digits, "0") or "0")
-        made = f"{number.sign if whole else ''}{whole}"
+        whole = (number.whole + number.decimals[:self.digits].ljust(self.digits, "0")).lstrip("0")
+        made = f"{number.sign}{whole}" if whole else "0"
         if not is_integer(made):
             raise Misfit("the store's numbers are from -9223372036854775808 to 9223372036854775807")
         return made
