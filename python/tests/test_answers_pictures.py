@@ -134,6 +134,14 @@ class Sums(unittest.TestCase):
         # A bar or a step shows the record as the answer has it.
         self.assertIn("sum_cents: 123450</title>", drawn)
 
+    def test_a_text_has_no_decimals_whatever_its_column_is_called(self) -> None:
+        made = "table,{0},cents,{1}\nload,{0}\nrow,2024-01-01,2024-06-01,{2}\nend\n"
+        for text in ("500", "\u00b2"):
+            script = made.format("a", "int", "700") + made.format("b", "text", text) + "join,a,b\n"
+            answered = f"ok,1\nok,2\nok,3\nok,4\nrow,2024-01-01,2024-06-01,1,1,700,{text}\nend,1\n"
+            with self.subTest(text):
+                self.assertIn(f"[{text}==", picture(script, answered, "--decimals", "cents=2"))
+
     def test_decimals_of_no_column_are_refused(self) -> None:
         reason = "answers: --decimals euros: not a column of numbers; those are sum_cents\n"
         self.assertIn(reason, self.sums("--decimals", "euros=2"))

@@ -78,7 +78,7 @@ def division(answers: Sequence[Answer], answer: Answer, wish: Wish) -> Bars:
         records.append(dict(zip(table.names, [row_id, row.start, row.end, *row.values])))
     kept = [(part, record) for part, record in zip(parts, records) if wish.wants(record)]
     labels = [wish.label or "row_id"]
-    bars = [bar_of(record, part, wish.labelled(record, labels)) for part, record in kept]
+    bars = [bar_of(record, part, wish.labelled(table, record, labels)) for part, record in kept]
     lanes = [f"part {part}" for part in range(max(parts, default=-1) + 1)]
     rows = counted(len(records), "row") if len(kept) == len(records) else f"{len(kept):,} of {len(records):,} rows"
     title = wish.title(answer, f"{rows} in {counted(len(lanes), 'part')}, {instant}")
@@ -122,7 +122,7 @@ def label_of(answer: Answer, record: Record, names: Sequence[str], wish: Wish) -
     value = answer.table.names[-1]
     if answer.command.form.answered is Answered.STEPS and list(names) == [value]:
         return wish.amounts.parted(int(record[value]), wish.amounts.of(value) or 0)
-    return wish.labelled(record, names)
+    return wish.labelled(answer.table, record, names)
 
 
 def stacked(bars: Iterable[Bar]) -> List[Bar]:

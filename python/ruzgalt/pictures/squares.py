@@ -36,13 +36,13 @@ def commit_lane(commit: int, after: int) -> str:
 def labels_of(answer: Answer, records: List[Record], wish: Wish) -> List[str]:
     """What changed from version to version: values, or else ends in time. Where nothing did, all values."""
     if wish.label:
-        return [wish.labelled(record, [wish.label]) for record in records]
+        return [wish.labelled(answer.table, record, [wish.label]) for record in records]
     columns = answer.table.names[5:]
     values = differing(records, columns)
     ends = [] if values else differing(records, ["valid_from", "valid_to"])
     if ends:
         return [" ".join(f"{WORDS[name]} {record[name]}" for name in ends) for record in records]
-    return [wish.labelled(record, values or columns or ["valid_from"]) for record in records]
+    return [wish.labelled(answer.table, record, values or columns or ["valid_from"]) for record in records]
 
 
 WORDS = {"valid_from": "from", "valid_to": "to"}

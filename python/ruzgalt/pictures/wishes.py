@@ -9,7 +9,7 @@ from ruzgalt.pictures.shapes import Bar
 from ruzgalt.pictures.timeline import Span, span_of
 from ruzgalt.script.forms import POINTS, printed, read_point, seconds
 from ruzgalt.script.records import visible
-from ruzgalt.script.schemas import Table, listed
+from ruzgalt.script.schemas import Kind, Table, listed
 
 Record = Dict[str, str]
 
@@ -57,12 +57,14 @@ class Wish:
         records = (dict(zip(table.names, record)) for record in table.texts())
         return [record for record in records if self.wants(record)]
 
-    def labelled(self, record: Record, names: Sequence[str]) -> str:
-        """The record's values of these columns."""
+    def labelled(self, table: Table, record: Record, names: Sequence[str]) -> str:
+        """The record's values of these columns of the table, of which numbers may have decimals."""
         missing = [name for name in names if name not in record]
         if missing:
             raise Misfit(f"there is no column {missing[0]}; {listed(list(record))}")
-        return " ".join(" ".join(self.amounts.printed(name, record[name]).split()) for name in names)
+        numbers = [column.name for column in table.columns if column.kind is Kind.INT]
+        texts = (self.amounts.printed(name, record[name]) if name in numbers else record[name] for name in names)
+        return " ".join(" ".join(text.split()) for text in texts)
 
 
 def bar_of(record: Record, lane: int, label: str) -> Bar:
