@@ -3,10 +3,11 @@ from __future__ import annotations
 
 from typing import TYPE_CHECKING, Any, Mapping, Optional, Union
 
+import numpy as np
 import pandas as pd
 
 from ruzgalt.checking import raises
-from ruzgalt.frames import checks, points, script
+from ruzgalt.frames import checks, points, script, values
 from ruzgalt.frames.changes import Change, Changed, condition
 from ruzgalt.frames.diaries import NO_NOTE, Note, note_of
 from ruzgalt.frames.errors import doubt
@@ -75,8 +76,8 @@ class Raising:
         Raises
         ------
         Refused
-            If the table or a column doesn't exist, an option can't be taken, or an amount comes to a number
-            of more decimals than the column has, and `round` isn't given.
+            If the table or a column doesn't exist, an option can't be taken, or an amount comes to a number that the
+            column's floats don't hold, or of more decimals than the column has, and `round` isn't given.
         Stopped
             If the program ended without all answers.
 
@@ -123,4 +124,7 @@ def raise_of(book: Book, table: Table, column: Any, how: Any, which: Any) -> rai
         list(zip(fields[::2], fields[1::2])), rounding,
     )
     with refusing():
-        return raises.Raise(answered(book, f"rows,{table.name}"), wish)
+        made = raises.Raise(answered(book, f"rows,{table.name}"), wish)
+    raised = np.array([step.raised for step in made.steps], np.int64)
+    values.refuse_unheld(raised, table.column(column), "an amount comes to a number")
+    return made

@@ -296,13 +296,19 @@ def unscaled(cells: Cells, column: Values) -> Any:
     digits, dtype = column.digits or 0, column.dtype
     if dtype == object:
         return of_objects([decimal.Decimal(f"{int(cell)}E-{digits}") for cell in cells])
-    own = getattr(dtype, "numpy_dtype", dtype)
+    refuse_unheld(cells, column, "the answer has a number")
+    return pd.Series(cells.astype("f8") / 10.0**digits).astype(dtype).array
+
+
+def refuse_unheld(cells: Cells, column: Values, what: str) -> None:
+    """Raises Refused (BadNumber) where a column of floats doesn't hold one of these numbers of its smaller units."""
+    if column.digits is None or column.dtype == object:
+        return
+    own = getattr(column.dtype, "numpy_dtype", column.dtype)
     bits = np.finfo(own).nmant + 1
     is_large = len(cells) and max(abs(int(cells.max())), abs(int(cells.min()))) >= 2**bits
-    if is_large or are_shared(cells.astype("f8"), digits, own).any():
-        reason = f"the answer has a number too large for the {bits} bits of a float: use Decimals"
-        raise Refused("BadNumber", reason, column.name)
-    return pd.Series(cells.astype("f8") / 10.0**digits).astype(dtype).array
+    if is_large or are_shared(cells.astype("f8"), column.digits, own).any():
+        raise Refused("BadNumber", f"{what} too large for the {bits} bits of a float: use Decimals", column.name)
 
 
 def printed(values: Values) -> Optional[Printed]:

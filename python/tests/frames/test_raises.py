@@ -63,6 +63,14 @@ class Raises(unittest.TestCase):
         with self.assertWarns(ruzgalt.Doubt):
             self.assertIsNone(store.raise_by("pay", "cents", 1, "2030-01-01"))
 
+    def test_a_number_that_floats_do_not_hold_is_refused(self):
+        """Before it is kept: no question of the table could have it again."""
+        store = store_of(hours=[1e8])
+        for is_dry in (True, False):
+            with self.subTest(is_dry), self.assertRaisesRegex(ruzgalt.Refused, "column 'hours': an amount comes to"):
+                store.raise_by("pay", "hours", 999999999, "2024-07-01", dry_run=is_dry)
+        self.assertEqual(store.rows("pay")["hours"].tolist(), [1e8])
+
     def test_a_batch_has_raises_too(self):
         store = store_of(cents=[100])
         with store.batch() as changed:
