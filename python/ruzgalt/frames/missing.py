@@ -11,6 +11,7 @@ import pandas as pd
 
 from ruzgalt.frames.arrays import Ints, Marks
 from ruzgalt.frames.errors import Refused, label_at
+from ruzgalt.frames.intervals import BY_SIDES
 
 # So many bits of a whole number a float has.
 BITS = np.uint64(53)
@@ -58,13 +59,25 @@ def concatenated(parts: Sequence[Any]) -> Any:
 
 
 def refuse_rounded(column: Any, rows: Ints, dtype: Any) -> None:
-    """Raises Refused (BadNumber) for a whole number of these rows that a float of this dtype doesn't hold."""
-    if getattr(column.dtype, "kind", "") not in "iu" or getattr(dtype, "kind", "") != "f":
-        return
-    is_rounded = rounded(column.to_numpy()[rows])
+    """Raises Refused (BadNumber) for a whole number of these rows that a float of this dtype doesn't hold.
+
+    It may be a side of an interval too.
+    """
+    cells, remedy = column.array, ".astype('Int64') can"
+    is_rounded = are_rounded(cells, rows, dtype)
+    if isinstance(column.dtype, pd.IntervalDtype):
+        remedy = f"{BY_SIDES}{remedy}"
+        is_rounded = are_rounded(cells.left, rows, dtype.subtype) | are_rounded(cells.right, rows, dtype.subtype)
     if is_rounded.any():
-        reason = f"a missing cell beside it makes floats, whose {BITS} bits can't hold it; .astype('Int64') can"
+        reason = f"a missing cell beside it makes floats, whose {BITS} bits can't hold it; {remedy}"
         raise Refused("BadNumber", reason, column.name, label_at(is_rounded, column.index[rows]))
+
+
+def are_rounded(cells: Any, rows: Ints, dtype: Any) -> Marks:
+    """Which of the cells of these rows are whole numbers that a float of this dtype doesn't hold."""
+    if getattr(cells.dtype, "kind", "") not in "iu" or getattr(dtype, "kind", "") != "f":
+        return np.zeros(len(rows), bool)
+    return rounded(np.asarray(cells)[rows])
 
 
 def rounded(numbers: Any) -> Marks:

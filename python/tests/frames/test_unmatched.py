@@ -85,6 +85,16 @@ class Unmatched(unittest.TestCase):
         got = ruzgalt.join(left.astype({"x": "Int64"}), frame({"k": [2, 9]}), on="k", how="right")
         self.assertEqual(got["x"].tolist(), [2**53 + 1, pd.NA])
 
+    def test_intervals_whose_sides_a_float_does_not_hold_are_refused(self):
+        for sides in (([5, 2**53 + 1], [6, 2**53 + 2]), ([5, 7], [6, 2**53 + 1])):
+            spans = pd.arrays.IntervalArray.from_arrays(*sides)
+            left, right = frame({"k": [1, 2], "x": spans}), frame({"k": [2, 9]})
+            self.assertEqual(ruzgalt.join(left, right, on="k")["x"].tolist(), [spans[1]])
+            with self.subTest(sides), self.assertRaises(ruzgalt.Refused) as caught:
+                ruzgalt.join(left, right, on="k", how="outer")
+            said = caught.exception
+            self.assertEqual((said.name, said.column, said.label), ("BadNumber", "x", 1))
+
     def test_labels_of_none_are_missing(self):
         left, right = frame({"k": [1]}).set_axis(["a"]), frame({"k": [2]}).set_axis([7])
         got = ruzgalt.join(left, right, on="k", how="outer", labels=True)
