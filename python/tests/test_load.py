@@ -551,8 +551,15 @@ class Claims(Case):
     def test_words_of_a_load_are_refused(self) -> None:
         words = ["posts", "P", "I", "--check"]
         self.refused("--check x: not a date or time", "P,I\nA,1\n", *words, "x")
-        for more in (["--part", "1/2"], ["--update", "P"], ["--delete"], ["--table", "table,posts"]):
+        for more in (["--part", "1/2"], ["--update", "P"], ["--delete"], ["--table", "table,posts"], ["--print-table"]):
             self.refused(f"--check can't be given with {more[0]}", "P,I\nA,1\n", *words, "2024-01-05", *more)
+
+    def test_words_of_values_are_refused(self) -> None:
+        words = ["--dates=20241231", "--decimals=P=2", "--decimal-mark=,", "--unit=EUR", "--no-end=NULL"]
+        flags = ["--german", "--whole-seconds", "--last-day", "--open", "--plain-spaces", "--drop-equal"]
+        for word in [*words, *flags]:
+            part = f"--check can't be given with {word.partition('=')[0]}"
+            self.refused(part, "P,I\nA\u00a0B,1\nA B,2\n", "posts", "P", "I", "--check", "2024-01-05", word)
 
     def test_an_id_that_is_none_is_refused_with_its_line(self) -> None:
         self.refused("line 2: A,x: not a row with a part", "P,I\nA,x\n", "posts", "P", "I", "--check", "2024-01-05")

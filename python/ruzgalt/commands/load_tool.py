@@ -29,6 +29,11 @@ option says otherwise. What may be a mistake is loaded, and reported on standard
 record that the store refuses is printed in place of the load, so that a script with it has a refused command."""
 # What is printed in place of a load.
 FAILED = b"csv-to-load failed\n"
+# A division has no periods, and its parts and ids are taken as they are.
+UNUSED_BY_CHECK = (
+    "part", "update", "delete", "record", "print_table", "german", "dates", "decimals", "decimal_mark", "unit",
+    "whole_seconds", "last_day", "open", "no_end", "plain_spaces", "drop_equal",
+)
 
 
 def part(word: str) -> Tuple[int, int]:
@@ -186,8 +191,7 @@ def claimed(options: Namespace) -> Tuple[bytes, List[str]]:
         raise Misfit(f"--check can't be given with a COLUMN, here {options.column[0]}")
     if options.check != "-" and read_point(options.check) is None:
         raise Misfit(f"--check {options.check}: not a date or time, such as 2024-01-05, or - for a table without rows")
-    words = ("part", "update", "delete", "record", "decimals", "drop_equal")
-    unused = [word for word in words if getattr(options, word)]
+    unused = [word for word in UNUSED_BY_CHECK if getattr(options, word)]
     if unused:
         word = unused[0].replace("record", "table").replace("_", "-")
         raise Misfit(f"--check can't be given with --{word}")
