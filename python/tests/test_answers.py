@@ -219,6 +219,18 @@ class Tables(unittest.TestCase):
         wanted = "valid_from,valid_to,person\n2024-03-01,2024-04-01,A\n"
         self.prints(wanted, "gaps $S person --answers $A", PAY + "rows,pay\n", f"ok,1\nok,2\n{ROWS}")
 
+    def test_overlaps_and_gaps_are_by_the_size_of_numbers(self) -> None:
+        periods = "2024-01-01,2024-02-01", "2024-03-01,2024-04-01"
+        rows = [f"{period},{number}" for number in (10, 9) for period in periods]
+        script = "table,t,desk,int\nload,t\n" + "".join(f"row,{row}\n" for row in rows * 2) + "end\nrows,t\n"
+        listed = "".join(f"row,{number},{row}\n" for number, row in enumerate(rows * 2, 1))
+        for command, heads in (("gaps", "valid_from,valid_to,desk"), ("overlaps", "row_id,other_row_id,valid_from,")):
+            _, printed, _ = answers(f"{command} $S desk --answers $A", script, f"ok,1\nok,2\n{listed}end,8\n")
+            first, *records = printed.splitlines()
+            self.assertTrue(first.startswith(heads))
+            numbers = [int(record.split(",")[-1]) for record in records]
+            self.assertEqual((numbers, set(numbers)), (sorted(numbers), {9, 10}))
+
     def test_history_tells_what_each_commit_changed_of_a_fact(self) -> None:
         script = PAY + "update,pay,2024-05-01,2024-06-01,set,euros,9,where,person,A\n"
         wanted = "commit,place,change,valid_from,valid_to,person,euros\n3,line 6,-,2024-05-01,2024-06-01,A,6\n"

@@ -4,7 +4,7 @@ from itertools import islice
 from operator import itemgetter
 from typing import Dict, Iterator, List, Sequence, Tuple, Union
 
-from ruzgalt.answers import Answer
+from ruzgalt.answers import Answer, grouped
 from ruzgalt.checking.replay import Change, Row as StoredRow, Replay, Version
 from ruzgalt.errors import Misfit
 from ruzgalt.periods.spans import Pair, gaps, overlapping
@@ -38,7 +38,7 @@ def in_answer(answer: Answer, key: Sequence[str]) -> Table:
     columns, spans = by_key(answer, key)
     found: List[Row] = [
         [pair.first, pair.second, pair.start, pair.end, *values]
-        for values, rows in sorted(spans.items()) for pair in overlapping(rows)
+        for values in grouped.in_order(columns, spans) for pair in overlapping(spans[values])
     ]
     return Table(unique([*ints("row_id", "other_row_id"), *PERIOD, *columns]), found)
 
@@ -47,7 +47,8 @@ def gaps_in_answer(answer: Answer, key: Sequence[str]) -> Table:
     """The times between rows of one key at which none of it holds."""
     columns, spans = by_key(answer, key)
     found: List[Row] = [
-        [*gap, *values] for values, rows in sorted(spans.items()) for gap in gaps((row[0], row[1]) for row in rows)
+        [*gap, *values]
+        for values in grouped.in_order(columns, spans) for gap in gaps((row[0], row[1]) for row in spans[values])
     ]
     return Table(unique([*PERIOD, *columns]), found)
 
