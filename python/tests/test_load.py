@@ -299,6 +299,14 @@ class Tables(Case):
         words = ["pay", "Start", "End", "Euros", "Person", "--table", self.RECORD]
         self.refused("Euros is given as column 1, which is person in the table", text, *words)
 
+    def test_changes_have_the_columns_in_any_order(self) -> None:
+        text = "Alt,Neu,Ab,Bis\nA,5,2024-01-01,2024-03-05\n"
+        words = ["pay", "Ab", "Bis", "euros=Neu", "person=Alt", "--table", self.RECORD]
+        self.loaded("delete,pay,2024-01-01,2024-03-05,where,euros,5,person,A\n", text, *words, "--delete")
+        update = "update,pay,2024-01-01,2024-03-05,set,euros,5,where,person,A\n"
+        self.loaded(update, text, *words, "--update", "person")
+        self.refused("line 2: Alt is 'A': not a whole number", text, *words[:3], "euros=Alt", "person=Neu", *words[5:])
+
     def test_a_column_given_twice_is_refused(self) -> None:
         self.refused("Name is given twice", rows("A,1,2024-01-01,2024-03-05"), "pay", "Start", "End", "Name", "Name")
 

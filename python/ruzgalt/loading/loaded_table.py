@@ -116,11 +116,12 @@ def name_of(name: str, of_file: Dict[str, str]) -> str:
 
 
 def some_of(schema: Schema, columns: Sequence[str]) -> Schema:
-    """The table's columns that these are by their names, for changes, which name some alone; the table where all are.
+    """The table's columns that these are by their names, for changes, whose records have names; the table itself where
+    as many are given as it has, and one isn't known by its name.
     """
-    if len(columns) >= len(schema.names):
-        return schema
     unknown = [name for name in columns if plain(name) not in schema.names]
+    if unknown and len(columns) >= len(schema.names):
+        return schema
     if unknown:
         known = f"{schema.name} has no such column, and only some of its columns are given; {listed(schema.names)}"
         raise Misfit(f"{visible(unknown[0])}: {known}")
