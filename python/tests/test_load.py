@@ -323,6 +323,14 @@ class Tables(Case):
         wanted = f"{self.RECORD}\nload,pay\nrow,2024-01-01,2024-03-05,A,1\nend\n"
         self.loaded(wanted, text, "pay", "Start", "End", "--table", self.RECORD, "--print-table")
 
+    def test_a_record_that_the_store_refuses_is_refused(self) -> None:
+        wide = ",".join(f"c{number},text" for number in range(17))
+        for columns in (
+            wide, "name", "name,point", "name,text,key", "name,text,name,text", "name,text,key,name,name",
+        ):
+            words = ["pay", "Start", "End", "--table", f"table,pay,{columns}", "--print-table"]
+            self.refused("not of the form table,T,COLUMN,KIND..[,key,COLUMN..]", "Name,Start,End\n", *words)
+
     def test_a_script_so_far_has_the_record(self) -> None:
         with tempfile.NamedTemporaryFile("w", suffix=".csv") as script:
             script.write(f"table,other\n{self.RECORD}\n")

@@ -8,9 +8,7 @@ from ruzgalt.errors import Misfit
 from ruzgalt.script.forms import NAME_HAS, is_integer, is_name
 from ruzgalt.script.reader import PIECE
 from ruzgalt.script.records import Printer, encode, short, to_record, visible
-from ruzgalt.script.schemas import PERIOD, Column, Kind, Schema
-
-MOST = 16
+from ruzgalt.script.schemas import MOST_COLUMNS, PERIOD, Column, Kind, Schema
 
 
 class Wish(NamedTuple):
@@ -77,8 +75,8 @@ def refuse_names(names: Sequence[str]) -> None:
             raise Misfit(f"{visible(name)}: {why}; --column {visible(name)}=NAME renames it")
         if names.count(name) > 1:
             raise Misfit(f"{name} would be the name of two columns: --column COLUMN=NAME renames one")
-    if len(names) > MOST:
-        raise Misfit(f"{len(names)} columns, but a table has {MOST} at most: choose some by --column")
+    if len(names) > MOST_COLUMNS:
+        raise Misfit(f"{len(names)} columns, but a table has {MOST_COLUMNS} at most: choose some by --column")
 
 
 def kind_of(answer: Answer, place: int) -> Kind:

@@ -8,7 +8,7 @@ from ruzgalt.script import commands, records
 from ruzgalt.script.forms import is_name
 from ruzgalt.script.reader import Source
 from ruzgalt.script.records import visible
-from ruzgalt.script.schemas import Schema, is_schema, listed
+from ruzgalt.script.schemas import MOST_COLUMNS, Schema, is_schema, listed
 
 
 def schema_of(options: Namespace) -> Optional[Schema]:
@@ -22,7 +22,8 @@ def schema_of(options: Namespace) -> Optional[Schema]:
     if found is None:
         raise Misfit(f"--table: there is no `table` record of {options.table} in it")
     if not is_schema(found):
-        raise Misfit(f"--table: {records.to_record(found)}: not of the form table,T,COLUMN,KIND..[,key,COLUMN..]")
+        form = f"table,T,COLUMN,KIND..[,key,COLUMN..], with {MOST_COLUMNS} columns at most, each once"
+        raise Misfit(f"--table: {records.to_record(found)}: not of the form {form}")
     return Schema.read(found)
 
 

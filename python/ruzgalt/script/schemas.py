@@ -9,6 +9,8 @@ from ruzgalt.script.commands import Command
 from ruzgalt.script.forms import is_name, read_point
 from ruzgalt.script.language import Answered, Role
 
+MOST_COLUMNS = 16
+
 
 class Kind(Enum):
     INT = "int"
@@ -62,12 +64,16 @@ class Schema:
 
 
 def is_schema(fields: Sequence[str]) -> bool:
-    """Whether a `table` record has a name, a kind for each column, and a key of its columns."""
+    """Whether a `table` record has a name, a kind for each column, and a key of its columns, each named once."""
     try:
         made = Schema.read(fields)
-        return all(map(is_name, [made.name, *made.names]))
     except (IndexError, ValueError):
         return False
+    is_once = all(len(set(some)) == len(some) for some in (made.names, made.key))
+    # What is read leaves out a column without a kind, and `key` with nothing after it.
+    is_whole = made.fields == list(fields) and len(made.names) <= MOST_COLUMNS
+    has_kinds = all(column.kind is not Kind.POINT for column in made.columns)
+    return is_once and is_whole and has_kinds and all(map(is_name, [made.name, *made.names]))
 
 
 Value = Union[int, str, None]
