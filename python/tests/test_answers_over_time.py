@@ -212,6 +212,13 @@ class Words(ToolCase):
         # 41,810 for 15 of 30 days, and 41,830 for half of a day of 31.
         self.check([*PAYROLL, "--go-on", *cut], "", 0, "2024-06-01,2024-07-01,20905\n2024-07-01,2024-08-01,675\n")
 
+    def test_sums_by_what_is_summed_have_its_decimals(self) -> None:
+        script = "table,t,cents,int\nload,t\nrow,2024-01-01,2024-02-01,4800\nend\n"
+        months = ["tools/answers", "months", "-", "--ask", "rows,t", "--by", "cents", "--sum", "cents"]
+        january = "valid_from,valid_to,cents,cents_\n2024-01-01,2024-02-01,48.00,"
+        self.check([*months, "--decimals", "cents=2"], script, 0, f"{january}48.00\n")
+        self.check([*months, "--decimals", "cents=2", "--decimals", "cents_=0"], script, 0, f"{january}4800\n")
+
     def test_a_difference_is_of_two_answers(self) -> None:
         months = [*PAYROLL, "--go-on", "--sum", "sum_euros", "--from", "2024-05-01", "--to", "2024-08-01"]
         june = "2024-05-01,2024-06-01,0\n2024-06-01,2024-07-01,480\n2024-07-01,2024-08-01,360\n"

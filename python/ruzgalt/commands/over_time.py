@@ -1,8 +1,9 @@
 """The words of `months` and `coalesce` of tools/answers, and what they print."""
 from argparse import ArgumentParser, Namespace
-from typing import Optional, Tuple
+from typing import List, Optional, Tuple
 
 from ruzgalt.answers import Answer, calendar, picks, unions
+from ruzgalt.answers.amounts import Amounts
 from ruzgalt.commands import printed
 from ruzgalt.commands.given import last, read, warn
 from ruzgalt.commands.words import words_of_where
@@ -43,6 +44,7 @@ def do_months(options: Namespace) -> None:
     wish = calendar.Wish(options.sum, options.by, *counted, has_zeros=not options.no_zeros)
     answer, less = summed(options)
     sums = calendar.sums(answer, wish, less)
+    options.decimals = decimals_with(options, sums.table.names[-1])
     printed.show(options, sums.table)
     if options.where and not sums.counted:
         warn("no record has the values of --where")
@@ -51,6 +53,16 @@ def do_months(options: Namespace) -> None:
         whose = f"those of each group add up to its exact {exact}" if options.by else f"all add up to the exact {exact}"
         count = f"{sums.rounded:,} of {len(sums.table.records):,} {exact}s"
         warn(f"{count} were rounded, and {whose}, rounded once, half up: the largest remainders count up")
+
+
+def decimals_with(options: Namespace, name: str) -> List[Tuple[str, int]]:
+    """The decimals of columns: that of the sums, of this name, has those of what is summed, if it has none of its own.
+
+    It has another name where --by has taken that of what is summed.
+    """
+    given: List[Tuple[str, int]] = options.decimals
+    digits = Amounts(given).of(options.sum)
+    return given if digits is None or Amounts(given).of(name) is not None else [*given, (name, digits)]
 
 
 def summed(options: Namespace) -> Tuple[Answer, Optional[Answer]]:
