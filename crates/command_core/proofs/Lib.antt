@@ -5,6 +5,7 @@ pub mod Cuts
 pub mod Cutting
 pub mod Faults
 pub mod FirstLoad
+pub mod FrontLemmas
 pub mod Inside
 pub mod Next
 pub mod MeaningExistence

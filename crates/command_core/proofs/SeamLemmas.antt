@@ -422,6 +422,20 @@ joined-records script (t ∷ u ∷ texts) (l ∷ lists) whole read seams =
     rw (sym whole, strip_bom-append t (joined (u ∷ texts)) seam.ends)
     (pieces-records (u ∷ texts) t lists l read seams)
 
+-- the records of a text, behind which others begin, and those
+pub records-both : (text back : List ℕ) (records others : List Record) → IsSeam text records back
+    → AreScriptRecords text records → AreScriptRecords back others
+    → AreScriptRecords (text ++ back) (records ++ others)
+records-both text back records others seam are more =
+    rw (strip_bom-append text back seam.ends)
+    (records-behind records st.StartRecord (strip_bom text) back others refl
+    (inr (strip_bom-ends text seam.ends)) are seam.field (rw seam.unmarked at more))
+
+-- of nothing no record is read
+pub records-none : (records : List Record) → AreScriptRecords [] records → records ≡ []
+unfolding strip_bom
+records-none records are = none-left records are
+
 -- fields that are cut into records, joined again
 joined-cut : {X : Type 0} (from : ℕ) (ends : List ℕ) (xs : List X) → EndsAt from ends (length xs)
     → joined (cut from ends xs) ≡ drop from xs

@@ -1,5 +1,5 @@
 -- Seams of a script: where it is cut into pieces that are read one by one.
-use Rattle.std.specs.Prelude.{◌≡◌, ◌≢◌, ℕ, suc, ◌<◌, List, [], ◌∷◌, Option, None, Some, IfSome, length, get_or, flat_map}
+use Rattle.std.specs.Prelude.{◌≡◌, ◌≢◌, ◌⊎◌, ℕ, suc, ◌<◌, List, [], ◌∷◌, ◌++◌, Option, None, Some, IfSome, length, drop, take, get_or, flat_map}
 use Rattle.csv.specs.Machine.{line_feed}
 use Rattle.csv.specs.Reading.{strip_bom}
 use Rattle.command_core.specs.Records.{AreScriptRecords, Record}
@@ -35,3 +35,15 @@ AreRead texts lists = (length texts ≡ length lists)
 abbrev pub AreSeams : List (List ℕ) → List (List Record) → Type 0
 AreSeams texts lists = (i : ℕ) → suc i < length texts
     → IsSeam (get_or texts i []) (get_or lists i []) (get_or texts (suc i) [])
+
+-- A text may be cut at a place: a line ends there, and what stands behind begins with no byte order mark,
+-- whatever follows it.
+pub record IsCut (text : List ℕ) (place : ℕ) : Type 0 where
+  pub ends : last (take place text) ≡ Some line_feed
+  pub unmarked : (more : List ℕ) → strip_bom (drop place text ++ more) ≡ drop place text ++ more
+
+-- These are the records of a front of a script, of which these bytes come next: there is nothing in that
+-- front, or another record begins behind it, whatever follows the bytes.
+pub record AreOfFront (front : List ℕ) (records : List Record) (next : List ℕ) : Type 0 where
+  pub are : AreScriptRecords front records
+  pub seam : (front ≡ []) ⊎ ((more : List ℕ) → IsSeam front records (next ++ more))

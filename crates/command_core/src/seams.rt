@@ -1,9 +1,9 @@
 //! Seams of a script: it is cut behind line ends, and its pieces are read one by one. Behind most
 //! line ends a record begins, but some stand within one, between quotes.
-ghost use Rattle.std.specs.Prelude.{◌≡◌, ◌≢◌, ◌↔◌, ◌<◌, ◌≤◌, ◌/◌, length, map, max, min, IfOk, IfSome, IsFalse, IsTrue, MatchBool, Some};
+ghost use Rattle.std.specs.Prelude.{◌≡◌, ◌≢◌, ◌↔◌, ◌+◌, ◌<◌, ◌≤◌, ◌/◌, length, map, max, min, true, IfOk, IfSome, IsFalse, IsTrue, MatchBool, Some};
 ghost use Rattle.csv.specs.Machine.{line_feed};
 ghost use Rattle.csv.specs.Reading.{strip_bom};
-ghost use Rattle.command_core.specs.Seams.{AreSeams, IsSeam, joined, last};
+ghost use Rattle.command_core.specs.Seams.{AreSeams, EndsInField, IsCut, IsSeam, joined, last};
 
 use crate::piece::PieceRecords;
 use period_core::NoMemory;
@@ -45,6 +45,41 @@ fn behind_line(text: &[u8], from: usize) -> Option<usize>
 {
     let at = text[from..].iter().position(|byte| *byte == b'\n')?;
     Some(from + at + 1)
+}
+
+/// The last place of a text behind a line end where three bytes follow that are no byte order mark, which who reads
+/// those alone would pass over; the first place where there is none.
+pub(crate) fn last_cut(text: &[u8]) -> usize
+    ensures within { result ≤ length text.now }
+    ensures cut { 0 < result → IsCut text.now result }
+{
+    for at in (1..text.len().saturating_sub(2)).rev() {
+        if is_cut(text, at) {
+            return at;
+        }
+    }
+    0
+}
+
+/// Whether a line ends at that place, and three bytes follow that are no byte order mark.
+fn is_cut(text: &[u8], at: usize) -> bool
+    requires { at + 3 ≤ length text.now }
+    ensures { result ≡ true → IsCut text.now at }
+{
+    let (front, behind) = text.split_at(at);
+    ends_line(front) && !is_marked(behind)
+}
+
+/// Whether in none of some lists the last field ends with a line feed.
+pub(crate) fn end_in_fields(lists: &[PieceRecords]) -> bool
+    ensures { result ≡ true → EndsInField (joined lists.now) }
+{
+    for records in lists {
+        if !records.end_in_field() {
+            return false;
+        }
+    }
+    true
 }
 
 /// Whether each piece is read alone as it is among the others: behind each but the last, which has

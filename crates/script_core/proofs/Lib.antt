@@ -9,6 +9,7 @@ pub mod TogetherUniqueness
 pub mod TogetherExistence
 pub mod OutputExistence
 pub mod FrontLemmas
+pub mod InputLemmas
 pub mod OutputUniqueness
 pub mod RunLemmas
 pub mod Progress

@@ -4,6 +4,7 @@
 mod changes;
 mod claims;
 mod failure;
+mod input;
 mod laws;
 mod ledger;
 mod outcome;

@@ -13,18 +13,19 @@ ghost use Rattle.script_core.specs.Performing.{PrintsNext, PrintsStatement};
 ghost use Rattle.script_core.specs.Script.{AppendsFront, ExplainsRun, IsOutput, RunsAll, streams_of};
 ghost use Rattle.script_core.specs.Writing.{AnswersAll, ExplainsAnswering};
 
+use crate::input::read_script;
 use crate::ledger::Ledger;
 use crate::outcome::Outcome;
 use crate::performing::answer_command;
 use crate::together::answer_together;
 use answer_core::AnswerWriter;
-use command_core::{Lines, Records, Statement, StatementCut, next_statement, read_records};
+use command_core::{Lines, Records, Statement, StatementCut, next_statement};
 use period_core::NoMemory;
 use std::alloc::Global;
 use std::io::{Read, Write};
 use std::sync::Wait;
 use std::thread::Threads;
-use stream_core::{Counted, Patience, RunFault, read_script};
+use stream_core::{Counted, Patience, RunFault};
 use work_core::{Crew, OpenGate};
 
 /// Does a statement, whose first record has this number, and prints its answer; returns how many commands there are in
@@ -177,11 +178,7 @@ pub fn run<T: Threads + Wait + Sync, R: Read, W: Write>(
 {
     let mut patience = Patience::new();
     let ledger = Ledger::new(alloc)?;
-    let records = {
-        // The script is given back before the first command.
-        let script = read_script(alloc, reader, &mut patience)?;
-        read_records(rt, alloc, script.as_slice(), workers)?
-    };
+    let records = read_script(rt, alloc, reader, &mut patience, workers)?;
     let crew = Crew::new(rt, alloc, workers, &OpenGate);
     answer_each(&crew, ledger, records, writer, &mut patience)
 }

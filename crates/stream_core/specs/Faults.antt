@@ -1,5 +1,5 @@
 -- What each fault of a run says of its reader and its writer, before and after.
-use Rattle.std.specs.Prelude.{ℕ, ◌<◌, List, Result, Ok, Err, length, take, ⊤}
+use Rattle.std.specs.Prelude.{◌≡◌, ℕ, ◌+◌, ◌<◌, List, ◌++◌, Option, Result, Ok, Err, length, take, ⊤}
 use Rattle.std.specs.Io.KnownBytes.{Appends, Consumes, Keeps}
 use Rattle.stream_core.specs.Counted.{Sink, Source}
 use Rattle.stream_core.specs.FailureCount.{HasGrown}
@@ -18,6 +18,10 @@ retry_limit = 1_000
 abbrev pub HasReadTooMuch : Source → Source → Type 0
 HasReadTooMuch before after =
     (bytes : List ℕ) × Consumes before.unread after.unread bytes × (script_limit < length bytes)
+
+-- bytes were read, and put behind those of a text
+abbrev pub HasReadOn : Option (List ℕ) → Option (List ℕ) → List ℕ → List ℕ → Type 0
+HasReadOn unread left text longer = (bytes : List ℕ) × Consumes unread left bytes × (longer ≡ text ++ bytes)
 
 -- some of these bytes were written, from the first on, but never all
 abbrev pub WritesPartOf : List ℕ → Sink → Sink → Type 0
@@ -38,6 +42,14 @@ ExplainsReading before after ReadFault = HasGrown before.failures after.failures
 ExplainsReading before after TooLong = HasReadTooMuch before after
 ExplainsReading before after NoMemory = ⊤
 ExplainsReading before after WriteFault = ⊥
+
+-- why reading on behind the bytes of a text stopped, which may have so many
+abbrev pub ExplainsReadingOn : List ℕ → ℕ → Source → Source → RunFault → Type 0
+ExplainsReadingOn text limit before after ReadFault = HasGrown before.failures after.failures
+ExplainsReadingOn text limit before after TooLong =
+    (bytes : List ℕ) × Consumes before.unread after.unread bytes × (limit < length text + length bytes)
+ExplainsReadingOn text limit before after NoMemory = ⊤
+ExplainsReadingOn text limit before after WriteFault = ⊥
 
 -- why the writing of some bytes stopped: memory, before any of them, or a write, before the last of them
 abbrev pub ExplainsWriting : List ℕ → Sink → Sink → RunFault → Type 0

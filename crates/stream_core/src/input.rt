@@ -1,9 +1,9 @@
-//! Reads a script whole.
-ghost use Rattle.std.specs.Prelude.{◌≡◌, ◌+◌, ◌≤◌, ◌<◌, IfOk, IfErr, OnOk, OnErr, take, length};
+//! Reads a script, some of it at a time.
+ghost use Rattle.std.specs.Prelude.{◌≡◌, ◌+◌, ◌≤◌, ◌<◌, IfOk, IfErr, OnOk, OnErr, take, length, true, false};
 ghost use Rattle.std.specs.Io.KnownBytes.{Consumes, IsAtEnd, Keeps};
 ghost use Rattle.stream_core.specs.Counted.{failures_of, inner_of, source_of};
 ghost use Rattle.stream_core.specs.FailureCount.{HasGrown};
-ghost use Rattle.stream_core.specs.Faults.{ExplainsReading, last_failures, script_limit};
+ghost use Rattle.stream_core.specs.Faults.{ExplainsReadingOn, HasReadOn, last_failures};
 
 use crate::counted::Counted;
 use crate::fault::RunFault;
@@ -12,7 +12,7 @@ use std::alloc::Global;
 use std::io::{ErrorKind, Read};
 
 /// The most bytes of a script.
-const SCRIPT_LIMIT: usize = 67_108_864;
+pub const SCRIPT_LIMIT: usize = 67_108_864;
 
 const CHUNK: usize = 8192;
 
@@ -45,35 +45,42 @@ fn read_some<R: Read>(
     }
 }
 
-/// Reads to the end of the input, which has at most 67,108,864 bytes.
+/// Reads on behind the bytes of a text, until it has as many as are wanted or the input is at its end; returns whether
+/// it is.
 ///
 /// # Errors
 ///
-/// `ReadFault` where a read failed, or was interrupted and no patience is left; `TooLong` where there are
-/// more bytes; `NoMemory` where a growth is refused. What was read is lost.
-pub fn read_script<R: Read>(
-    alloc: Global,
+/// `ReadFault` where a read failed, or was interrupted and no patience is left; `TooLong` where the text comes to have
+/// more bytes than its limit; `NoMemory` where a growth is refused.
+pub fn read_on<R: Read>(
     reader: &mut Counted<R>,
     patience: &mut Patience,
-) -> Result<Vec<u8>, RunFault>
-    ensures whole { IfOk result
-        (λ script. Consumes (R.remaining (inner_of reader.old)) (R.remaining (inner_of reader.new)) script.items
-        × (length script.items ≤ script_limit)) }
-    ensures end { OnOk result (IsAtEnd (R.remaining (inner_of reader.new))) }
+    text: &mut Vec<u8>,
+    wanted: usize,
+    limit: usize,
+) -> Result<bool, RunFault>
+    requires { length text.old.items ≤ limit }
+    ensures read { OnOk result (HasReadOn (R.remaining (inner_of reader.old)) (R.remaining (inner_of reader.new))
+        text.old.items text.new.items) }
+    ensures within { OnOk result (length text.new.items ≤ limit) }
+    ensures enough { IfOk result (λ is_end. is_end ≡ false → wanted ≤ length text.new.items) }
+    ensures end { IfOk result (λ is_end. is_end ≡ true → IsAtEnd (R.remaining (inner_of reader.new))) }
     ensures fault { IfErr result
-        (ExplainsReading (source_of R.remaining reader.old) (source_of R.remaining reader.new)) }
+        (ExplainsReadingOn text.old.items limit (source_of R.remaining reader.old) (source_of R.remaining reader.new)) }
     ensures counts { failures_of reader.old ≤ failures_of reader.new }
     ensures tries { failures_of reader.new + patience.new.left
         ≤ failures_of reader.old + patience.old.left + last_failures result }
 {
-    let mut script = Vec::new(alloc);
     let mut chunk = [0; CHUNK];
-    while script.len() <= SCRIPT_LIMIT {
+    while text.len() < wanted {
         let taken = read_some(reader, patience, &mut chunk)?;
         if taken == 0 {
-            return Ok(script);
+            return Ok(true);
         }
-        script.extend_from_slice(&chunk[..taken])?;
+        text.extend_from_slice(&chunk[..taken])?;
+        if text.len() > limit {
+            return Err(RunFault::TooLong);
+        }
     }
-    Err(RunFault::TooLong)
+    Ok(false)
 }

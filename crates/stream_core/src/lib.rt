@@ -1,4 +1,4 @@
-//! Streams: a script is read whole, bytes are written whole, and every failed call is counted.
+//! Streams: a script is read, bytes are written whole, and every failed call is counted.
 #![tactic(auto)]
 
 mod counted;
@@ -9,6 +9,6 @@ mod patience;
 
 pub use counted::Counted;
 pub use fault::RunFault;
-pub use input::read_script;
+pub use input::{SCRIPT_LIMIT, read_on};
 pub use output::write_all;
 pub use patience::Patience;

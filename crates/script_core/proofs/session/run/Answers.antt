@@ -1,31 +1,23 @@
-use Rattle.std.proofs.Common.{subst, arith}
-use Rattle.command_core.specs.Records.{AreScriptRecords}
+use Rattle.std.proofs.Common.{arith}
 use Rattle.script_core.proofs.Calls.{calls-enough}
 use Rattle.script_core.proofs.RunLemmas.{fault-front, fault-run, ok-run, ok-written}
 use Rattle.script_core.proofs.session.run.Goals as goal
 
 pub answer_each-requires-clause-left : goal.answer_each-requires-clause-left
 answer_each-requires-clause-left g c κs within =
-    let parsed =
-    subst (λ bytes. AreScriptRecords bytes c.in_ok-records.records) c.as_slice.ensures.value c.in_ok-records.ensures in
-    let few = calls-enough c.in_ok-script.script.items c.in_ok-records.records parsed c.in_ok-script.ensures.whole.1 in
+    let (script, reads, parsed) = c.in_ok-records.ensures.read in
+    let few = calls-enough script c.in_ok-records.records parsed reads.within in
     omega (arith, few, c.in_ok-ledger.ensures.1)
 
 pub returns-clause-ok : goal.returns-clause-ok
 returns-clause-ok g c =
-    let whole = c.in_ok-script.ensures.whole in
-    let parsed =
-    subst (λ bytes. AreScriptRecords bytes c.in_ok-records.records) c.as_slice.ensures.value c.in_ok-records.ensures in
-    ok-run _ _ c.in_ok-script.script.items c.in_ok-records.records c.answer_each.result
-    (record { read = whole.0; end = c.in_ok-script.ensures.end; within = whole.1 }) parsed c.answer_each.ensures.ok
+    let (script, reads, parsed) = c.in_ok-records.ensures.read in
+    ok-run _ _ script c.in_ok-records.records c.answer_each.result reads parsed c.answer_each.ensures.ok
 
 pub returns-clause-fault : goal.returns-clause-fault
 returns-clause-fault g c =
-    let whole = c.in_ok-script.ensures.whole in
-    let parsed =
-    subst (λ bytes. AreScriptRecords bytes c.in_ok-records.records) c.as_slice.ensures.value c.in_ok-records.ensures in
-    fault-run _ _ c.in_ok-script.script.items c.in_ok-records.records c.answer_each.result
-    (record { read = whole.0; end = c.in_ok-script.ensures.end; within = whole.1 }) parsed c.requires.writes
+    let (script, reads, parsed) = c.in_ok-records.ensures.read in
+    fault-run _ _ script c.in_ok-records.records c.answer_each.result reads parsed c.requires.writes
     c.answer_each.ensures.fault
 
 pub returns-clause-written : goal.returns-clause-written

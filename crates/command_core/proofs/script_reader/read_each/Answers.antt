@@ -5,7 +5,7 @@ use Rattle.std.proofs.lemmas.List.{length-map}
 use denote.Ref.{Bor}
 use Rattle.command_core.specs.Records.{AreScriptRecords, Record}
 use Rattle.command_core.proofs.SeamLemmas.{all_found}
-use Rattle.command_core.proofs.records.read_each.Goals as goal
+use Rattle.command_core.proofs.script_reader.read_each.Goals as goal
 
 pub returns : goal.returns
 returns g c =

@@ -1,7 +1,0 @@
--- the records of the pieces so far
-use Rattle.std.proofs.Common.{◌≡◌}
-use Rattle.command_core.specs.Seams.{joined}
-use Rattle.command_core.proofs.records.batches_of.Given as goal
-
-abbrev pub invariant-loop-piece : goal.invariant-loop-piece
-invariant-loop-piece l = joined l.batches.items ≡ joined l.yielded

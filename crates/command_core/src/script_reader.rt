@@ -1,0 +1,152 @@
+//! Reads the records of a script, some of its bytes at a time, which workers read by pieces.
+ghost use Rattle.std.specs.Prelude.{◌≡◌, ◌+◌, ◌<◌, ◌≤◌, ◌^◌, ◌++◌, [], List, ℕ, drop, take, length, get_or, map, IfOk, OnOk};
+ghost use Rattle.command_core.specs.Records.{AreScriptRecords};
+ghost use Rattle.command_core.specs.Seams.{AreOfFront, AreRead, joined};
+
+use crate::batch::Batch;
+use crate::piece::{PieceRecords, read_piece};
+use crate::records::Records;
+use crate::seams::{are_seams, end_in_fields, last_cut, pieces_of};
+use period_core::NoMemory;
+use share_core::all_found;
+use std::alloc::Global;
+use std::marker::Model;
+use std::thread;
+use std::thread::Threads;
+
+/// What reads the records of a script, as `csv` reads them, without a header and of any length. Contracts see the list
+/// of those so far, each the list of its fields' bytes.
+///
+/// Of a text that isn't the last a front is read, behind which a record begins, so no byte is kept that is a record's.
+/// Large texts are read by the workers, each a piece.
+#[derive(Drop)]
+pub struct ScriptReader {
+    alloc: Global,
+    batches: Vec<Batch>,
+}
+
+impl Model for ScriptReader {
+    ghost use Rattle.std.specs.Prelude.{ℕ, List};
+    ghost use Rattle.command_core.specs.Seams.{joined};
+
+    ghost Value = { List (List (List ℕ)) };
+
+    ghost view = { λ r. joined r.batches.items };
+}
+
+impl ScriptReader {
+    /// Nothing was read yet.
+    pub fn new(alloc: Global) -> ScriptReader
+        ensures { result ≡ [] }
+    {
+        ScriptReader {
+            alloc,
+            batches: Vec::new(alloc),
+        }
+    }
+
+    /// Reads the records of a front of the text that comes next, and returns how many bytes that has: none where no
+    /// record is known to begin in the text. The text is to come again then, with more behind it.
+    ///
+    /// # Errors
+    ///
+    /// `NoMemory` where a growth is refused: the bytes are in memory.
+    pub fn read_front<R: Threads + Sync>(
+        &mut self,
+        rt: &R,
+        text: &[u8],
+        workers: u32,
+    ) -> Result<usize, NoMemory>
+        requires { length text.now < 2 ^ 31 }
+        ensures within { IfOk result (λ taken. taken ≤ length text.now) }
+        ensures read { IfOk result (λ taken. (front : List ℕ) → AreOfFront front self.old text.now
+            → AreOfFront (front ++ take taken text.now) self.new (drop taken text.now)) }
+    {
+        let cut = last_cut(text);
+        if cut == 0 {
+            return Ok(0);
+        }
+        let read = read_text(rt, self.alloc, &text[..cut], workers)?;
+        if !end_in_fields(&read) {
+            return Ok(0);
+        }
+        add_batches(&mut self.batches, read)?;
+        Ok(cut)
+    }
+
+    /// Reads the records of the text that comes last, and returns all of the script's.
+    ///
+    /// # Errors
+    ///
+    /// `NoMemory` where a growth is refused: the bytes are in memory.
+    pub fn read_rest<R: Threads + Sync>(
+        self,
+        rt: &R,
+        text: &[u8],
+        workers: u32,
+    ) -> Result<Records, NoMemory>
+        requires { (front : List ℕ) × AreOfFront front self text.now
+            × (length front + length text.now < 2 ^ 31) }
+        ensures { IfOk result (λ records. (front : List ℕ) → AreOfFront front self text.now
+            → AreScriptRecords (front ++ text.now) records) }
+    {
+        let ScriptReader { alloc, mut batches } = self;
+        let read = read_text(rt, alloc, text, workers)?;
+        add_batches(&mut batches, read)?;
+        Ok(Records::of(batches))
+    }
+}
+
+/// The records of a text, in lists one behind another. Workers read pieces of it; where one ends within a record, one
+/// thread reads all anew.
+fn read_text<R: Threads + Sync>(
+    rt: &R,
+    alloc: Global,
+    text: &[u8],
+    workers: u32,
+) -> Result<Vec<PieceRecords>, NoMemory>
+    requires { length text.now < 2 ^ 31 }
+    ensures { IfOk result (λ read. AreScriptRecords text.now (joined read.items)) }
+{
+    let pieces = pieces_of(alloc, text, workers)?;
+    let mut read = read_each(rt, alloc, &pieces)?;
+    if !are_seams(&pieces, &read) {
+        read.clear();
+        read.push(read_piece(alloc, text)?)?;
+    }
+    Ok(read)
+}
+
+/// Adds the batches of pieces that were read, one behind another.
+fn add_batches(batches: &mut Vec<Batch>, pieces: Vec<PieceRecords>) -> Result<(), NoMemory>
+    ensures { OnOk result
+        (joined batches.new.items ≡ joined batches.old.items ++ joined pieces.items) }
+{
+    for piece in pieces {
+        piece.move_behind(batches)?;
+    }
+    Ok(())
+}
+
+/// The records of each piece, which is read on a thread of its own where one can be started.
+fn read_each<R: Threads + Sync>(
+    rt: &R,
+    alloc: Global,
+    pieces: &[&[u8]],
+) -> Result<Vec<PieceRecords>, NoMemory>
+    requires { length (joined (map (λ p. p.now) pieces.now)) < 2 ^ 31 }
+    ensures { IfOk result (λ lists. AreRead (map (λ p. p.now) pieces.now) lists.items) }
+{
+    let read = thread::map_indices(
+        rt,
+        alloc,
+        pieces.len(),
+        &|number: usize| -> Result<PieceRecords, NoMemory>
+            requires { (number < length pieces.now)
+                × (length (joined (map (λ p. p.now) pieces.now)) < 2 ^ 31) }
+            ensures { IfOk result (λ records. AreScriptRecords
+                (get_or (map (λ p. p.now) pieces.entry.now) number []) records) }
+        { read_piece(alloc, pieces[number]) },
+    )?;
+    all_found(alloc, read)
+}
