@@ -1,13 +1,15 @@
-//! Large scripts, which workers read by pieces: their records are those that one worker reads,
-//! wherever the pieces end, and those that aren't passed stay.
+//! Large scripts, which workers read by pieces, and some bytes at a time: their records are those that one worker reads
+//! at once, wherever the pieces end, and those that aren't passed stay.
 
-use command_core::{Line, Records, read_records};
+use command_core::{Line, Records, ScriptReader};
 use rand::RngExt;
 use rand_core::SeedableRng;
 use rand_pcg::Pcg32;
 use std::alloc::Global;
 use std::fmt::Write;
+use script_core::{Counted, run};
 use std::process::Abort;
+use std::sync::Wait;
 use std::thread::Threads;
 
 // So many bytes are cut into three pieces, by three workers or more.
@@ -73,14 +75,27 @@ fn are_same(one: &Records, other: &Records) -> bool {
     true
 }
 
+// Reads the script at once.
+fn read_records(
+    rt: &(impl Abort + Alloc<A = Global> + Threads + Sync),
+    script: &[u8],
+    workers: u32,
+) -> Records
+    requires { length script.now < 2 ^ 31 }
+{
+    ScriptReader::new(rt.alloc())
+        .read_rest(rt, script, workers)
+        .expect(rt, "memory")
+}
+
 // Reads the script by one worker and by more.
 fn check(rt: &(impl Abort + Alloc<A = Global> + Threads + Sync), script: &[u8]) {
     let Some(front) = script.get(..SIZE) else {
         panic!(rt; "the script has so many bytes")
     };
-    let one = read_records(rt, rt.alloc(), front, 1).expect(rt, "memory");
+    let one = read_records(rt, front, 1);
     for workers in [2, 3, 64] {
-        let more = read_records(rt, rt.alloc(), front, workers).expect(rt, "memory");
+        let more = read_records(rt, front, workers);
         assert!(rt; are_same(&one, &more), "by {workers} workers");
     }
 }
@@ -154,9 +169,46 @@ fn records_that_are_not_passed_stay(rt: HostRuntime) {
     let Some(front) = script.as_bytes().get(..BYTES) else {
         panic!(&rt; "the script has so many bytes")
     };
-    let whole = read_records(&rt, rt.alloc(), front, 1).expect(&rt, "memory");
+    let whole = read_records(&rt, front, 1);
     for workers in [1, 3] {
-        let rest = read_records(&rt, rt.alloc(), front, workers).expect(&rt, "memory");
+        let rest = read_records(&rt, front, workers);
         check_passing(&rt, &whole, rest);
+    }
+}
+
+// A script of records that are no commands, among which texts stand. Of its 10,000,000 bytes one worker reads three
+// fronts or more, two workers two, and 64 read all at once.
+fn long_script(rt: &(impl Abort + Alloc<A = Global>), often: u64, texts: &[&[u8]]) -> Vec<u8> {
+    let mut rng = Pcg32::seed_from_u64(often);
+    let mut script = Vec::new(rt.alloc());
+    for _ in 0..3 {
+        let more = script_of(rt, &mut rng, often, texts);
+        script.extend_from_slice(&more).expect(rt, "memory");
+    }
+    script
+}
+
+// What the script is answered by so many workers.
+fn answers(
+    rt: &(impl Abort + Alloc<A = Global> + Threads + Wait + Sync),
+    script: &[u8],
+    workers: u32,
+) -> Vec<u8>
+    requires { (0 < workers) × (workers ≤ worker_limit) }
+{
+    let mut reader = Counted::new(script);
+    let mut writer = Counted::new(Vec::new(rt.alloc()));
+    run(rt, rt.alloc(), &mut reader, &mut writer, workers).expect(rt, "memory");
+    writer.into_inner()
+}
+
+#[test]
+fn fronts_have_the_records_of_the_whole(rt: HostRuntime) {
+    for texts in [CLOSED.as_slice(), ODD.as_slice()] {
+        let script = long_script(&rt, 20, texts);
+        let whole = answers(&rt, &script, 64);
+        for workers in [1, 2] {
+            assert!(&rt; whole == answers(&rt, &script, workers), "by {workers} workers");
+        }
     }
 }
