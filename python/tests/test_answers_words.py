@@ -261,6 +261,12 @@ class Only(ToolCase):
         self.check([*words, "person=" + "x" * 4097], "", 1, "answers: --set person: TooLong: xxx")
         self.check([*words, "person=M\udcfcller"], "", 1, "answers: --set person: BadUtf8: M\\xfcller isn't UTF-8")
 
+    def test_a_column_that_is_set_twice_is_refused(self) -> None:
+        words = ["tools/answers", "only", EXAMPLE, "pay", "2", "--answers", EXAMPLE + ".stdout", "--set", "euros=4900"]
+        self.check([*words, "--set", "person=Ada"], "", 0, "set,euros,4900,person,Ada,where,")
+        for other in ("euros=4901", "euros=4900", "euros=x"):
+            self.check([*words, "--set", "person=Ada", "--set", other], "", 1, "answers: --set euros: given twice")
+
 
 class Folders(ToolCase):
     def test_a_file_is_replaced_only_where_that_is_asked(self) -> None:

@@ -325,7 +325,8 @@ def words_of_only(parser: ArgumentParser) -> None:
     parser.add_argument("table", metavar="TABLE", help="a table of the script")
     parser.add_argument("row_id", type=int, metavar="ID", help="the id of a row that the table has at the end")
     parser.add_argument(
-        "--set", type=pair, action="append", default=[], metavar="COLUMN=VALUE", help="an update in place of a delete",
+        "--set", type=pair, action="append", default=[], metavar="COLUMN=VALUE",
+        help="an update in place of a delete; may be repeated, for other columns",
     )
 
 
