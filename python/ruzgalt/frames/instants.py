@@ -14,6 +14,9 @@ from ruzgalt.frames.errors import Refused
 from ruzgalt.frames.points import Form
 from ruzgalt.script import forms
 
+# Units of datetime64 that are longer than a day: a year, a month and a week.
+LONG = ("Y", "M", "W")
+
 
 def column_of(point: Any) -> Any:
     """A Series of the point alone. Raises Refused (BadPoint, WrongKind)."""
@@ -35,7 +38,9 @@ def column_of(point: Any) -> Any:
 
 
 def datetime_of(point: Any) -> datetime.datetime:
-    """The datetime that a datetime64 is, which pandas takes to nanoseconds, so not all years."""
+    """The datetime that a datetime64 is, which pandas takes to nanoseconds, so not all years. Raises Refused."""
+    if np.datetime_data(point.dtype)[0] in LONG:
+        raise Refused("WrongKind", f"{point!r} isn't a date or time: .astype('M8[D]') is its first day")
     cut = point.astype("M8[s]")
     found = cut.item()
     if cut != point or not isinstance(found, datetime.datetime):

@@ -4,6 +4,7 @@ import importlib.util
 import os
 import unittest
 
+import numpy as np
 import pandas as pd
 
 import by_rows
@@ -68,6 +69,34 @@ class Points(unittest.TestCase):
         for point in (1, ["2024-01-01"], pd.Period("2024-01", "M"), pd.Timestamp(day, tz=BERLIN)):
             self.refuses("WrongKind", asked, point)
         self.refuses("BadPeriod", lambda *words: ruzgalt.during(frame, *words), "2024-01-02", "2024-01-02")
+
+    def test_a_year_a_month_and_a_week_are_no_points(self):
+        frame = pd.DataFrame({"from": pd.to_datetime(["2024-06-01"]), "to": pd.Timestamp("2024-06-02"), "n": 1})
+        made = ruzgalt.Store()
+        made.table("t", frame)
+        calls = [
+            lambda point: ruzgalt.at(frame, point), lambda point: ruzgalt.during(frame, point, None),
+            lambda point: ruzgalt.during(frame, "2024-01-01", point, last_day=True),
+            lambda point: ruzgalt.gaps(frame, within=("2024-01-01", point)),
+            lambda point: ruzgalt.spread(frame, "n", within=(point, "2025-01-01")),
+            lambda point: made.at("t", point), lambda point: made.rows("t", as_of=point),
+            lambda point: made.delete("t", point, None), lambda point: made.update("t", "2024-01-01", point, {"n": 1}),
+            lambda point: made.load("t", frame, day=point), lambda point: made.check("t", made.dip("t"), instant=point),
+        ]
+        for unit in "YMW":
+            for asked in calls:
+                with self.subTest(unit, call=calls.index(asked)):
+                    with self.assertRaises(ruzgalt.Refused) as caught:
+                        asked(np.datetime64("2024-06-01", unit))
+                    self.assertEqual(caught.exception.name, "WrongKind")
+                    self.assertIn("isn't a date or time: .astype('M8[D]') is its first day", caught.exception.reason)
+        for point in ("2024-06-01", "2024-06-01T08", "2024-06-01T23:59"):
+            point = np.datetime64(point)
+            self.assertEqual([len(ruzgalt.at(frame, point)), len(made.at("t", point))], [1, 1])
+        self.assertEqual(len(made.log()), 2)
+
+    def test_a_last_day_is_a_last_day(self):
+        frame = pd.DataFrame({"from": pd.to_datetime(["2024-01-01", "2024-01-02"]), "to": pd.Timestamp("2024-01-03")})
         frame["to"] = pd.Timestamp("2024-01-02")
         lasts = lambda *words: ruzgalt.during(frame, *words, last_day=True)  # noqa: E731
         self.assertEqual([len(lasts(one, one)) for one in ("2024-01-01", "2024-01-02", "2024-01-03")], [1, 2, 0])

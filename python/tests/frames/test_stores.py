@@ -260,8 +260,8 @@ class Points(Case):
 
     def test_a_point_of_numpy_is_of_any_year(self):
         made = store(frame(to=pd.Series([pd.NaT] * 2, ["x", "y"])), open_end=True)
-        for point in (np.datetime64("3024-01-01"), np.datetime64("2024-01-15T08:00", "m"), np.datetime64("2024-06")):
-            self.assertEqual(len(made.at("t", point)), 2)
+        for point in ("3024-01-01", "2024-01-15T08:00", "2024-01-15T08"):
+            self.assertEqual(len(made.at("t", np.datetime64(point))), 2)
         for point in (np.datetime64("2024-01-15T00:00:00.5"), np.datetime64("30000-01-01"), np.datetime64("-1-01-01")):
             self.refuses(lambda: made.at("t", point), "BadPoint")
 
