@@ -82,6 +82,18 @@ def second_shown(wall: int, point: Any, zone: Any) -> int:
     return int(found[0])
 
 
+def wall_of(point: Any, zone: Any) -> int:
+    """What clocks show at the point, as seconds from 1970 on; of one without a zone what it says."""
+    if zone is None or getattr(point, "tzinfo", None) is None:
+        return second_of(point)
+    return int(zones.walls_of(np.array([second_in(point, zone)], np.int64), zone)[0])
+
+
+def day_behind(point: Any, zone: Any) -> int:
+    """The second at which the day after a last day begins. That may be a day which was left out, and has no second."""
+    return int(zones.begins_of(np.array([wall_of(point, zone) + zones.DAY], np.int64), zone)[0])
+
+
 def span(start: Any, end: Any, form: Form, zone: Any) -> Tuple[int, int]:
     """The seconds of a start, and of the first point after an end as the form has it. Raises Refused."""
     first = second_in(start, zone)
@@ -90,7 +102,7 @@ def span(start: Any, end: Any, form: Form, zone: Any) -> Tuple[int, int]:
         seconds = np.array([first, *([] if end is None else [behind])], np.int64)
         if zones.has_time(seconds, zone).any():
             raise Refused("BadPoint", f"{start!r} to {end!r}: with last_day=True, both must be days, without times")
-        behind = behind if end is None else int(zones.days_behind(seconds[1:], zone)[0])
+        behind = behind if end is None else day_behind(end, zone)
     if first >= behind:
         last = "the last day" if form.has_last_days else "the first point after it"
         raise Refused("BadPeriod", f"{start!r} to {end!r}: a start must be before its end, which is {last}")

@@ -226,6 +226,29 @@ class LastDays(unittest.TestCase):
                 self.assertEqual(days_behind(wanted[:-1], zone).tolist(), wanted[1:].tolist())
                 self.assertEqual(days_before(wanted[1:], zone).tolist(), wanted[:-1].tolist())
 
+    def test_a_last_day_that_was_left_out_has_no_other_day(self):
+        """In Samoa December 31st 2011 came after the 29th. Days are counted one by one; a row has the 28th and 29th."""
+        days = (midnights("Pacific/Apia", f"2011-12-{day}") for day in (28, 29))
+        rows = pd.DataFrame(dict(zip(("from", "to"), days)))
+        late = pd.DataFrame(dict.fromkeys(("from", "to"), midnights("Pacific/Apia", "2011-12-31")))
+        first = datetime.date(2011, 12, 27)
+        there = [day for day in (first + place * DAY for place in range(8)) if day != datetime.date(2011, 12, 30)]
+        for last in (first + place * DAY for place in range(8)):
+            wanted = [day for day in there if day <= last and day not in (first + DAY, first + 2 * DAY)]
+            for point in (last, str(last), pd.Period(str(last), "D")):
+                with self.subTest(point):
+                    got = ruzgalt.gaps(rows, within=(first, point), last_day=True)
+                    found = [day for day in there for start, end in zip(got["from"].dt.date, got["to"].dt.date)
+                             if start <= day <= end]
+                    self.assertEqual(found, wanted)
+                    is_there = last >= datetime.date(2011, 12, 31)
+                    self.assertEqual(len(ruzgalt.during(late, first, point, last_day=True)), is_there)
+        there_too = pd.Timestamp("2011-12-29", tz="Pacific/Apia")
+        self.assertEqual(len(ruzgalt.during(late, first, there_too, last_day=True)), 0)
+        with self.assertRaises(ruzgalt.Refused) as caught:
+            ruzgalt.during(late, "2011-12-30", "2011-12-30", last_day=True)
+        self.assertEqual(caught.exception.name, "BadPeriod")
+
     def test_amounts_are_spread_by_days_where_one_begins_at_one(self):
         """In São Paulo the fourth day began at one o'clock: of 30 days a row has the first three, another the rest."""
         points = pd.to_datetime(["2018-11-01", "2018-11-04T01:00", "2018-12-01"]).tz_localize("America/Sao_Paulo")
