@@ -83,14 +83,16 @@ def second_shown(wall: int, point: Any, zone: Any) -> int:
 
 
 def wall_of(point: Any, zone: Any) -> int:
-    """What clocks show at the point, as seconds from 1970 on; of one without a zone what it says."""
-    if zone is None or getattr(point, "tzinfo", None) is None:
+    """What clocks in the zone show at the point, as seconds from 1970 on; of one without a zone what it says."""
+    if getattr(point, "tzinfo", None) is None:
         return second_of(point)
     return int(zones.walls_of(np.array([second_in(point, zone)], np.int64), zone)[0])
 
 
-def day_behind(point: Any, zone: Any) -> int:
+def day_behind(point: Any, form: Form, zone: Any) -> int:
     """The second at which the day after a last day begins. That may be a day which was left out, and has no second."""
+    if zone is None:
+        return behind_of(point, form)
     return int(zones.begins_of(np.array([wall_of(point, zone) + zones.DAY], np.int64), zone)[0])
 
 
@@ -102,7 +104,7 @@ def span(start: Any, end: Any, form: Form, zone: Any) -> Tuple[int, int]:
         seconds = np.array([first, *([] if end is None else [behind])], np.int64)
         if zones.has_time(seconds, zone).any():
             raise Refused("BadPoint", f"{start!r} to {end!r}: with last_day=True, both must be days, without times")
-        behind = behind if end is None else day_behind(end, zone)
+        behind = behind if end is None else day_behind(end, form, zone)
     if first >= behind:
         last = "the last day" if form.has_last_days else "the first point after it"
         raise Refused("BadPeriod", f"{start!r} to {end!r}: a start must be before its end, which is {last}")
@@ -114,12 +116,15 @@ def portion(start: Any, end: Any, form: Form) -> Ints:
     first = second_of(start)
     if form.has_last_days and first % zones.DAY:
         raise Refused("BadPoint", f"{start!r}: with last_day=True, a start can't have a time")
-    if end is None:
-        return np.array([first, points.NO_END], np.int64)
+    return np.array([first, points.NO_END if end is None else behind_of(end, form)], np.int64)
+
+
+def behind_of(end: Any, form: Form) -> int:
+    """The second of the first point after an end without a zone, as the form has it. Raises Refused."""
     if not form.has_last_days:
-        return np.array([first, second_of(end)], np.int64)
+        return second_of(end)
     try:
-        return np.array([first, form.ends_of(column_of(end))[0][0]], np.int64)
+        return int(form.ends_of(column_of(end))[0][0])
     except Refused as error:
         raise Refused(error.name, f"{end!r}: {error.reason}") from None
 

@@ -1,4 +1,5 @@
 """coalesce, gaps and overlaps of other shapes than the random ones: no rows, months, zones, rows past the limits."""
+import datetime
 import unittest
 from unittest import mock
 
@@ -48,6 +49,26 @@ class United(unittest.TestCase):
         got = ruzgalt.gaps(rows, last_day=True, within=("2024-01-01", "2024-02-29"))
         self.assertEqual(got["from"].tolist(), list(DAY(["2024-02-11", "2024-02-13"])))
         self.assertEqual(got["to"].tolist(), list(DAY(["2024-02-11", "2024-02-29"])))
+
+    def test_a_last_day_has_a_day_after_it(self):
+        days = pd.PeriodIndex(["2024-01-15"], freq="D")
+        rows = pd.DataFrame({"from": days, "to": days, "n": 1})
+        calls = [
+            lambda day, **words: ruzgalt.gaps(rows, within=("2023-01-01", day), last_day=True, **words),
+            lambda day, **words: ruzgalt.spread(rows, "n", within=("2023-01-01", day), last_day=True, **words),
+            lambda day, **words: ruzgalt.during(rows, "2023-01-01", day, last_day=True, **words),
+        ]
+        for asked in calls:
+            for day in ("9999-12-31", datetime.date.max, pd.Period("9999-12-31", "D")):
+                with self.subTest(day, call=calls.index(asked)):
+                    with self.assertRaises(ruzgalt.Refused) as caught:
+                        asked(day)
+                    self.assertEqual(caught.exception.name, "BadPoint")
+                    self.assertIn("there is no day after it; open_end=True", caught.exception.reason)
+            self.assertRaises(ruzgalt.Refused, lambda: asked("9999-12-30", open_end=True))
+            self.assertEqual(len(asked("9999-12-31", open_end=True)), len(asked("9999-12-29")))
+        self.assertEqual(calls[0]("9999-12-31", open_end=True)["to"].isna().tolist(), [False, True])
+        self.assertEqual(calls[0]("9999-12-30")["to"].astype(str).tolist(), ["2024-01-14", "9999-12-30"])
 
     def test_rows_past_the_limits(self):
         days = pd.date_range("2024-01-01", periods=12)
