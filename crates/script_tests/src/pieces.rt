@@ -5,9 +5,9 @@ use command_core::{Line, Records, ScriptReader};
 use rand::RngExt;
 use rand_core::SeedableRng;
 use rand_pcg::Pcg32;
+use script_core::{Counted, run};
 use std::alloc::Global;
 use std::fmt::Write;
-use script_core::{Counted, run};
 use std::process::Abort;
 use std::sync::Wait;
 use std::thread::Threads;
@@ -208,7 +208,10 @@ fn fronts_have_the_records_of_the_whole(rt: HostRuntime) {
         let script = long_script(&rt, 20, texts);
         let whole = answers(&rt, &script, 64);
         for workers in [1, 2] {
-            assert!(&rt; whole == answers(&rt, &script, workers), "by {workers} workers");
+            assert!(&rt;
+                whole == answers(&rt, &script, workers),
+                "by {workers} workers"
+            );
         }
     }
 }
