@@ -1,6 +1,9 @@
 //! Large scripts, which workers read by pieces, and some bytes at a time: their records are those that one worker reads
 //! at once, wherever the pieces end, and those that aren't passed stay.
 
+ghost use Rattle.std.specs.Prelude.{◌<◌, ◌^◌, length};
+ghost use Rattle.words_core.specs.Words.{IsWorkers};
+
 use command_core::{Line, Records, ScriptReader};
 use rand::RngExt;
 use rand_core::SeedableRng;
@@ -194,7 +197,7 @@ fn answers(
     script: &[u8],
     workers: u32,
 ) -> Vec<u8>
-    requires { (0 < workers) × (workers ≤ worker_limit) }
+    requires { IsWorkers workers }
 {
     let mut reader = Counted::new(script);
     let mut writer = Counted::new(Vec::new(rt.alloc()));
