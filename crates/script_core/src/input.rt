@@ -16,8 +16,8 @@ use stream_core::{Counted, Patience, RunFault, SCRIPT_LIMIT, read_on};
 /// So many bytes of a script are read at a time for each worker: as records they fill a batch.
 const BYTES_FOR_WORKER: usize = 4_194_304;
 
-/// Reads a script to its end, and keeps its records. Its bytes are kept until they are records, so of most scripts a few
-/// at a time; where many stand between quotes, twice as many are read each time.
+/// Reads a script to its end, and keeps its records. Its bytes are kept until they are records: so many for each worker,
+/// and where a cut stands between quotes, twice as many before the next one.
 ///
 /// # Errors
 ///
@@ -54,11 +54,14 @@ pub(crate) fn read_script<T: Threads + Sync, R: Read>(
     }
 }
 
-/// Drops so many bytes, the first ones. What is left has their room.
+/// Drops so many bytes, the first ones. The others, of which there are few where some are dropped, keep the room.
 fn drop_front(alloc: Global, text: &mut Vec<u8>, count: usize) -> Result<(), NoMemory>
     requires { count ≤ length text.old.items }
     ensures { OnOk result (text.new.items ≡ drop count text.old.items) }
 {
+    if count == 0 {
+        return Ok(());
+    }
     let rest = Vec::from_slice(alloc, &text[count..])?;
     text.clear();
     text.extend_from_slice(&rest)?;
