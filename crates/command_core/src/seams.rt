@@ -12,6 +12,12 @@ use std::alloc::Global;
 /// A worker with fewer bytes to read would be over before another had started.
 const BYTES_OF_PIECE: usize = 1_048_576;
 
+/// What a row's record begins with. Behind a line end that stands between quotes it hardly ever follows.
+const ROW: &[u8] = b"row,";
+
+/// How near to where a text is to be cut a row's record is looked for. Few are longer.
+const BYTES_LOOKED_AT: usize = 65_536;
+
 /// A script cut behind line ends, into a piece for each worker at most, about as long as one another.
 pub(crate) fn pieces_of<'a>(
     alloc: Global,
@@ -27,7 +33,7 @@ pub(crate) fn pieces_of<'a>(
     let mut pieces = Vec::new(alloc);
     let mut rest = script;
     for left in (2..=count).rev() {
-        let Some(cut) = behind_line(rest, rest.len() / left) else {
+        let Some(cut) = first_cut(rest, rest.len() / left) else {
             break;
         };
         let (piece, behind) = rest.split_at(cut);
@@ -38,23 +44,44 @@ pub(crate) fn pieces_of<'a>(
     Ok(pieces)
 }
 
-/// The place behind the first line end from a place on, where there is one.
-fn behind_line(text: &[u8], from: usize) -> Option<usize>
+/// The first place from one on behind a line end, where there is one. Near it a place where a row's record follows is
+/// taken before others.
+fn first_cut(text: &[u8], from: usize) -> Option<usize>
     requires { from ≤ length text.now }
     ensures { IfSome result (λ place. place ≤ length text.now) }
 {
+    for at in from..text.len().min(from.saturating_add(BYTES_LOOKED_AT)) {
+        let (line, behind) = text.split_at(at);
+        if ends_line(line) && behind.starts_with(ROW) {
+            return Some(at);
+        }
+    }
     let at = text[from..].iter().position(|byte| *byte == b'\n')?;
     Some(from + at + 1)
 }
 
 /// The last place of a text behind a line end where three bytes follow that are no byte order mark, which who reads
-/// those alone would pass over; the first place where there is none.
+/// those alone would pass over; the first place where there is none. Near the end a place where a row's record follows
+/// is taken before others.
 pub(crate) fn last_cut(text: &[u8]) -> usize
     ensures within { result ≤ length text.now }
     ensures cut { 0 < result → IsCut text.now result }
 {
-    for at in (1..text.len().saturating_sub(2)).rev() {
-        if is_cut(text, at) {
+    let before_row = last_cut_before(text, ROW, text.len().saturating_sub(BYTES_LOOKED_AT));
+    if before_row > 0 {
+        before_row
+    } else {
+        last_cut_before(text, b"", 0)
+    }
+}
+
+/// The last such place from one on where that word follows, or the first place of all.
+fn last_cut_before(text: &[u8], word: &[u8], from: usize) -> usize
+    ensures within { result ≤ length text.now }
+    ensures cut { 0 < result → IsCut text.now result }
+{
+    for at in (from..text.len().saturating_sub(2)).rev() {
+        if is_cut(text, at) && text[at..].starts_with(word) {
             return at;
         }
     }
