@@ -41,12 +41,12 @@ pub texts-all : (records : List Record) (post : Range ℕ → ℕ → Result (Ve
     → text.items ≡ bytes_of (piece places records))
     → GivesFrom nat_cmp (Gives post) None cuts texts
     → all_in texts ≡ bytes_of records
-texts-all records post cuts texts told given =
+texts-all records post cuts texts each given =
     all_come nat_cmp (Gives post)
     (λ (places : Range ℕ) (all : List (Vec ℕ)). all_in all ≡ bytes_of (piece places records))
-    (λ places text own. append-nil text.items ∙ told places own.0 text own.1)
+    (λ places text own. append-nil text.items ∙ each places own.0 text own.1)
     (λ from at text more begun one others.
-    ap (λ l. l ++ all_in more) (told (range from (Some at)) one.0 text one.1)
+    ap (λ l. l ++ all_in more) (each (range from (Some at)) one.0 text one.1)
     ∙ ap (λ l. bytes_of (piece (range from (Some at)) records) ++ l) others
     ∙ sym (flat_map-append (row_text answer_writer) (piece (range from (Some at)) records) (piece (range (Some at) None) records))
     ∙ ap bytes_of (sym (piece_cut from at records begun)))

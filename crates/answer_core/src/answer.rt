@@ -40,7 +40,7 @@ pub enum Answer {
 impl Answer {
     /// How many of its records are refusals: one where it is one, else none.
     pub fn refusals(&self) -> u64
-        ensures told { (records : List Record) → IsPrintedAs self.now records
+        ensures counted { (records : List Record) → IsPrintedAs self.now records
             → errors_in records ≡ result }
         ensures few { result ≤ 1 }
     {

@@ -5,7 +5,7 @@ use Rattle.row_core.specs.Refusals.{and_then, map_ok}
 use Rattle.row_core.specs.declared.schema.Column.{Column}
 use Rattle.command_core.specs.Aggregates.{aggregated}
 use Rattle.command_core.specs.Fields.{claimed, dated, name_in, named, period_in, spanned, compared, with_asof}
-use Rattle.command_core.specs.Meaning.{Meaning, TableForm, behind_length, block_meaning, check_meaning, delete_meaning, delete_of, if_formed, load_meaning, make_table, name_table, table_columns, table_form, table_meaning, told, update_meaning, update_of, verb_meaning}
+use Rattle.command_core.specs.Meaning.{Meaning, TableForm, behind_length, block_meaning, check_meaning, delete_meaning, delete_of, if_formed, load_meaning, make_table, name_table, table_columns, table_form, table_meaning, meaning_or_refusal, update_meaning, update_of, verb_meaning}
 use Rattle.command_core.specs.Pairs.{named_pairs}
 use Rattle.command_core.specs.Portions.{conditions_in, settings_in}
 use Rattle.command_core.specs.Records.{Record}
@@ -16,7 +16,7 @@ use Rattle.command_core.specs.declared.words.Verb.TheVariants as verb
 
 -- at most so many
 abbrev HasBehind : ℕ → ℕ → Result Meaning Refusal → Type 0
-HasBehind most number r = behind_length (told number r) ≤ most
+HasBehind most number r = behind_length (meaning_or_refusal number r) ≤ most
 
 refused-has : (most number : ℕ) (e : Refusal) → HasBehind most number (Err e)
 refused-has most number e = omega arith
@@ -81,7 +81,7 @@ log-has number (word ∷ second ∷ rest) = omega arith
 
 -- a command of one record has none
 pub record-behind : (number : ℕ) (line : Record) (v : Option Verb)
-    → behind_length (told number (verb_meaning line v)) ≤ 0
+    → behind_length (meaning_or_refusal number (verb_meaning line v)) ≤ 0
 record-behind number line None = omega arith
 record-behind number line (Some verb.Table) = table-has number line
 record-behind number line (Some verb.Update) = update-has number line
@@ -98,7 +98,7 @@ record-behind number line (Some verb.Log) = log-has number line
 
 -- a block has its body, and its `end`
 pub block-behind : (number : ℕ) (opening : Record) (body : List Record)
-    → behind_length (told number (block_meaning opening body)) ≤ length body + 1
+    → behind_length (meaning_or_refusal number (block_meaning opening body)) ≤ length body + 1
 block-behind number opening body = by (begins (codes "load") opening)
   where
     by : (b : Bool)

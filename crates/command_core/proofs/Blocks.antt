@@ -7,8 +7,8 @@ use Rattle.std.proofs.Math.Seq.{take-add}
 use Rattle.std.proofs.lemmas.List.{drop_all, take-append-drop, take_all}
 use Rattle.command_core.specs.Records.{Record}
 use Rattle.command_core.specs.Words.{begins, is_end}
-use Rattle.command_core.specs.Meaning.{Meaning, Means, MeansBlock, MeansRecord, block_meaning, record_meaning, refuse, told}
-use Rattle.command_core.specs.Statement.{AreMembers, IsMember, IsOpen, Member, One, Placed, StatesOne, StatesTogether, StatesUnended, placed_in, stated, together_told}
+use Rattle.command_core.specs.Meaning.{Meaning, Means, MeansBlock, MeansRecord, block_meaning, record_meaning, refuse, meaning_or_refusal}
+use Rattle.command_core.specs.Statement.{AreMembers, IsMember, IsOpen, Member, One, Placed, StatesOne, StatesTogether, StatesUnended, placed_in, stated, opened_together}
 use Rattle.command_core.specs.declared.refusal.Refusal.TheVariants.{BadCommand, Unended}
 use Rattle.command_core.proofs.Cutting.{drop-slice_get, slice_get-there, take-slice_get}
 use Rattle.command_core.proofs.Members.{AreMembers-more, closed-member, first_own, opened}
@@ -58,11 +58,11 @@ module _ (xs rest : List Record) (x : Record) (number : ℕ) (r : rest ≡ drop 
   -- up to its `end`
   pub states-together : (n : ℕ) (members : List Member) → n < length rest
       → AreMembers (number + 1) (take n rest) members → IfSome (slice_get rest n) (λ line. is_end line ≡ true)
-      → StatesTogether number (take (n + 2) xs) (stated number (together_told x (placed_in false members)))
+      → StatesTogether number (take (n + 2) xs) (stated number (opened_together x (placed_in false members)))
   states-together n members within inside last = by (slice_get rest n) refl last
     where
       by : (o : Option Record) → slice_get rest n ≡ o → IfSome o (λ line. is_end line ≡ true)
-          → StatesTogether number (take (n + 2) xs) (stated number (together_told x (placed_in false members)))
+          → StatesTogether number (take (n + 2) xs) (stated number (opened_together x (placed_in false members)))
       by None t ends = absurd (slice_get-there rest n within t)
       by (Some z) t ends =
           let whole : xs ≡ x ∷ rest = drop-slice_get xs 0 x e ∙ ap (λ l. x ∷ l) (sym r) in
@@ -101,17 +101,17 @@ module _ (xs rest : List Record) (x : Record) (number : ℕ) (r : rest ≡ drop 
       }
 
 -- the one field, or more
-pub told-one : (opening : Record) (commands : List Placed) → length opening ≡ 1
-    → together_told opening commands ≡ Ok commands
-told-one [] commands e = absurd (omega arith)
-told-one (word ∷ []) commands e = refl
-told-one (word ∷ second ∷ fields) commands e = absurd (omega arith)
+pub opened-one : (opening : Record) (commands : List Placed) → length opening ≡ 1
+    → opened_together opening commands ≡ Ok commands
+opened-one [] commands e = absurd (omega arith)
+opened-one (word ∷ []) commands e = refl
+opened-one (word ∷ second ∷ fields) commands e = absurd (omega arith)
 
-pub told-more : (opening : Record) (commands : List Placed) → (length opening ≡ 1 → ⊥)
-    → together_told opening commands ≡ Err BadCommand
-told-more [] commands more = refl
-told-more (word ∷ []) commands more = absurd (more refl)
-told-more (word ∷ second ∷ fields) commands more = refl
+pub opened-more : (opening : Record) (commands : List Placed) → (length opening ≡ 1 → ⊥)
+    → opened_together opening commands ≡ Err BadCommand
+opened-more [] commands more = refl
+opened-more (word ∷ []) commands more = absurd (more refl)
+opened-more (word ∷ second ∷ fields) commands more = refl
 
 -- ---- a command
 
@@ -140,11 +140,11 @@ renumbered-closed : (number other : ℕ) (own : List Record) (alone : Meaning)
     → MeansRecord number own alone ⊎ MeansBlock number own alone
     → (again : Meaning) × (MeansRecord other own again ⊎ MeansBlock other own again)
 renumbered-closed number other own alone (inl r) = (
-  told other (record_meaning r.opening),
+  meaning_or_refusal other (record_meaning r.opening),
   inl (record { opening = r.opening; alone = r.alone; plain = r.plain; means = refl }),
 )
 renumbered-closed number other own alone (inr b) = (
-  told other (block_meaning b.opening b.body),
+  meaning_or_refusal other (block_meaning b.opening b.body),
   inr (record {
     opening = b.opening;
     body = b.body;

@@ -6,7 +6,7 @@ use Rattle.std.proofs.lemmas.List.{drop_all, take_all}
 use Rattle.std.proofs.lemmas.List.Elements.{All-append}
 use Rattle.command_core.specs.Records.{Record}
 use Rattle.command_core.specs.Words.{is_end, opens_block}
-use Rattle.command_core.specs.Meaning.{Meaning, Means, MeansBlock, MeansRecord, IsBody, block_meaning, record_meaning, refuse, told}
+use Rattle.command_core.specs.Meaning.{Meaning, Means, MeansBlock, MeansRecord, IsBody, block_meaning, record_meaning, refuse, meaning_or_refusal}
 use Rattle.command_core.specs.declared.refusal.Refusal.TheVariants.{Unended}
 use Rattle.command_core.proofs.Cutting.{slice_get-there, take-slice_get}
 
@@ -14,7 +14,7 @@ use Rattle.command_core.proofs.Cutting.{slice_get-there, take-slice_get}
 pub block-means : (xs : List Record) (x : Record) (number n : ℕ) (meaning : Meaning) (rest : List Record)
     → rest ≡ drop 1 xs → slice_get xs 0 ≡ Some x → opens_block x ≡ true
     → n < length rest → IsBody (take n rest) → IfSome (slice_get rest n) (λ line. is_end line ≡ true)
-    → meaning ≡ told number (block_meaning x (take n (drop 1 xs)))
+    → meaning ≡ meaning_or_refusal number (block_meaning x (take n (drop 1 xs)))
     → MeansBlock number (take (n + 2) xs) meaning
 block-means [] x number n meaning rest r e opens within before last means = absurd (cc e)
 block-means (y ∷ ys) x number n meaning rest r e opens within before last means = by (slice_get ys n) refl
@@ -63,7 +63,7 @@ unended-means (y ∷ ys) x number size rest n r e opens body =
 
 -- a command of one record
 pub record-means : (xs : List Record) (x : Record) (number : ℕ) → slice_get xs 0 ≡ Some x → opens_block x ≡ false
-    → MeansRecord number (take 1 xs) (told number (record_meaning x))
+    → MeansRecord number (take 1 xs) (meaning_or_refusal number (record_meaning x))
 record-means [] x number e plain = absurd (cc e)
 record-means (y ∷ ys) x number e plain =
     let same : y ≡ x = cc in

@@ -75,18 +75,18 @@ compared-two (word ∷ l ∷ r ∷ rest) left right one two =
 -- ---- the suffix
 
 -- the last field but one is `asof`
-pub split_asof-told : (k : ℕ) (line : Record) → length line ≡ k + 2 → begins (codes "asof") (drop k line) ≡ true
+pub split_asof-named : (k : ℕ) (line : Record) → length line ≡ k + 2 → begins (codes "asof") (drop k line) ≡ true
     → split_asof line ≡ (take k line, slice_get line (k + 1))
-split_asof-told zero [] n e = absurd (omega arith)
-split_asof-told zero (only ∷ []) n e = absurd (omega arith)
-split_asof-told zero (word ∷ text ∷ []) n e = rw e refl
-split_asof-told zero (first ∷ second ∷ third ∷ fields) n e = absurd (omega arith)
-split_asof-told (suc k) [] n e = absurd (omega arith)
-split_asof-told (suc k) (only ∷ []) n e = absurd (omega arith)
-split_asof-told (suc k) (first ∷ second ∷ []) n e = absurd (omega arith)
-split_asof-told (suc k) (field ∷ second ∷ third ∷ fields) n e =
+split_asof-named zero [] n e = absurd (omega arith)
+split_asof-named zero (only ∷ []) n e = absurd (omega arith)
+split_asof-named zero (word ∷ text ∷ []) n e = rw e refl
+split_asof-named zero (first ∷ second ∷ third ∷ fields) n e = absurd (omega arith)
+split_asof-named (suc k) [] n e = absurd (omega arith)
+split_asof-named (suc k) (only ∷ []) n e = absurd (omega arith)
+split_asof-named (suc k) (first ∷ second ∷ []) n e = absurd (omega arith)
+split_asof-named (suc k) (field ∷ second ∷ third ∷ fields) n e =
     let next : suc k + 1 ≡ suc (k + 1) = omega arith in
-    rw next (ap (field_before field) (split_asof-told k (second ∷ third ∷ fields) (omega arith) e))
+    rw next (ap (field_before field) (split_asof-named k (second ∷ third ∷ fields) (omega arith) e))
 
 -- it is another word
 pub split_asof-none : (k : ℕ) (line : Record) → length line ≡ k + 2 → begins (codes "asof") (drop k line) ≡ false

@@ -5,7 +5,7 @@ use Rattle.std.specs.Prelude.{◌&&◌, ◌||◌, not, codes, if◌then◌else�
 use Rattle.row_core.specs.Refusals.{map_ok}
 use Rattle.command_core.specs.Aggregates.{aggregated}
 use Rattle.command_core.specs.Fields.{claimed, compared, dated, named, spanned, with_asof}
-use Rattle.command_core.specs.Meaning.{Meaning, Means, block_meaning, check_meaning, load_meaning, told, verb_meaning}
+use Rattle.command_core.specs.Meaning.{Meaning, Means, block_meaning, check_meaning, load_meaning, meaning_or_refusal, verb_meaning}
 use Rattle.command_core.specs.Records.{Record}
 use Rattle.command_core.specs.Statement.{is_allowed, is_barred}
 use Rattle.command_core.specs.Words.{begins, verb_of}
@@ -107,12 +107,12 @@ asks_only line free =
     (passed (begins (codes "log") line) (Some verb.Log) None free.log tt)))))))))))
 
 made : {T : Type 0} (has_load : Bool) (number : ℕ) (f : T → Meaning) (r : Result T Refusal)
-    → ((x : T) → is_allowed has_load (f x) ≡ true) → is_allowed has_load (told number (map_ok f r)) ≡ true
+    → ((x : T) → is_allowed has_load (f x) ≡ true) → is_allowed has_load (meaning_or_refusal number (map_ok f r)) ≡ true
 made has_load number f (Ok x) h = h x
 made has_load number f (Err e) h = refl
 
 record-allowed : (has_load : Bool) (number : ℕ) (line : Record) (v : Option Verb) → AsksOnly v
-    → is_allowed has_load (told number (verb_meaning line v)) ≡ true
+    → is_allowed has_load (meaning_or_refusal number (verb_meaning line v)) ≡ true
 record-allowed has_load number line None asks = refl
 record-allowed has_load number line (Some verb.Table) asks = absurd asks
 record-allowed has_load number line (Some verb.Update) asks = absurd asks
@@ -137,11 +137,11 @@ record-allowed has_load number line (Some verb.Agg) asks =
 
 block-allowed : (has_load : Bool) (number : ℕ) (opening : Record) (body : List Record)
     → (has_load && begins (codes "load") opening) ≡ false
-    → is_allowed has_load (told number (block_meaning opening body)) ≡ true
+    → is_allowed has_load (meaning_or_refusal number (block_meaning opening body)) ≡ true
 block-allowed has_load number opening body free = by (begins (codes "load") opening) free
   where
     by : (b : Bool) → (has_load && b) ≡ false
-        → is_allowed has_load (told number (if b then load_meaning opening body else check_meaning opening body))
+        → is_allowed has_load (meaning_or_refusal number (if b then load_meaning opening body else check_meaning opening body))
         ≡ true
     by true e = made has_load number _ (named opening) (λ name. none has_load e)
       where

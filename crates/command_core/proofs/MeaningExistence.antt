@@ -3,7 +3,7 @@ use Rattle.std.proofs.Common.{◌≡◌, ◌⊎◌, ℕ, ◌<◌, List, [], ◌�
 use Rattle.std.proofs.lemmas.Bool.{cases_Bool}
 use Rattle.std.proofs.lemmas.List.{append-nil}
 use Rattle.std.proofs.lemmas.List.Elements.{All-cons, All-nil}
-use Rattle.command_core.specs.Meaning.{IsBody, Meaning, Means, block_meaning, record_meaning, refuse, told}
+use Rattle.command_core.specs.Meaning.{IsBody, Meaning, Means, block_meaning, record_meaning, refuse, meaning_or_refusal}
 use Rattle.command_core.specs.Records.{Record}
 use Rattle.command_core.specs.Words.{is_end, opens_block}
 use Rattle.command_core.specs.declared.refusal.Refusal.TheVariants.{Unended}
@@ -58,7 +58,7 @@ some_meaning number (opening ∷ rest) some = elim (cases_Bool (opens_block open
     | inl found ↦ record {
       own = opening ∷ (found.body ++ found.last ∷ []);
       later = found.later;
-      meaning = told number (block_meaning opening found.body);
+      meaning = meaning_or_refusal number (block_meaning opening found.body);
       taken = ap (λ l. opening ∷ l) (found.split ∙ sym (append_assoc found.body (found.last ∷ []) found.later));
       means = inr
           (inl (record {
@@ -92,7 +92,7 @@ some_meaning number (opening ∷ rest) some = elim (cases_Bool (opens_block open
   | inr plain ↦ record {
     own = opening ∷ [];
     later = rest;
-    meaning = told number (record_meaning opening);
+    meaning = meaning_or_refusal number (record_meaning opening);
     taken = refl;
     means = inl (record { opening = opening; alone = refl; plain = plain; means = refl });
   }

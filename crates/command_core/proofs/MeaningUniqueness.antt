@@ -3,7 +3,7 @@ use Rattle.std.proofs.Common.{◌≡◌, ℕ, List, [], ◌∷◌, ◌++◌, fal
 use Rattle.std.proofs.lemmas.Bool.{both_ways}
 use Rattle.std.proofs.lemmas.List.{append-nil}
 use Rattle.std.proofs.lemmas.List.Elements.{All-head, All-tail}
-use Rattle.command_core.specs.Meaning.{IsBody, Meaning, Means, MeansBlock, MeansRecord, MeansUnended, block_meaning, record_meaning, told}
+use Rattle.command_core.specs.Meaning.{IsBody, Meaning, Means, MeansBlock, MeansRecord, MeansUnended, block_meaning, record_meaning, meaning_or_refusal}
 use Rattle.command_core.specs.Records.{Record}
 use Rattle.command_core.specs.Words.{is_end, opens_block}
 
@@ -85,7 +85,7 @@ module _ (number : ℕ) (own later taken left : List Record) (one other : Meanin
       let first : r.opening ≡ s.opening = same_head r.opening s.opening later left whole in (
         r.alone ∙ (ap (λ l. l ∷ []) first ∙ sym s.alone),
         same_tail r.opening s.opening later left whole,
-        r.means ∙ (ap (λ line. told number (record_meaning line)) first ∙ sym s.means),
+        r.means ∙ (ap (λ line. meaning_or_refusal number (record_meaning line)) first ∙ sym s.means),
       )
 
   record_block : MeansRecord number own one → MeansBlock number taken other → ⊥
@@ -113,8 +113,8 @@ module _ (number : ℕ) (own later taken left : List Record) (one other : Meanin
             ∙ (ap (λ l. d.opening ∷ (d.body ++ l ∷ [])) rest.1 ∙ sym d.whole))),
         rest.2,
         b.means
-            ∙ (ap (λ line. told number (block_meaning line b.body)) first
-            ∙ (ap (λ body. told number (block_meaning d.opening body)) rest.0 ∙ sym d.means)),
+            ∙ (ap (λ line. meaning_or_refusal number (block_meaning line b.body)) first
+            ∙ (ap (λ body. meaning_or_refusal number (block_meaning d.opening body)) rest.0 ∙ sym d.means)),
       )
 
   pub block_unended : MeansBlock number own one → MeansUnended number taken left other → ⊥

@@ -468,8 +468,8 @@ none_last text none e = absurd (cc (sym none ∙ e))
 
 pub not_line : (text : List ℕ) (ends : Bool) → MatchBool ends (last text ≡ Some 10) (last text ≢ Some 10)
     → IsTrue (not ends) ↔ (last text ≢ Some 10)
-not_line text true told = (λ e. cc e, λ other. absurd (other told))
-not_line text false told = (λ e. told, λ other. refl)
+not_line text true is = (λ e. cc e, λ other. absurd (other is))
+not_line text false is = (λ e. is, λ other. refl)
 
 -- what threads read
 

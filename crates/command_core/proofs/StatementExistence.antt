@@ -5,7 +5,7 @@ use Rattle.std.proofs.lemmas.Bool.{cases_Bool}
 use Rattle.std.proofs.lemmas.List.{append-nil, length-append}
 use Rattle.command_core.specs.Meaning.{Meaning, Means, MeansBlock, MeansRecord, refuse}
 use Rattle.command_core.specs.Records.{Record}
-use Rattle.command_core.specs.Statement.{AreMembers, FirstStatement, IsMember, IsOpen, Member, One, placed_in, stated, together_told}
+use Rattle.command_core.specs.Statement.{AreMembers, FirstStatement, IsMember, IsOpen, Member, One, placed_in, stated, opened_together}
 use Rattle.command_core.specs.Words.{begins, is_end}
 use Rattle.command_core.specs.declared.refusal.Refusal.TheVariants.{Unended}
 use Rattle.command_core.proofs.MeaningExistence.{FirstCommand, some_meaning}
@@ -118,7 +118,7 @@ some_block number opening behind opens found =
     by body (last ∷ later) members split are (inl ends) = record {
       own = opening ∷ (body ++ last ∷ []);
       later = later;
-      statement = stated number (together_told opening (placed_in false members));
+      statement = stated number (opened_together opening (placed_in false members));
       taken = ap (λ l. opening ∷ l) (split ∙ sym (append_assoc body (last ∷ []) later));
       states = inr (inl (record {
         opening = opening;

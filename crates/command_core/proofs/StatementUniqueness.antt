@@ -5,7 +5,7 @@ use Rattle.std.proofs.lemmas.Bool.{both_ways}
 use Rattle.std.proofs.lemmas.List.{append-nil}
 use Rattle.std.proofs.lemmas.Slice.Eq.{bytes_eq-Decides}
 use Rattle.command_core.specs.Records.{Record}
-use Rattle.command_core.specs.Statement.{FirstStatement, IsOpen, One, Statement, States, StatesOne, StatesTogether, StatesUnended, placed_in, stated, together_told}
+use Rattle.command_core.specs.Statement.{FirstStatement, IsOpen, One, Statement, States, StatesOne, StatesTogether, StatesUnended, placed_in, stated, opened_together}
 use Rattle.command_core.specs.Words.{begins, is_end, opens_block}
 use Rattle.command_core.proofs.Members.{open-none, same_members}
 use Rattle.command_core.proofs.MeaningUniqueness.{one_meaning, same_head, same_tail}
@@ -88,8 +88,8 @@ module _ (number : ℕ) (own later taken left : List Record) (one other : Statem
             ∙ (ap (λ l. s.opening ∷ (s.body ++ l ∷ [])) last ∙ sym s.whole))),
         same_tail t.last s.last later left same.1,
         t.states
-            ∙ (ap (λ line. stated number (together_told line (placed_in false t.members))) first
-            ∙ (ap (λ ms. stated number (together_told s.opening (placed_in false ms))) same.2 ∙ sym s.states)),
+            ∙ (ap (λ line. stated number (opened_together line (placed_in false t.members))) first
+            ∙ (ap (λ ms. stated number (opened_together s.opening (placed_in false ms))) same.2 ∙ sym s.states)),
       )
 
   together_unended : StatesTogether number own one → StatesUnended number taken left other → ⊥

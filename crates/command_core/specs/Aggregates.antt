@@ -19,10 +19,10 @@ column_func word column =
     else None
 
 -- the column that rows are grouped by, named behind `by`; none where there is no field at all
-abbrev pub group_told : Record → Option (Option (List ℕ))
-group_told [] = Some None
-group_told (word ∷ column ∷ []) = if bytes_eq word (codes "by") then Some (Some column) else None
-group_told fields = None
+abbrev pub group_named : Record → Option (Option (List ℕ))
+group_named [] = Some None
+group_named (word ∷ column ∷ []) = if bytes_eq word (codes "by") then Some (Some column) else None
+group_named fields = None
 
 -- a function of the rows of a table, and the column that they are grouped by
 abbrev pub aggregate_by : List ℕ → Func → Option (List ℕ) → Aggregate
@@ -30,7 +30,7 @@ aggregate_by table func by = record { table = table; func = func; by = by }
 
 -- a function of a table's rows, and the grouping that the fields behind it name
 abbrev pub grouped : List ℕ → Record → Func → Option Aggregate
-grouped table fields func = option_map (aggregate_by table func) (group_told fields)
+grouped table fields func = option_map (aggregate_by table func) (group_named fields)
 
 -- the aggregate of a column's numbers: the column, and then the grouping
 abbrev pub column_form : List ℕ → List ℕ → Record → Option Aggregate
@@ -59,7 +59,7 @@ named_group (Some column) = map_ok Some (name_in column)
 -- the aggregate, where its table and its columns have names that are names
 abbrev pub named_aggregate : Aggregate → Result Aggregate Refusal
 named_aggregate aggregate =
-    map_ok (λ told. aggregate_by told.0 told.1.0 told.1.1)
+    map_ok (λ read. aggregate_by read.0 read.1.0 read.1.1)
     (both_ok (name_in aggregate.table) (both_ok (named_func aggregate.func) (named_group aggregate.by)))
 
 -- the aggregate that a record names, or why there is none: its form comes before its names

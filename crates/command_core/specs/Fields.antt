@@ -88,11 +88,11 @@ split_asof (word ∷ text ∷ []) =
 split_asof (field ∷ word ∷ text ∷ fields) = field_before field (split_asof (word ∷ text ∷ fields))
 
 -- the number that a suffix gives: none where there is no suffix
-abbrev pub commit_told : Option (List ℕ) → Result (Option ℕ) Refusal
-commit_told None = Ok None
-commit_told (Some text) = map_ok Some (natural_in text)
+abbrev pub commit_named : Option (List ℕ) → Result (Option ℕ) Refusal
+commit_named None = Ok None
+commit_named (Some text) = map_ok Some (natural_in text)
 
 -- what the record says without its suffix, and the commit that the suffix names; without one none, which
 -- is the newest
 abbrev pub with_asof : {T : Type 0} → (Record → Result T Refusal) → Record → Result (T × Option ℕ) Refusal
-with_asof read line = both_ok (read (split_asof line).0) (commit_told (split_asof line).1)
+with_asof read line = both_ok (read (split_asof line).0) (commit_named (split_asof line).1)

@@ -45,9 +45,9 @@ abbrev pub refuse : ℕ → Refusal → Meaning
 refuse number refusal = Refuse (fault number refusal)
 
 -- the meaning, or the refusal, of the record of this number
-abbrev pub told : ℕ → Result Meaning Refusal → Meaning
-told number (Ok meaning) = meaning
-told number (Err refusal) = refuse number refusal
+abbrev pub meaning_or_refusal : ℕ → Result Meaning Refusal → Meaning
+meaning_or_refusal number (Ok meaning) = meaning
+meaning_or_refusal number (Err refusal) = refuse number refusal
 
 -- ---- new tables
 
@@ -215,7 +215,7 @@ pub record MeansRecord (number : ℕ) (own : List Record) (meaning : Meaning) : 
   pub opening : Record
   pub alone : own ≡ opening ∷ []
   pub plain : opens_block opening ≡ false
-  pub means : meaning ≡ told number (record_meaning opening)
+  pub means : meaning ≡ meaning_or_refusal number (record_meaning opening)
 
 -- a block runs to the next `end`
 pub record MeansBlock (number : ℕ) (own : List Record) (meaning : Meaning) : Type 0 where
@@ -226,7 +226,7 @@ pub record MeansBlock (number : ℕ) (own : List Record) (meaning : Meaning) : T
   pub opens : opens_block opening ≡ true
   pub inside : IsBody body
   pub closes : is_end last ≡ true
-  pub means : meaning ≡ told number (block_meaning opening body)
+  pub means : meaning ≡ meaning_or_refusal number (block_meaning opening body)
 
 -- a block without its `end` holds the rest of the script
 pub record MeansUnended (number : ℕ) (own later : List Record) (meaning : Meaning) : Type 0 where

@@ -48,4 +48,4 @@ pub record Compared : Type 0 where
 
 -- the two tables and the pairs that were named
 abbrev pub compared_by : (List ℕ × List ℕ) × List NamePair → Compared
-compared_by told = record { left = told.0.0; right = told.0.1; on = told.1 }
+compared_by read = record { left = read.0.0; right = read.0.1; on = read.1 }

@@ -16,5 +16,5 @@ func_of (raw.Max column) = Max column.now
 
 -- the aggregate of those texts
 abbrev pub aggregate_of : RawAggregate → Aggregate
-aggregate_of told =
-    record { table = told.table.now; func = func_of told.func; by = option_map (λ text. text.now) told.by }
+aggregate_of read =
+    record { table = read.table.now; func = func_of read.func; by = option_map (λ text. text.now) read.by }

@@ -88,9 +88,9 @@ commands_in (Together commands) = 1 + length commands
 
 -- a block of commands is done only where its first record is the one field `together`; with another field it is
 -- refused, and its commands with it
-abbrev pub together_told : Record → List Placed → Result (List Placed) Refusal
-together_told (word ∷ []) commands = Ok commands
-together_told opening commands = Err BadCommand
+abbrev pub opened_together : Record → List Placed → Result (List Placed) Refusal
+opened_together (word ∷ []) commands = Ok commands
+opened_together opening commands = Err BadCommand
 
 -- the commands that are done together, or the refusal of the record of this number
 abbrev pub stated : ℕ → Result (List Placed) Refusal → Statement
@@ -117,7 +117,7 @@ pub record StatesTogether (number : ℕ) (own : List Record) (statement : Statem
   pub opens : begins (codes "together") opening ≡ true
   pub inside : AreMembers (number + 1) body members
   pub closes : is_end last ≡ true
-  pub states : statement ≡ stated number (together_told opening (placed_in false members))
+  pub states : statement ≡ stated number (opened_together opening (placed_in false members))
 
 -- nothing, or a load or a check without its `end`: what may stand behind the last command of an unended block
 abbrev pub IsOpen : List Record → Type 0

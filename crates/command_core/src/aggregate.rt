@@ -5,7 +5,7 @@ ghost use Rattle.command_core.specs.Aggregates.{
   aggregated,
   column_form,
   column_func,
-  group_told,
+  group_named,
   grouped,
   named_aggregate,
   named_func,
@@ -64,8 +64,8 @@ fn column_func<'a>(word: &[u8], column: &'a [u8]) -> Option<RawFunc<'a>>
 }
 
 /// The column that rows are grouped by, named behind `by`; none where there is no field at all.
-fn group_told<'a>(fields: Line<'a>) -> Option<Option<&'a [u8]>>
-    ensures { option_map (option_map (λ column. column.now)) result ≡ group_told (fields_in fields.entry) }
+fn group_named<'a>(fields: Line<'a>) -> Option<Option<&'a [u8]>>
+    ensures { option_map (option_map (λ column. column.now)) result ≡ group_named (fields_in fields.entry) }
 {
     if fields.len() == 0 {
         return Some(None);
@@ -81,7 +81,7 @@ fn group_told<'a>(fields: Line<'a>) -> Option<Option<&'a [u8]>>
 fn grouped<'a>(table: &'a [u8], fields: Line<'a>, func: RawFunc<'a>) -> Option<RawAggregate<'a>>
     ensures { option_map aggregate_of result ≡ grouped table.entry.now (fields_in fields.entry) (func_of func.entry) }
 {
-    let by = group_told(fields)?;
+    let by = group_named(fields)?;
     Some(RawAggregate { table, func, by })
 }
 

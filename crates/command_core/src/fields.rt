@@ -3,7 +3,7 @@ ghost use Rattle.std.specs.Prelude.{◌≡◌, option_map};
 ghost use Rattle.command_core.specs.Fields.{
   both_ok,
   claimed,
-  commit_told,
+  commit_named,
   compared,
   dated,
   instant_in,
@@ -188,8 +188,8 @@ pub(crate) fn split_asof<'a>(line: Line<'a>) -> (Line<'a>, Option<&'a [u8]>)
 }
 
 /// The commit that a suffix names, where there is one.
-pub(crate) fn commit_told(text: Option<&[u8]>) -> Result<Option<u64>, Refusal>
-    ensures { result ≡ commit_told (option_map (λ s. s.now) text.entry) }
+pub(crate) fn commit_named(text: Option<&[u8]>) -> Result<Option<u64>, Refusal>
+    ensures { result ≡ commit_named (option_map (λ s. s.now) text.entry) }
 {
     match text {
         Some(text) => Ok(Some(natural_in(text)?)),

@@ -16,7 +16,7 @@ ghost use Rattle.command_core.specs.Meaning.{
 
 use crate::aggregate::aggregated;
 use crate::command::Command;
-use crate::fields::{commit_told, compared, dated, named, spanned, split_asof};
+use crate::fields::{commit_named, compared, dated, named, spanned, split_asof};
 use crate::line::Line;
 use crate::refusal::Refusal;
 
@@ -26,7 +26,7 @@ pub(crate) fn read_rows<'a>(line: Line<'a>) -> Result<Command<'a>, Refusal>
 {
     let (front, asof) = split_asof(line);
     let table = named(front)?;
-    let asof = commit_told(asof)?;
+    let asof = commit_named(asof)?;
     Ok(Command::Rows { table, asof })
 }
 
@@ -36,7 +36,7 @@ pub(crate) fn read_at<'a>(line: Line<'a>) -> Result<Command<'a>, Refusal>
 {
     let (front, asof) = split_asof(line);
     let (table, point) = dated(front)?;
-    let asof = commit_told(asof)?;
+    let asof = commit_named(asof)?;
     Ok(Command::At { table, point, asof })
 }
 
@@ -46,7 +46,7 @@ pub(crate) fn read_dip<'a>(line: Line<'a>) -> Result<Command<'a>, Refusal>
 {
     let (front, asof) = split_asof(line);
     let table = named(front)?;
-    let asof = commit_told(asof)?;
+    let asof = commit_named(asof)?;
     Ok(Command::Dip { table, asof })
 }
 
@@ -58,7 +58,7 @@ pub(crate) fn read_join<'a>(line: Line<'a>) -> Result<Command<'a>, Refusal>
     match compared(front) {
         Ok(tables) => Ok(Command::Join {
             tables,
-            asof: commit_told(asof)?,
+            asof: commit_named(asof)?,
         }),
         Err(refusal) => Err(refusal),
     }
@@ -72,7 +72,7 @@ pub(crate) fn read_anti<'a>(line: Line<'a>) -> Result<Command<'a>, Refusal>
     match compared(front) {
         Ok(tables) => Ok(Command::Anti {
             tables,
-            asof: commit_told(asof)?,
+            asof: commit_named(asof)?,
         }),
         Err(refusal) => Err(refusal),
     }
@@ -84,7 +84,7 @@ pub(crate) fn read_agg<'a>(line: Line<'a>) -> Result<Command<'a>, Refusal>
 {
     let (front, asof) = split_asof(line);
     let aggregate = aggregated(front)?;
-    let asof = commit_told(asof)?;
+    let asof = commit_named(asof)?;
     Ok(Command::Agg { aggregate, asof })
 }
 

@@ -30,12 +30,12 @@ ghost use Rattle.command_core.specs.Meaning.{
   check_meaning,
   load_meaning,
   record_meaning,
-  told,
+  meaning_or_refusal,
 };
 ghost use Rattle.command_core.specs.Words.{begins, is_end, opens_block};
 
 use crate::command::{Command, refused};
-use crate::fields::{claimed, commit_told, named, split_asof};
+use crate::fields::{claimed, commit_named, named, split_asof};
 use crate::line::Line;
 use crate::lines::Lines;
 use crate::portions::{read_delete, read_update};
@@ -108,7 +108,7 @@ fn read_check<'a>(opening: Line<'a>, body: Lines<'a>) -> Result<Command<'a>, Ref
 {
     let (front, asof) = split_asof(opening);
     let (table, (parts, instant)) = claimed(front)?;
-    let asof = commit_told(asof)?;
+    let asof = commit_named(asof)?;
     Ok(Command::Check {
         table,
         parts,
@@ -120,7 +120,7 @@ fn read_check<'a>(opening: Line<'a>, body: Lines<'a>) -> Result<Command<'a>, Ref
 
 /// What a block means, whose first record has this number.
 fn read_block<'a>(opening: Line<'a>, body: Lines<'a>, number: u64) -> Command<'a>
-    ensures { meaning_of result ≡ told number (block_meaning (fields_in opening.entry) (lines_in body.entry)) }
+    ensures { meaning_of result ≡ meaning_or_refusal number (block_meaning (fields_in opening.entry) (lines_in body.entry)) }
 {
     let read = if begins(opening, b"load") {
         read_load(opening, body)

@@ -39,8 +39,8 @@ use Rattle.answer_core.specs.declared.answer.Answer.TheVariants as answer
 use Rattle.script_core.specs.Answer.{AnswersOne, AnswersChange, AnswersQuery, IsAggOf, IsAnswerTo, IsAntiOf, IsDipOf, IsJoinOf, IsVerdictOn, IsVersions, Refuses}
 use Rattle.script_core.specs.Refusal.{book_refusal}
 use Rattle.agg_core.specs.Agg.{rows_on}
-use Rattle.script_core.specs.Effects.{TableRows, aggregated_told, change_in, claim_of, columns_told, delete_in, load_in, load_told, make_in, pairs_told, rows_told, sides_told, update_in, versions_told}
-use Rattle.script_core.proofs.AnswerUniqueness.{both_ok-first, not_Ok, rise-told}
+use Rattle.script_core.specs.Effects.{TableRows, aggregated_or_fault, change_in, claim_of, columns_or_fault, delete_in, load_in, load_or_fault, make_in, pairs_or_fault, rows_or_fault, sides_or_fault, update_in, versions_or_fault}
+use Rattle.script_core.proofs.AnswerUniqueness.{both_ok-first, not_Ok, rise-reported}
 
 -- ---- a change that is made keeps the history legal
 
@@ -61,7 +61,7 @@ legal-then (Err wrong) follow each = tt
 -- ---- answers
 
 -- an answer, and its records
-pub record Told (Is : Answer → Type 0) : Type 0 where
+pub record Reported (Is : Answer → Type 0) : Type 0 where
   pub given : Answer
   pub is : Is given
   pub records : List Record
@@ -70,18 +70,18 @@ pub record Told (Is : Answer → Type 0) : Type 0 where
 -- a command's answer and its records, and the legal history after it
 pub record Reply (Is : Answer → History → Type 0) : Type 0 where
   pub after : History
-  pub told : Told (λ given. Is given after)
+  pub reported : Reported (λ given. Is given after)
   pub legal : IsLegal after
 
-refusal_told : (before : History) (wrong : Fault) → Told (λ given. Refuses before wrong given before)
-refusal_told before wrong =
+refusal_reported : (before : History) (wrong : Fault) → Reported (λ given. Refuses before wrong given before)
+refusal_reported before wrong =
     record { given = answer.Refused wrong; is = (refl, refl); records = error_record wrong ∷ []; printed = refl }
 
 some_change : (before : History) (made : Result History Fault) → IsLegal before → IfOk made IsLegal
     → Reply (AnswersChange before made)
 some_change before (Ok next) legal then = record {
   after = next;
-  told = record {
+  reported = record {
     given = answer.Committed (length next);
     is = (refl, refl);
     records = ok_record (length next) ∷ [];
@@ -89,24 +89,24 @@ some_change before (Ok next) legal then = record {
   };
   legal = then;
 }
-some_change before (Err wrong) legal then = record { after = before; told = refusal_told before wrong; legal = legal }
+some_change before (Err wrong) legal then = record { after = before; reported = refusal_reported before wrong; legal = legal }
 
 some_query : {S : Type 0} (before : History) (read : Result S Fault) (Is : S → Answer → Type 0) → IsLegal before
-    → ((s : S) → read ≡ Ok s → Told (Is s)) → Reply (AnswersQuery before read Is)
+    → ((s : S) → read ≡ Ok s → Reported (Is s)) → Reply (AnswersQuery before read Is)
 some_query before (Ok s) Is legal each =
-    let told = each s refl in
+    let reported = each s refl in
     record {
       after = before;
-      told = record { given = told.given; is = (told.is, refl); records = told.records; printed = told.printed };
+      reported = record { given = reported.given; is = (reported.is, refl); records = reported.records; printed = reported.printed };
       legal = legal;
     }
 some_query before (Err wrong) Is legal each =
-    record { after = before; told = refusal_told before wrong; legal = legal }
+    record { after = before; reported = refusal_reported before wrong; legal = legal }
 
-rows_answer : (rows : List Row) → Told (λ given. given ≡ answer.Rows rows)
+rows_answer : (rows : List Row) → Reported (λ given. given ≡ answer.Rows rows)
 rows_answer rows = record { given = answer.Rows rows; is = refl; records = row_records rows; printed = refl }
 
-versions_answer : (Are : List Version → Type 0) → (versions : List Version) × Are versions → Told (IsVersions Are)
+versions_answer : (Are : List Version → Type 0) → (versions : List Version) × Are versions → Reported (IsVersions Are)
 versions_answer Are (versions, are) = record {
   given = answer.Versions versions;
   is = record { versions = versions; asked = are; is = refl };
@@ -114,7 +114,7 @@ versions_answer Are (versions, are) = record {
   printed = refl;
 }
 
-some_dip_answer : (items : List Item) → item.IdsRise items → Told (IsDipOf items)
+some_dip_answer : (items : List Item) → item.IdsRise items → Reported (IsDipOf items)
 some_dip_answer items rise =
     let (parts, dip) = some_dip items (HasDistinctIds-from_rising items rise) in
     let (instant, at) = some_instant items parts dip.divided in
@@ -125,7 +125,7 @@ some_dip_answer items rise =
       printed = (instant, at, refl);
     }
 
-some_join_answer : (left right : TableRows) (on : List NamePair) → Told (IsJoinOf left right on)
+some_join_answer : (left right : TableRows) (on : List NamePair) → Reported (IsJoinOf left right on)
 some_join_answer left right on =
     let (rows, joined) = some_join left.0 right.0 on left.1 right.1 in
     let found : JoinedRows = record { left = left.1; right = right.1; rows = rows } in
@@ -136,7 +136,7 @@ some_join_answer left right on =
       printed = refl;
     }
 
-some_anti_answer : (left right : TableRows) (on : List NamePair) → Told (IsAntiOf left right on)
+some_anti_answer : (left right : TableRows) (on : List NamePair) → Reported (IsAntiOf left right on)
 some_anti_answer left right on =
     let (rows, unmatched) = some_anti left.0 right.0 on left.1 right.1 in
     let found : UnmatchedRows = record { left = left.1; rows = rows } in
@@ -147,7 +147,7 @@ some_anti_answer left right on =
       printed = refl;
     }
 
-some_agg_answer : (table : TableRows) (asked : Aggregate) → Told (IsAggOf table asked)
+some_agg_answer : (table : TableRows) (asked : Aggregate) → Reported (IsAggOf table asked)
 some_agg_answer table asked =
     let (rows, aggregated) = some_aggregate table.0 asked.func asked.by table.1 in
     record {
@@ -158,7 +158,7 @@ some_agg_answer table asked =
     }
 
 some_verdict_answer : (items : List Item) (claim : List (List ℕ)) (certificate : Certificate) → item.IdsRise items
-    → Told (IsVerdictOn items claim certificate)
+    → Reported (IsVerdictOn items claim certificate)
 some_verdict_answer items claim certificate rise =
     let (verdict, applies) = some_verdict items claim certificate rise in
     record {
@@ -180,66 +180,66 @@ none_mapped f (Some why) e = cc e
 pub some_reply : (before : History) (number : ℕ) (meaning : Meaning) → IsLegal before
     → Reply (IsAnswerTo before number meaning)
 some_reply before number (Refuse wrong) legal =
-    record { after = before; told = refusal_told before wrong; legal = legal }
+    record { after = before; reported = refusal_reported before wrong; legal = legal }
 some_reply before number (Make name columns) legal =
     some_change before (make_in number before name columns) legal
     (legal-one number before (change.Make name columns) legal)
 some_reply before number (Load name body) legal =
     some_change before (load_in number before name body) legal
-    (legal-then (load_told number before name body) _ (λ rows.
+    (legal-then (load_or_fault number before name body) _ (λ rows.
     legal-one number before (change.Load name rows) legal))
 some_reply before number (Update name portion sets conds) legal =
     some_change before (update_in number before name portion sets conds) legal
-    (legal-then (columns_told number before name) _ (λ columns.
-    legal-then (pairs_told number columns sets) _ (λ settings.
-    legal-then (pairs_told number columns conds) _ (λ conditions.
+    (legal-then (columns_or_fault number before name) _ (λ columns.
+    legal-then (pairs_or_fault number columns sets) _ (λ settings.
+    legal-then (pairs_or_fault number columns conds) _ (λ conditions.
     legal-one number before (change.Update name portion settings conditions) legal))))
 some_reply before number (Delete name portion conds) legal =
     some_change before (delete_in number before name portion conds) legal
-    (legal-then (columns_told number before name) _ (λ columns.
-    legal-then (pairs_told number columns conds) _ (λ conditions.
+    (legal-then (columns_or_fault number before name) _ (λ columns.
+    legal-then (pairs_or_fault number columns conds) _ (λ conditions.
     legal-one number before (change.Delete name portion conditions) legal)))
 some_reply before number (Rows name asof) legal =
-    some_query before (rows_told number before asof name) (λ rows given. given ≡ answer.Rows rows) legal
+    some_query before (rows_or_fault number before asof name) (λ rows given. given ≡ answer.Rows rows) legal
     (λ rows read. rows_answer rows)
 some_reply before number (At name point asof) legal =
-    some_query before (rows_told number before asof name) (λ rows given. given ≡ answer.Rows (rows_on point rows)) legal
+    some_query before (rows_or_fault number before asof name) (λ rows given. given ≡ answer.Rows (rows_on point rows)) legal
     (λ rows read. rows_answer (rows_on point rows))
 some_reply before number (Between name first last) legal =
     let Are = AreBetween before (length before) first last name in
     let refusal = history.between_refusal before (length before) (nat_lt last first) name in
-    some_query before (versions_told number before (nat_lt last first) name) (λ _. IsVersions Are) legal
+    some_query before (versions_or_fault number before (nat_lt last first) name) (λ _. IsVersions Are) legal
     (λ s read. versions_answer Are
     (some_between before (length before) first last name legal (none_mapped _ refusal (not_refused _ tt s read))))
 some_reply before number (FromTo name first end) legal =
     let Are = AreFromTo before (length before) first end name in
     let refusal = history.between_refusal before (length before) (nat_le end first) name in
-    some_query before (versions_told number before (nat_le end first) name) (λ _. IsVersions Are) legal
+    some_query before (versions_or_fault number before (nat_le end first) name) (λ _. IsVersions Are) legal
     (λ s read. versions_answer Are
     (some_from_to before (length before) first end name legal (none_mapped _ refusal (not_refused _ tt s read))))
 some_reply before number (Dip name asof) legal =
-    some_query before (rows_told number before asof name) (λ rows. IsDipOf (items_of rows)) legal
+    some_query before (rows_or_fault number before asof name) (λ rows. IsDipOf (items_of rows)) legal
     (λ rows read. some_dip_answer (items_of rows)
-    (IdsRise-items_of rows (rise-told number before asof name rows read)))
+    (IdsRise-items_of rows (rise-reported number before asof name rows read)))
 some_reply before number (Join tables asof) legal =
-    some_query before (sides_told number before asof tables) (λ sides. IsJoinOf sides.0 sides.1 tables.on) legal
+    some_query before (sides_or_fault number before asof tables) (λ sides. IsJoinOf sides.0 sides.1 tables.on) legal
     (λ sides read. some_join_answer sides.0 sides.1 tables.on)
 some_reply before number (Anti tables asof) legal =
-    some_query before (sides_told number before asof tables) (λ sides. IsAntiOf sides.0 sides.1 tables.on) legal
+    some_query before (sides_or_fault number before asof tables) (λ sides. IsAntiOf sides.0 sides.1 tables.on) legal
     (λ sides read. some_anti_answer sides.0 sides.1 tables.on)
 some_reply before number (Agg asked asof) legal =
-    some_query before (aggregated_told number before asof asked) (λ table. IsAggOf table asked) legal
+    some_query before (aggregated_or_fault number before asof asked) (λ table. IsAggOf table asked) legal
     (λ table read. some_agg_answer table asked)
 some_reply before number (Check name parts instant asof body) legal =
-    let told = rows_told number before asof name in
+    let reported = rows_or_fault number before asof name in
     let claimed = claim_of (number + 1) body in
     let certificate : Certificate = record { parts = parts; instant = instant } in
-    some_query before (both_ok told claimed) (λ read. IsVerdictOn (items_of read.0) read.1 certificate) legal
+    some_query before (both_ok reported claimed) (λ read. IsVerdictOn (items_of read.0) read.1 certificate) legal
     (λ read e. some_verdict_answer (items_of read.0) read.1 certificate
-    (IdsRise-items_of read.0 (rise-told number before asof name read.0 (both_ok-first told claimed read.0 read.1 e))))
+    (IdsRise-items_of read.0 (rise-reported number before asof name read.0 (both_ok-first reported claimed read.0 read.1 e))))
 some_reply before number Log legal = record {
   after = before;
-  told = record {
+  reported = record {
     given = answer.Log (log_of before);
     is = (refl, refl);
     records = commit_records (log_of before);
@@ -249,5 +249,5 @@ some_reply before number Log legal = record {
 }
 
 pub answers_by : (before : History) (number : ℕ) (meaning : Meaning) (reply : Reply (IsAnswerTo before number meaning))
-    → AnswersOne before number meaning reply.told.records reply.after
-answers_by before number meaning reply = (reply.told.given, reply.told.is, reply.told.printed)
+    → AnswersOne before number meaning reply.reported.records reply.after
+answers_by before number meaning reply = (reply.reported.given, reply.reported.is, reply.reported.printed)

@@ -32,7 +32,7 @@ use Rattle.answer_core.specs.declared.answer.Answer.{Answer}
 use Rattle.answer_core.specs.declared.answer.Answer.TheVariants as answer
 use Rattle.script_core.specs.Answer.{AnswersOne, AnswersChange, AnswersQuery, IsAggOf, IsAnswerTo, IsAntiOf, IsDipOf, IsJoinOf, IsVerdictOn, IsVersions, Refuses}
 use Rattle.agg_core.specs.Agg.{rows_on}
-use Rattle.script_core.specs.Effects.{TableRows, aggregated_told, claim_of, delete_in, load_in, make_in, rows_told, sides_told, update_in, versions_told}
+use Rattle.script_core.specs.Effects.{TableRows, aggregated_or_fault, claim_of, delete_in, load_in, make_in, rows_or_fault, sides_or_fault, update_in, versions_or_fault}
 
 -- ---- what queries are answered
 
@@ -95,9 +95,9 @@ both_ok-first (Err why) q x y e = absurd (not_Ok (x, y) why e)
 both_ok-first (Ok v) (Err why) x y e = absurd (not_Ok (x, y) why e)
 both_ok-first {S} {T} {E} (Ok v) (Ok w) x y e = ap (λ (p : S × T). Ok p.0) (same_Ok {T = S × T} {E = E} (v, w) (x, y) e)
 
-pub rise-told : (number : ℕ) (h : History) (asof : Option ℕ) (name : List ℕ) (rows : List Row)
-    → rows_told number h asof name ≡ Ok rows → RowsRise rows
-rise-told number h asof name rows e =
+pub rise-reported : (number : ℕ) (h : History) (asof : Option ℕ) (name : List ℕ) (rows : List Row)
+    → rows_or_fault number h asof name ≡ Ok rows → RowsRise rows
+rise-reported number h asof name rows e =
     subst RowsRise (given-ok _ _ (rows_at h (unwrap_or asof (length h)) name) rows e)
     (RowsRise-rows_at h (unwrap_or asof (length h)) name)
 
@@ -135,38 +135,38 @@ one_given before number (Update name portion sets conds) one other f g p q =
 one_given before number (Delete name portion conds) one other f g p q =
     one_change before (delete_in number before name portion conds) one other f g p q
 one_given before number (Rows name asof) one other f g p q =
-    one_query before (rows_told number before asof name) (λ rows given. given ≡ answer.Rows rows)
+    one_query before (rows_or_fault number before asof name) (λ rows given. given ≡ answer.Rows rows)
     (λ rows read one other p q. p ∙ sym q) one other f g p q
 one_given before number (At name point asof) one other f g p q =
-    one_query before (rows_told number before asof name) (λ rows given. given ≡ answer.Rows (rows_on point rows))
+    one_query before (rows_or_fault number before asof name) (λ rows given. given ≡ answer.Rows (rows_on point rows))
     (λ rows read one other p q. p ∙ sym q) one other f g p q
 one_given before number (Between name first last) one other f g p q =
     let Are = AreBetween before (length before) first last name in
-    one_query before (versions_told number before (nat_lt last first) name) (λ _. IsVersions Are)
+    one_query before (versions_or_fault number before (nat_lt last first) name) (λ _. IsVersions Are)
     (λ _ read. one_versions Are (one_list before (length before) name _)) one other f g p q
 one_given before number (FromTo name first end) one other f g p q =
     let Are = AreFromTo before (length before) first end name in
-    one_query before (versions_told number before (nat_le end first) name) (λ _. IsVersions Are)
+    one_query before (versions_or_fault number before (nat_le end first) name) (λ _. IsVersions Are)
     (λ _ read. one_versions Are (one_list before (length before) name _)) one other f g p q
 one_given before number (Dip name asof) one other f g p q =
-    one_query before (rows_told number before asof name) (λ rows. IsDipOf (items_of rows))
+    one_query before (rows_or_fault number before asof name) (λ rows. IsDipOf (items_of rows))
     (λ rows read. one_dip_of (items_of rows)) one other f g p q
 one_given before number (Join tables asof) one other f g p q =
-    one_query before (sides_told number before asof tables) (λ sides. IsJoinOf sides.0 sides.1 tables.on)
+    one_query before (sides_or_fault number before asof tables) (λ sides. IsJoinOf sides.0 sides.1 tables.on)
     (λ sides read. one_join_of sides.0 sides.1 tables.on) one other f g p q
 one_given before number (Anti tables asof) one other f g p q =
-    one_query before (sides_told number before asof tables) (λ sides. IsAntiOf sides.0 sides.1 tables.on)
+    one_query before (sides_or_fault number before asof tables) (λ sides. IsAntiOf sides.0 sides.1 tables.on)
     (λ sides read. one_anti_of sides.0 sides.1 tables.on) one other f g p q
 one_given before number (Agg asked asof) one other f g p q =
-    one_query before (aggregated_told number before asof asked) (λ table. IsAggOf table asked)
+    one_query before (aggregated_or_fault number before asof asked) (λ table. IsAggOf table asked)
     (λ table read. one_agg_of table asked) one other f g p q
 one_given before number (Check name parts instant asof body) one other f g p q =
-    let told = rows_told number before asof name in
+    let reported = rows_or_fault number before asof name in
     let claimed = claim_of (number + 1) body in
     let certificate : Certificate = record { parts = parts; instant = instant } in
-    one_query before (both_ok told claimed) (λ read. IsVerdictOn (items_of read.0) read.1 certificate)
+    one_query before (both_ok reported claimed) (λ read. IsVerdictOn (items_of read.0) read.1 certificate)
     (λ read e one other. one_verdict_on (items_of read.0) read.1 certificate one other
-    (IdsRise-items_of read.0 (rise-told number before asof name read.0 (both_ok-first told claimed read.0 read.1 e))))
+    (IdsRise-items_of read.0 (rise-reported number before asof name read.0 (both_ok-first reported claimed read.0 read.1 e))))
     one other f g p q
 one_given before number Log one other f g p q = (p.0 ∙ sym q.0, p.1 ∙ sym q.1)
 

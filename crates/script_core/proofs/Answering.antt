@@ -11,7 +11,7 @@ use Rattle.match_core.specs.Items.{items_of}
 use Rattle.answer_core.specs.declared.answer.Answer.{Answer}
 use Rattle.answer_core.specs.declared.answer.Answer.TheVariants as answer
 use Rattle.script_core.specs.Answer.{AnswersQuery, IsAggOf, IsAnswerTo, IsAntiOf, IsDipOf, IsJoinOf, IsVerdictOn}
-use Rattle.script_core.specs.Effects.{aggregated_told, claim_of, rows_told, sides_told}
+use Rattle.script_core.specs.Effects.{aggregated_or_fault, claim_of, rows_or_fault, sides_or_fault}
 use Rattle.script_core.specs.Performing.{asof_in, Gives, Performs}
 use Rattle.script_core.specs.Failure.{Failure, IsFailureOf}
 use Rattle.row_core.specs.declared.failure.Failure.TheVariants.{Refused, NoMemory}
@@ -44,35 +44,35 @@ query-failed number meaning before after meant Is failure outcome answers is sam
 -- refused as what it would read
 pub unread-fails : (number : ℕ) (meaning : Meaning) (h : History) (failure : Failure) (outcome : Result Answer Failure)
     → is_allowed true meaning ≡ true → outcome ≡ Err failure
-    → ((table : List ℕ) → IsFailureOf (rows_told number h (asof_in meaning) table) failure)
+    → ((table : List ℕ) → IsFailureOf (rows_or_fault number h (asof_in meaning) table) failure)
     → (asof_in meaning ≡ None → failure ≡ NoMemory) → Performs h number meaning outcome h
 unread-fails number (Rows table asof) h failure outcome allowed is fails newest =
-    query-failed number (Rows table asof) h h (rows_told number h asof table) (λ rows given. given ≡ answer.Rows rows)
+    query-failed number (Rows table asof) h h (rows_or_fault number h asof table) (λ rows given. given ≡ answer.Rows rows)
     failure outcome (λ given it. it) is refl (fails table)
 unread-fails number (At table point asof) h failure outcome allowed is fails newest =
-    query-failed number (At table point asof) h h (rows_told number h asof table)
+    query-failed number (At table point asof) h h (rows_or_fault number h asof table)
     (λ rows given. given ≡ answer.Rows (rows_on point rows)) failure outcome (λ given it. it) is refl (fails table)
 unread-fails number (Dip table asof) h failure outcome allowed is fails newest =
-    query-failed number (Dip table asof) h h (rows_told number h asof table) (λ rows. IsDipOf (items_of rows)) failure
+    query-failed number (Dip table asof) h h (rows_or_fault number h asof table) (λ rows. IsDipOf (items_of rows)) failure
     outcome (λ given it. it) is refl (fails table)
 unread-fails number (Join tables asof) h failure outcome allowed is fails newest =
-    query-failed number (Join tables asof) h h (sides_told number h asof tables)
+    query-failed number (Join tables asof) h h (sides_or_fault number h asof tables)
     (λ sides. IsJoinOf sides.0 sides.1 tables.on) failure outcome (λ given it. it) is refl
     (sides-failed number h asof tables failure (fails tables.left))
 unread-fails number (Anti tables asof) h failure outcome allowed is fails newest =
-    query-failed number (Anti tables asof) h h (sides_told number h asof tables)
+    query-failed number (Anti tables asof) h h (sides_or_fault number h asof tables)
     (λ sides. IsAntiOf sides.0 sides.1 tables.on) failure outcome (λ given it. it) is refl
     (sides-failed number h asof tables failure (fails tables.left))
 unread-fails number (Agg asked asof) h failure outcome allowed is fails newest =
-    query-failed number (Agg asked asof) h h (aggregated_told number h asof asked) (λ table. IsAggOf table asked)
+    query-failed number (Agg asked asof) h h (aggregated_or_fault number h asof asked) (λ table. IsAggOf table asked)
     failure outcome (λ given it. it) is refl (aggregated-failed number h asof asked failure (fails asked.table))
 unread-fails number (Check table parts instant asof body) h failure outcome allowed is fails newest =
     let certificate : Certificate = record { parts = parts; instant = instant } in
-    let told = rows_told number h asof table in
+    let reported = rows_or_fault number h asof table in
     let claimed = claim_of (number + 1) body in
-    query-failed number (Check table parts instant asof body) h h (both_ok told claimed)
+    query-failed number (Check table parts instant asof body) h h (both_ok reported claimed)
     (λ read. IsVerdictOn (items_of read.0) read.1 certificate) failure outcome (λ given it. it) is refl
-    (both_ok-failed told claimed failure (fails table))
+    (both_ok-failed reported claimed failure (fails table))
 unread-fails number other h failure outcome allowed is fails newest =
     subst (λ (o : Result Answer Failure). Performs h number other o h)
     (sym (is ∙ ap Err (newest refl))) tt

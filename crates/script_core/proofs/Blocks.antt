@@ -9,7 +9,7 @@ use Rattle.row_core.specs.Refusals.{map_ok}
 use Rattle.book_core.specs.History.{History}
 use Rattle.command_core.specs.Fields.{named}
 use Rattle.command_core.specs.Meaning as meaning
-use Rattle.command_core.specs.Meaning.{Meaning, MeansBlock, MeansRecord, block_meaning, check_meaning, load_meaning, refuse, told}
+use Rattle.command_core.specs.Meaning.{Meaning, MeansBlock, MeansRecord, block_meaning, check_meaning, load_meaning, meaning_or_refusal, refuse}
 use Rattle.command_core.specs.Records.{Record}
 use Rattle.command_core.specs.Statement.{AreMembers, IsMember, IsNext, IsSplit, Member, Placed, Together, begins_load, is_allowed, is_barred, is_load, meaning_inside, placed_in}
 use Rattle.command_core.specs.Words.{begins, opens_block}
@@ -36,7 +36,7 @@ use Rattle.script_core.proofs.TogetherExistence.{reads-allowed}
 pub performed-answer : (before : History) (number : ℕ) (meant : Meaning) (outcome : Result Answer Failure)
     (after : History) (given : Answer) → Performs before number meant outcome after → IsAnswerOf outcome given
     → IsAnswerTo before number meant given after
-performed-answer before number meant (Ok told) after given performs is =
+performed-answer before number meant (Ok reported) after given performs is =
     subst (λ (g : Answer). IsAnswerTo before number meant g after) (sym is) performs
 performed-answer before number meant (Err (Refused wrong)) after given performs is =
     subst (λ (g : Answer). IsAnswerTo before number meant g after) (sym is) performs
@@ -82,10 +82,10 @@ load-answered before after number (meaning.Check name parts instant asof body) g
 load-answered before after number meaning.Log given asks is = absurd asks
 
 -- a command with the word `load` is a load, or refused
-asks-told : (number : ℕ) (body : List Record) (named : Result (List ℕ) Refusal)
-    → AsksLoad (told number (map_ok (λ name. meaning.Load name body) named))
-asks-told number body (Ok name) = tt
-asks-told number body (Err refusal) = tt
+asks-reported : (number : ℕ) (body : List Record) (named : Result (List ℕ) Refusal)
+    → AsksLoad (meaning_or_refusal number (map_ok (λ name. meaning.Load name body) named))
+asks-reported number body (Ok name) = tt
+asks-reported number body (Err refusal) = tt
 
 asks-if : (b : Bool) (number : ℕ) (meant : Meaning) → AsksLoad meant
     → AsksLoad (if b then refuse number NotInBlock else meant)
@@ -105,8 +105,8 @@ asks-alone own behind member whole loads (inr b) =
     let word : begins (codes "load") b.opening ≡ true = subst (λ o. begins (codes "load") o ≡ true) same loads in
     let load : block_meaning b.opening b.body ≡ load_meaning b.opening b.body =
     ap (λ w. if w then load_meaning b.opening b.body else check_meaning b.opening b.body) word in
-    subst AsksLoad (sym (b.means ∙ ap (told member.number) load))
-    (asks-told member.number b.body (named b.opening))
+    subst AsksLoad (sym (b.means ∙ ap (meaning_or_refusal member.number) load))
+    (asks-reported member.number b.body (named b.opening))
 
 pub load-asks : (has_load : Bool) (own : List Record) (member : Member) → IsMember own member
     → begins_load member ≡ true → AsksLoad (meaning_inside has_load member)
@@ -196,29 +196,29 @@ placed-split (member ∷ front) back load none loads =
 
 -- some queries are answered, with this outcome, and these are left from this place on
 pub record QueriesTo (before : History) (number : ℕ) (records : List Record) (at : ℕ) (members : List Member)
-    (old new : List ℕ) (told : Outcome) : Type 0 where
+    (old new : List ℕ) (reported : Outcome) : Type 0 where
   pub gone : List Member
   pub left : List Member
   pub are : members ≡ gone ++ left
   pub behind : AreMembers (number + at) (drop at records) left
-  pub printed : PrintsQueries before (placed_in true gone) old new told
+  pub printed : PrintsQueries before (placed_in true gone) old new reported
 
 -- the same of all members that the records have
 abbrev pub QueriesDone : History → ℕ → List Record → ℕ → List ℕ → List ℕ → Outcome → Type 0
-QueriesDone before number records at old new told =
+QueriesDone before number records at old new reported =
     (members : List Member) → AreMembers number records members
-    → QueriesTo before number records at members old new told
+    → QueriesTo before number records at members old new reported
 
 -- one more query is answered
 pub queries-more : (before : History) (number : ℕ) (records : List Record) (at taken : ℕ) (old mid new : List ℕ)
-    (told next : Outcome) (meant : Meaning) (errors : ℕ) → QueriesDone before number records at old mid told
+    (reported next : Outcome) (meant : Meaning) (errors : ℕ) → QueriesDone before number records at old mid reported
     → taken ≤ length (drop at records)
     → ((members : List Member) → AreMembers (number + at) (drop at records) members
     → IsNext true (number + at) members (take taken (drop at records)) (drop taken (drop at records)) meant)
     → is_allowed true meant ≡ true → PrintsOne before (number + at) meant before mid new errors
-    → next.commands ≡ told.commands + 1 → next.errors ≡ told.errors + errors
+    → next.commands ≡ reported.commands + 1 → next.errors ≡ reported.errors + errors
     → QueriesDone before number records (at + taken) old new next
-queries-more before number records at taken old mid new told next meant errors done within next_is allowed one
+queries-more before number records at taken old mid new reported next meant errors done within next_is allowed one
     commands more members are =
     let d = done members are in
     let n = next_is d.left d.behind in
@@ -271,14 +271,14 @@ none-left number records (member ∷ more) empty (own, later, split, first, is, 
 
 -- all are
 pub queries-all : (before : History) (number : ℕ) (records : List Record) (at : ℕ) (old new : List ℕ)
-    (told : Outcome) → QueriesDone before number records at old new told → length records ≤ at
+    (reported : Outcome) → QueriesDone before number records at old new reported → length records ≤ at
     → (members : List Member) → AreMembers number records members
-    → PrintsQueries before (placed_in true members) old new told
-queries-all before number records at old new told done over members are =
+    → PrintsQueries before (placed_in true members) old new reported
+queries-all before number records at old new reported done over members are =
     let d = done members are in
     let empty : d.left ≡ [] = none-left (number + at) (drop at records) d.left (drop_all at records over) d.behind in
     let whole : d.gone ≡ members = sym (d.are ∙ (ap (λ l. d.gone ++ l) empty ∙ append-nil d.gone)) in
-    subst (λ l. PrintsQueries before (placed_in true l) old new told) whole d.printed
+    subst (λ l. PrintsQueries before (placed_in true l) old new reported) whole d.printed
 
 -- ---- the whole block
 
@@ -289,15 +289,15 @@ appended old later new ys adds is = is ∙ ap (λ t. old ++ t) adds
 
 -- the queries before a load, the load, and the queries behind it
 pub block-printed : (before after : History) (members front back : List Member) (load : Member)
-    (errors : ℕ) (old mid near later new : List ℕ) (first last told : Outcome)
+    (errors : ℕ) (old mid near later new : List ℕ) (first last reported : Outcome)
     → members ≡ front ++ load ∷ back → All (λ m. begins_load m ≡ false) front → begins_load load ≡ true
     → AsksLoad (meaning_inside false load) → PrintsQueries before (placed_in true front) old mid first
     → PrintsOne before load.number (meaning_inside false load) after mid near errors
     → PrintsQueries before (placed_in true back) [] later last
     → new ≡ near ++ later
-    → told.commands ≡ first.commands + last.commands + 1 → told.errors ≡ first.errors + last.errors + errors
-    → PrintsBlock before (placed_in false members) after old new told
-block-printed before after members front back load errors old mid near later new first last told are none loads
+    → reported.commands ≡ first.commands + last.commands + 1 → reported.errors ≡ first.errors + last.errors + errors
+    → PrintsBlock before (placed_in false members) after old new reported
+block-printed before after members front back load errors old mid near later new first last reported are none loads
     asks ahead one others joined commands more =
     let command : Placed = record { number = load.number; meaning = meaning_inside false load } in
     let split : placed_in false members ≡ placed_in true front ++ command ∷ placed_in true back =
@@ -340,12 +340,12 @@ block-printed before after members front back load errors old mid near later new
     }
 
 -- queries alone
-pub queries-block : (before after : History) (members : List Member) (old new : List ℕ) (told : Outcome)
+pub queries-block : (before after : History) (members : List Member) (old new : List ℕ) (reported : Outcome)
     → All (λ m. begins_load m ≡ false) members → after ≡ before
-    → PrintsQueries before (placed_in true members) old new told
-    → PrintsBlock before (placed_in false members) after old new told
-queries-block before after members old new told none same printed =
-    let p = subst (λ l. PrintsQueries before l old new told) (placed-none members none) printed in
+    → PrintsQueries before (placed_in true members) old new reported
+    → PrintsBlock before (placed_in false members) after old new reported
+queries-block before after members old new reported none same printed =
+    let p = subst (λ l. PrintsQueries before l old new reported) (placed-none members none) printed in
     record {
       answers = p.answers;
       block = record { each = p.each after; unloaded = λ _. same };
@@ -356,9 +356,9 @@ queries-block before after members old new told none same printed =
 
 -- behind the record that the block's answer begins with
 pub block-stated : (before : History) (number : ℕ) (commands : List Placed) (after : History) (old mid new : List ℕ)
-    (told next : Outcome) (own : List Record) → own ≡ together_record (length before) ∷ [] → Adds old mid own
-    → PrintsBlock before commands after mid new told → next.commands ≡ told.commands + 1
-    → next.errors ≡ told.errors → PrintsStatement before number (Together commands) after old new next
+    (reported next : Outcome) (own : List Record) → own ≡ together_record (length before) ∷ [] → Adds old mid own
+    → PrintsBlock before commands after mid new reported → next.commands ≡ reported.commands + 1
+    → next.errors ≡ reported.errors → PrintsStatement before number (Together commands) after old new next
 block-stated before number commands after old mid new counted next own is opened block count errors =
     let first : Record = together_record (length before) in
     let quiet : begins (codes "error") first ≡ false = refl in
@@ -446,9 +446,9 @@ load-cut number lines place taken members meant within few split next_is =
 pub sections-joined : {E : Type 0} (before : History) (near far : ℕ) (front back : List Record)
     (old new empty later : List ℕ) (queries : Result (Outcome × Outcome) E)
     → length front + length back + 1 < 2 ^ 64
-    → IfOk queries (λ told. PrintsSection before near front old new told.0)
-    → IfOk queries (λ told. PrintsSection before far back empty later told.1)
-    → IfOk queries (λ told. CanBeJoined told.0 told.1)
-sections-joined before near far front back old new empty later (Ok told) few first last =
+    → IfOk queries (λ reported. PrintsSection before near front old new reported.0)
+    → IfOk queries (λ reported. PrintsSection before far back empty later reported.1)
+    → IfOk queries (λ reported. CanBeJoined reported.0 reported.1)
+sections-joined before near far front back old new empty later (Ok reported) few first last =
     record { before = first.few; behind = last.few; fits = omega (arith, first.fewer, last.fewer) }
 sections-joined before near far front back old new empty later (Err error) few first last = tt

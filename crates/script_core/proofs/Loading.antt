@@ -5,7 +5,7 @@ use Rattle.row_core.specs.Refusals.{and_then, map_err, map_ok}
 use Rattle.script_core.specs.Failure.{Failure, IsFailureOf, IsRecordFailure}
 use Rattle.command_core.specs.Records.{Record}
 use Rattle.command_core.specs.Refusal.{fault}
-use Rattle.script_core.specs.Effects.{told_by}
+use Rattle.script_core.specs.Effects.{all_or_fault}
 use Rattle.row_core.specs.declared.failure.Failure.TheVariants.{Refused, NoMemory}
 use Rattle.command_core.specs.declared.refusal.Fault.{Fault}
 use Rattle.command_core.specs.declared.refusal.Refusal.{Refusal}
@@ -33,41 +33,41 @@ pub behind-refused : {T E : Type 0} (had : List T) (first : Result T E) (wrong :
 behind-refused had first wrong others bad = ap (λ r. behind had (then_others r others)) bad
 
 -- what one record gives, or its fault
-abbrev told_of : {T : Type 0} → ℕ → Result T Refusal → Result T Fault
-told_of number read = map_err (fault number) read
+abbrev one_or_fault : {T : Type 0} → ℕ → Result T Refusal → Result T Fault
+one_or_fault number read = map_err (fault number) read
 
 next_record : {T : Type 0} (read : Record → Result T Refusal) (number place : ℕ) (lines : List Record)
     (line : Record) → slice_get lines place ≡ Some line
-    → told_by read (number + place) (drop place lines) ≡ then_others (told_of (number + place) (read line))
-    (told_by read (number + (place + 1)) (drop (place + 1) lines))
+    → all_or_fault read (number + place) (drop place lines) ≡ then_others (one_or_fault (number + place) (read line))
+    (all_or_fault read (number + (place + 1)) (drop (place + 1) lines))
 next_record read number place lines line e =
     let next : number + place + 1 ≡ number + (place + 1) = omega arith in
-    ap (told_by read (number + place)) (drop-slice_get lines place line e)
-    ∙ ap (λ n. then_others (told_of (number + place) (read line)) (told_by read n (drop (place + 1) lines))) next
+    ap (all_or_fault read (number + place)) (drop-slice_get lines place line e)
+    ∙ ap (λ n. then_others (one_or_fault (number + place) (read line)) (all_or_fault read n (drop (place + 1) lines))) next
 
 -- one more record was read
 pub behind-more : {T : Type 0} (read : Record → Result T Refusal) (number place : ℕ) (lines : List Record)
     (line : Record) (had : List T) (first : T) → slice_get lines place ≡ Some line → read line ≡ Ok first
-    → behind had (told_by read (number + place) (drop place lines)) ≡ behind (had ++ first ∷ [])
-    (told_by read (number + (place + 1)) (drop (place + 1) lines))
+    → behind had (all_or_fault read (number + place) (drop place lines)) ≡ behind (had ++ first ∷ [])
+    (all_or_fault read (number + (place + 1)) (drop (place + 1) lines))
 behind-more read number place lines line had first e good =
     ap (behind had) (next_record read number place lines line e)
-    ∙ behind-next had (told_of (number + place) (read line)) first
-    (told_by read (number + (place + 1)) (drop (place + 1) lines)) (ap (told_of (number + place)) good)
+    ∙ behind-next had (one_or_fault (number + place) (read line)) first
+    (all_or_fault read (number + (place + 1)) (drop (place + 1) lines)) (ap (one_or_fault (number + place)) good)
 
 behind-wrong : {T : Type 0} (read : Record → Result T Refusal) (number place : ℕ) (lines : List Record)
     (line : Record) (had : List T) (refusal : Refusal) → slice_get lines place ≡ Some line → read line ≡ Err refusal
-    → behind had (told_by read (number + place) (drop place lines)) ≡ Err (fault (number + place) refusal)
+    → behind had (all_or_fault read (number + place) (drop place lines)) ≡ Err (fault (number + place) refusal)
 behind-wrong read number place lines line had refusal e bad =
     ap (behind had) (next_record read number place lines line e)
-    ∙ behind-refused had (told_of (number + place) (read line)) (fault (number + place) refusal)
-    (told_by read (number + (place + 1)) (drop (place + 1) lines)) (ap (told_of (number + place)) bad)
+    ∙ behind-refused had (one_or_fault (number + place) (read line)) (fault (number + place) refusal)
+    (all_or_fault read (number + (place + 1)) (drop (place + 1) lines)) (ap (one_or_fault (number + place)) bad)
 
 -- a record is refused
 pub behind-failed : {T : Type 0} (read : Record → Result T Refusal) (number place : ℕ) (lines : List Record)
     (line : Record) (had : List T) (meant : Result (List T) Fault) (failure : Failure)
     → slice_get lines place ≡ Some line
-    → meant ≡ behind had (told_by read (number + place) (drop place lines))
+    → meant ≡ behind had (all_or_fault read (number + place) (drop place lines))
     → IsRecordFailure (number + place) (read line) failure → IsFailureOf meant failure
 behind-failed read number place lines line had meant (Refused wrong) e is (refusal, bad, same) =
     is ∙ (behind-wrong read number place lines line had refusal e bad ∙ ap Err (sym same))

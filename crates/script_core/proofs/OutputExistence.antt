@@ -6,7 +6,7 @@ use Rattle.book_core.specs.History.{History, IsLegal}
 use Rattle.command_core.specs.Meaning.{Meaning, Refuse}
 use Rattle.command_core.specs.Records.{Record}
 use Rattle.command_core.specs.Refusal.{fault}
-use Rattle.command_core.specs.Statement.{AreMembers, FirstStatement, Member, One, Statement, States, placed_in, stated, together_told}
+use Rattle.command_core.specs.Statement.{AreMembers, FirstStatement, Member, One, Statement, States, placed_in, stated, opened_together}
 use Rattle.command_core.specs.declared.refusal.Refusal.TheVariants.{BadCommand, Unended}
 use Rattle.command_core.proofs.RecordsExistence.{some_records}
 use Rattle.command_core.proofs.StatementExistence.{some_statement}
@@ -29,7 +29,7 @@ one_outcome : (before : History) (number : ℕ) (meaning : Meaning) → IsLegal 
 one_outcome before number meaning legal =
     let reply : Reply (IsAnswerTo before number meaning) = some_reply before number meaning legal in
     record {
-      answer = reply.told.records;
+      answer = reply.reported.records;
       after = reply.after;
       answers = answers_by before number meaning reply;
       legal = reply.legal;
@@ -38,7 +38,7 @@ one_outcome before number meaning legal =
 -- a block is answered, where its opening record has the right form, or refused
 block_outcome : (before : History) (number : ℕ) (opening : Record) (body : List Record) (members : List Member)
     → IsLegal before → AreMembers (number + 1) body members
-    → Outcome before number (stated number (together_told opening (placed_in false members)))
+    → Outcome before number (stated number (opened_together opening (placed_in false members)))
 block_outcome before number [] body members legal are =
     one_outcome before number (Refuse (fault number BadCommand)) legal
 block_outcome before number (word ∷ []) body members legal are =

@@ -7,7 +7,7 @@ use Rattle.std.proofs.KnownBytes.{Appends-kept, Appends-trans}
 use Rattle.std.proofs.lemmas.List.{take-append-drop, append-nil, length-append, length-drop, length-take, drop-drop}
 use Rattle.script_core.specs.Answer.{Answers}
 use Rattle.command_core.specs.Records.{Record}
-use Rattle.command_core.specs.Statement.{AreMembers, Member, States, Statement, begins_load, commands_in, placed_in, stated, together_told}
+use Rattle.command_core.specs.Statement.{AreMembers, Member, States, Statement, begins_load, commands_in, placed_in, stated, opened_together}
 use Rattle.answer_core.specs.RecordBytes.{bytes_of}
 use Rattle.script_core.specs.Script.{Done, Place, Step, Steps, Tells, WritesBefore, output_of, start_of}
 use Rattle.script_core.specs.Writing.{Answering, ExplainsAnswering}
@@ -39,7 +39,7 @@ placed-length has_load (member ∷ more) = ap suc (placed-length (has_load || be
 
 block-few : (number : ℕ) (opening : Record) (body : List Record) (members : List Member)
     → AreMembers (number + 1) body members
-    → commands_in (stated number (together_told opening (placed_in false members))) ≤ 1 + length body
+    → commands_in (stated number (opened_together opening (placed_in false members))) ≤ 1 + length body
 block-few number [] body members are = omega arith
 block-few number (word ∷ []) body members are =
     omega (arith, placed-length false members, members-few (number + 1) body members are)

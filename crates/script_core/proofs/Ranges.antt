@@ -18,7 +18,7 @@ use Rattle.command_core.specs.Records.{Record}
 use Rattle.command_core.specs.Refusal.{fault}
 use Rattle.command_core.specs.declared.refusal.Fault.{Fault}
 use Rattle.command_core.specs.declared.refusal.Refusal.{Refusal}
-use Rattle.script_core.specs.Effects.{told_by, told_each}
+use Rattle.script_core.specs.Effects.{all_or_fault, each_or_fault}
 use Rattle.script_core.specs.Loads.{all_drafts}
 use Rattle.script_core.proofs.Loading.{behind}
 
@@ -40,16 +40,16 @@ take-enumerate_from (suc k) n [] = refl
 take-enumerate_from (suc k) n (x ∷ xs) = ap (λ l. (n, x) ∷ l) (take-enumerate_from k (n + 1) xs)
 
 -- what the records of a piece give, which lies between two places
-pub told-part : {T : Type 0} (read : Record → Result T Refusal) (places : Range ℕ) (number from to n : ℕ)
+pub reported-part : {T : Type 0} (read : Record → Result T Refusal) (places : Range ℕ) (number from to n : ℕ)
     (lines part : List Record) → n ≡ length lines → to ≡ min (unwrap_or places.before n) n
     → from ≡ min (unwrap_or places.from 0) to → part ≡ take (to - from) (drop from lines)
-    → told_each read (piece places (enumerate_from number lines)) ≡ told_by read (number + from) part
-told-part read places number from to n lines part size end start is =
+    → each_or_fault read (piece places (enumerate_from number lines)) ≡ all_or_fault read (number + from) part
+reported-part read places number from to n lines part size end start is =
     let numbered = enumerate_from number lines in
     let count : n ≡ length numbered = size ∙ sym (length-enumerate_from number lines) in
     let within : to ≡ min (unwrap_or places.before (length numbered)) (length numbered) =
     end ∙ ap (λ k. min (unwrap_or places.before k) k) count in
-    ap (told_each read)
+    ap (each_or_fault read)
     (piece-part places from to numbered within start
     ∙ ap (take (to - from)) (drop-enumerate_from from number lines)
     ∙ take-enumerate_from (to - from) (number + from) (drop from lines)
@@ -108,19 +108,19 @@ pub ranges-all : (read : Record → Result Draft Refusal) (numbered : List (ℕ 
     (post : Range ℕ → ℕ → Result (Result (List Draft) Fault) AllocError → Type 0)
     (cuts : List (Cut ℕ)) (ranges : List (Result (List Draft) Fault))
     → ((places : Range ℕ) (n : ℕ) (own : Result (List Draft) Fault) → post places n (Ok own)
-    → told_each read (piece places numbered) ≡ own)
-    → GivesFrom nat_cmp (Gives post) None cuts ranges → all_drafts ranges ≡ told_each read numbered
-ranges-all read numbered post cuts ranges told given =
+    → each_or_fault read (piece places numbered) ≡ own)
+    → GivesFrom nat_cmp (Gives post) None cuts ranges → all_drafts ranges ≡ each_or_fault read numbered
+ranges-all read numbered post cuts ranges reported given =
     all_come nat_cmp (Gives post)
     (λ (places : Range ℕ) (all : List (Result (List Draft) Fault)).
-    all_drafts all ≡ told_each read (piece places numbered))
-    (λ places own gave. all_drafts-one own ∙ sym (told places gave.0 own gave.1))
+    all_drafts all ≡ each_or_fault read (piece places numbered))
+    (λ places own gave. all_drafts-one own ∙ sym (reported places gave.0 own gave.1))
     (λ from at own more begun one others.
     let near = piece (range from (Some at)) numbered in
     let far = piece (range (Some at) None) numbered in
     all_drafts-range own more
-    ∙ ap (λ r. then_rest r (all_drafts more)) (sym (told (range from (Some at)) one.0 own one.1))
-    ∙ ap (then_rest (told_each read near)) others
+    ∙ ap (λ r. then_rest r (all_drafts more)) (sym (reported (range from (Some at)) one.0 own one.1))
+    ∙ ap (then_rest (each_or_fault read near)) others
     ∙ sym (read_each-append (λ line. map_err (fault line.0) (read line.1)) near far)
-    ∙ ap (told_each read) (sym (piece_cut from at numbered begun)))
+    ∙ ap (each_or_fault read) (sym (piece_cut from at numbered begun)))
     None cuts ranges given

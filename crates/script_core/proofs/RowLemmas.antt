@@ -24,10 +24,10 @@ begun word [] e = absurd (cc)
 begun word (first ∷ rest) e = omega arith
 
 -- a record of a load that begins with its word is what its other fields give
-row_told : (before : RowsRead) (line fields : Record) (read : Result Draft RowRefused)
+row_given : (before : RowsRead) (line fields : Record) (read : Result Draft RowRefused)
     → begins (codes "row") line ≡ true → fields ≡ drop 1 line → row_of before.columns fields ≡ read
     → loaded_row before.columns line ≡ map_err row_refusal read
-row_told before line fields read word behind is =
+row_given before line fields read word behind is =
     rw word (ap (λ l. map_err row_refusal (row_of before.columns l)) (sym behind) ∙ ap (map_err row_refusal) is)
 
 -- one more was read
@@ -39,7 +39,7 @@ read-more before more line fields word behind = found (row_of before.columns fie
     found : (read : Result Draft RowRefused) → row_of before.columns fields ≡ read
         → map_ok (with_row before) read ≡ Ok more
         → (row : Draft) × (loaded_row before.columns line ≡ Ok row) × (more ≡ with_row before row)
-    found (Ok row) is same = (row, row_told before line fields (Ok row) word behind is, cc)
+    found (Ok row) is same = (row, row_given before line fields (Ok row) word behind is, cc)
     found (Err why) is same = absurd (cc)
 
 -- it is refused, or memory is
@@ -58,6 +58,6 @@ read-failed number before line fields (Refused refusal) word behind given =
     found (Err other) is same =
         let one : other ≡ refusal = cc in (
           row_refusal refusal,
-          row_told before line fields (Err other) word behind is ∙ ap (λ e. Err (row_refusal e)) one,
+          row_given before line fields (Err other) word behind is ∙ ap (λ e. Err (row_refusal e)) one,
           refl,
         )

@@ -161,12 +161,12 @@ one_written text bytes None other p q = absurd p
 one_written text bytes (Some x) None p q = absurd q
 one_written text bytes (Some x) (Some y) p q = ap Some (p ∙ sym q)
 
-pub one_run_of : (script text : List ℕ) (one one_after other other_after : Streams) (outcome told : Outcome)
+pub one_run_of : (script text : List ℕ) (one one_after other other_after : Streams) (outcome reported : Outcome)
     → one.reader.unread ≡ Some script → one.writer.written ≡ Some text
     → other.reader.unread ≡ Some script → other.writer.written ≡ Some text
-    → RunsAll one one_after outcome → RunsAll other other_after told
-    → (one_after.writer.written ≡ other_after.writer.written) × (outcome ≡ told)
-one_run_of script text one one_after other other_after outcome told had given had' given' (ds, r, w) (es, s, v) =
+    → RunsAll one one_after outcome → RunsAll other other_after reported
+    → (one_after.writer.written ≡ other_after.writer.written) × (outcome ≡ reported)
+one_run_of script text one one_after other other_after outcome reported had given had' given' (ds, r, w) (es, s, v) =
     let same : r.script ≡ s.script =
     whole_script script one.reader one_after.reader r.script had r.reads
     ∙ sym (whole_script script other.reader other_after.reader s.script had' s.reads) in
@@ -177,5 +177,5 @@ one_run_of script text one one_after other other_after outcome told had given ha
     let second : Appends (Some text) other_after.writer.written (output_of es) =
     subst (λ old. Appends old other_after.writer.written (output_of es)) given' v.written in (
       one_written text (output_of es) one_after.writer.written other_after.writer.written first second,
-      one_outcome es outcome told (subst (Tells outcome) dones w.tells) v.tells,
+      one_outcome es outcome reported (subst (Tells outcome) dones w.tells) v.tells,
     )

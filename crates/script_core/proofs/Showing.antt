@@ -8,7 +8,7 @@ use Rattle.book_core.specs.State.{table_of}
 use Rattle.book_core.specs.declared.refusal.RowsRefused.TheVariants as no_rows
 use Rattle.store_core.specs.Snapshots.{rows_of_snapshot}
 use Rattle.command_core.specs.Refusal.{fault}
-use Rattle.script_core.specs.Effects.{rows_told}
+use Rattle.script_core.specs.Effects.{rows_or_fault}
 use Rattle.script_core.specs.Refusal.{rows_refusal, table_refusal}
 
 -- where no commit is missing, only a table may be
@@ -20,9 +20,9 @@ present number late true rows e = rw e refl
 present number late false rows e = rw e refl
 
 -- the rows that a snapshot gives are those of the commit that it shows
-pub rows-told : (number : ℕ) (h : History) (n : ℕ) (name : List ℕ) → n ≤ length h
-    → rows_told number h (Some n) name
+pub rows-reported : (number : ℕ) (h : History) (n : ℕ) (name : List ℕ) → n ≤ length h
+    → rows_or_fault number h (Some n) name
     ≡ map_err (λ refused. fault number (table_refusal refused)) (rows_of_snapshot h n name)
-rows-told number h n name within =
+rows-reported number h n name within =
     present number (nat_lt (length h) n) (is_none (table_of (state_after h) name)) (rows_at h n name)
     (le-ltb (length h) n within)

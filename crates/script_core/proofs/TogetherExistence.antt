@@ -89,11 +89,11 @@ some_query : (before after : History) (number : ℕ) (meaning : Meaning) → IsL
 some_query before after number meaning legal allowed =
     let reply : Reply (IsAnswerTo before number meaning) = some_reply before number meaning legal in
     let kept : reply.after ≡ before =
-    keeps before number meaning reply.told.given reply.after allowed reply.told.is in
+    keeps before number meaning reply.reported.given reply.after allowed reply.reported.is in
     let same : reply.after ≡ cond (is_load meaning) after before =
     kept ∙ sym (ap (λ loads. cond loads after before) (reads-allowed meaning allowed)) in (
-      reply.told.records,
-      subst (AnswersOne before number meaning reply.told.records) same
+      reply.reported.records,
+      subst (AnswersOne before number meaning reply.reported.records) same
           (answers_by before number meaning reply),
     )
 
@@ -154,12 +154,12 @@ load_reply : (before : History) (number : ℕ) (meaning : Meaning) → IsLegal b
 load_reply before number meaning legal allowed =
     let reply : Reply (IsAnswerTo before number meaning) = some_reply before number meaning legal in
     let kept : is_load meaning ≡ false → reply.after ≡ before =
-    λ reads. keeps before number meaning reply.told.given reply.after
-    (allowed-behind meaning allowed reads) reply.told.is in
+    λ reads. keeps before number meaning reply.reported.given reply.after
+    (allowed-behind meaning allowed reads) reply.reported.is in
     let same : reply.after ≡ cond (is_load meaning) reply.after before = by (is_load meaning) reply.after kept in (
-      reply.told.records,
+      reply.reported.records,
       reply.after,
-      subst (AnswersOne before number meaning reply.told.records) same (answers_by before number meaning reply),
+      subst (AnswersOne before number meaning reply.reported.records) same (answers_by before number meaning reply),
       reply.legal,
       kept,
     )

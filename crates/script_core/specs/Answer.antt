@@ -26,7 +26,7 @@ use Rattle.command_core.specs.declared.refusal.Fault.{Fault}
 use Rattle.answer_core.specs.PrintedRecords.{IsPrintedAs, together_record}
 use Rattle.answer_core.specs.declared.answer.Answer.{Answer}
 use Rattle.answer_core.specs.declared.answer.Answer.TheVariants as answer
-use Rattle.script_core.specs.Effects.{TableRows, aggregated_told, claim_of, delete_in, load_in, make_in, rows_told, sides_told, update_in, versions_told}
+use Rattle.script_core.specs.Effects.{TableRows, aggregated_or_fault, claim_of, delete_in, load_in, make_in, rows_or_fault, sides_or_fault, update_in, versions_or_fault}
 
 -- the answer is the dip of the items
 pub record IsDipOf (items : List Item) (given : Answer) : Type 0 where
@@ -89,25 +89,25 @@ IsAnswerTo before number (Update name portion sets conds) =
     AnswersChange before (update_in number before name portion sets conds)
 IsAnswerTo before number (Delete name portion conds) = AnswersChange before (delete_in number before name portion conds)
 IsAnswerTo before number (Rows name asof) =
-    AnswersQuery before (rows_told number before asof name) (λ rows given. given ≡ answer.Rows rows)
+    AnswersQuery before (rows_or_fault number before asof name) (λ rows given. given ≡ answer.Rows rows)
 IsAnswerTo before number (At name point asof) =
-    AnswersQuery before (rows_told number before asof name) (λ rows given. given ≡ answer.Rows (rows_on point rows))
+    AnswersQuery before (rows_or_fault number before asof name) (λ rows given. given ≡ answer.Rows (rows_on point rows))
 IsAnswerTo before number (Between name first last) =
-    AnswersQuery before (versions_told number before (nat_lt last first) name)
+    AnswersQuery before (versions_or_fault number before (nat_lt last first) name)
     (λ _. IsVersions (AreBetween before (length before) first last name))
 IsAnswerTo before number (FromTo name first end) =
-    AnswersQuery before (versions_told number before (nat_le end first) name)
+    AnswersQuery before (versions_or_fault number before (nat_le end first) name)
     (λ _. IsVersions (AreFromTo before (length before) first end name))
 IsAnswerTo before number (Dip name asof) =
-    AnswersQuery before (rows_told number before asof name) (λ rows. IsDipOf (items_of rows))
+    AnswersQuery before (rows_or_fault number before asof name) (λ rows. IsDipOf (items_of rows))
 IsAnswerTo before number (Join tables asof) =
-    AnswersQuery before (sides_told number before asof tables) (λ sides. IsJoinOf sides.0 sides.1 tables.on)
+    AnswersQuery before (sides_or_fault number before asof tables) (λ sides. IsJoinOf sides.0 sides.1 tables.on)
 IsAnswerTo before number (Anti tables asof) =
-    AnswersQuery before (sides_told number before asof tables) (λ sides. IsAntiOf sides.0 sides.1 tables.on)
+    AnswersQuery before (sides_or_fault number before asof tables) (λ sides. IsAntiOf sides.0 sides.1 tables.on)
 IsAnswerTo before number (Agg asked asof) =
-    AnswersQuery before (aggregated_told number before asof asked) (λ table. IsAggOf table asked)
+    AnswersQuery before (aggregated_or_fault number before asof asked) (λ table. IsAggOf table asked)
 IsAnswerTo before number (Check name parts instant asof body) =
-    AnswersQuery before (both_ok (rows_told number before asof name) (claim_of (number + 1) body))
+    AnswersQuery before (both_ok (rows_or_fault number before asof name) (claim_of (number + 1) body))
     (λ read. IsVerdictOn (items_of read.0) read.1 (record { parts = parts; instant = instant }))
 IsAnswerTo before number Log = λ given after. (given ≡ answer.Log (log_of before)) × (after ≡ before)
 

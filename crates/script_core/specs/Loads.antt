@@ -5,11 +5,11 @@ use Rattle.row_core.specs.declared.draft.Draft.{Draft}
 use Rattle.row_core.specs.declared.schema.Column.{Column}
 use Rattle.command_core.specs.Records.{Record}
 use Rattle.command_core.specs.declared.refusal.Fault.{Fault}
-use Rattle.script_core.specs.Effects.{loaded_row, told_each}
+use Rattle.script_core.specs.Effects.{loaded_row, each_or_fault}
 
 -- the rows of numbered records of a load, or the first fault
-abbrev pub drafts_told : List Column → List (ℕ × Record) → Result (List Draft) Fault
-drafts_told columns numbered = told_each (loaded_row columns) numbered
+abbrev pub drafts_or_fault : List Column → List (ℕ × Record) → Result (List Draft) Fault
+drafts_or_fault columns numbered = each_or_fault (loaded_row columns) numbered
 
 -- the rows of all ranges, one range behind another, or the first range's fault that has one
 abbrev pub all_drafts : List (Result (List Draft) Fault) → Result (List Draft) Fault

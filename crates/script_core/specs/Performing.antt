@@ -18,7 +18,7 @@ use Rattle.row_core.specs.Schema.{fits}
 use Rattle.row_core.specs.declared.failure.Failure.TheVariants.{Refused, NoMemory}
 use Rattle.row_core.specs.declared.row.Row.{Row}
 use Rattle.row_core.specs.declared.schema.Column.{Column}
-use Rattle.script_core.specs.Effects.{columns_told, rows_told, sides_told}
+use Rattle.script_core.specs.Effects.{columns_or_fault, rows_or_fault, sides_or_fault}
 use Rattle.version_core.specs.Limits.{version_limit}
 
 -- a value is what is asked of what may be read, and a refusal the one that applies
@@ -30,8 +30,8 @@ Gives meant Is (Err failure) = IsFailureOf meant failure
 -- there can be versions, and each fits the columns
 pub record IsShown (number : ℕ) (history : History) (asof : Option ℕ) (table : List ℕ)
     (result : Result (Bor (List Column) × List Row) Failure) : Type 0 where
-  pub gives : Gives (rows_told number history asof table) (λ rows read. read.1 ≡ rows) result
-  pub columns : IfOk result (λ read. columns_told number history table ≡ Ok read.0.now)
+  pub gives : Gives (rows_or_fault number history asof table) (λ rows read. read.1 ≡ rows) result
+  pub columns : IfOk result (λ read. columns_or_fault number history table ≡ Ok read.0.now)
   pub few : IfOk result (λ read. length read.1 ≤ version_limit)
   pub rise : IfOk result (λ read. RowsRise read.1)
   pub fit : IfOk result (λ read. All (λ row. IsTrue (fits read.0.now row.values)) read.1)
@@ -40,7 +40,7 @@ pub record IsShown (number : ℕ) (history : History) (asof : Option ℕ) (table
 abbrev pub FailsToCompare : ℕ → History → Option ℕ → List ℕ → List ℕ → Failure → Type 0
 FailsToCompare number history asof left right failure =
     (on : List (List ℕ × List ℕ))
-    → IsFailureOf (sides_told number history asof (record { left = left; right = right; on = on })) failure
+    → IsFailureOf (sides_or_fault number history asof (record { left = left; right = right; on = on })) failure
 
 -- the commit that a query names, if it names one
 abbrev pub asof_in : Meaning → Option ℕ
@@ -66,19 +66,19 @@ Performs before number meaning (Err (Refused fault)) after =
 Performs before number meaning (Err NoMemory) after = ⊤
 
 -- the records of an answer were printed, and the refusals among them counted
-pub record PrintsAnswer (answer : Answer) (old new : List ℕ) (told : ℕ) : Type 0 where
+pub record PrintsAnswer (answer : Answer) (old new : List ℕ) (reported : ℕ) : Type 0 where
   pub records : List Record
   pub are : IsPrintedAs answer records
   pub printed : Adds old new records
-  pub errors : told ≡ errors_in records
+  pub errors : reported ≡ errors_in records
 
 -- the same of the answer that there is, and what another printer made put behind it
-pub record PrintsBefore {E : Type 0} (given : Result Answer E) (old later new : List ℕ) (told : ℕ)
+pub record PrintsBefore {E : Type 0} (given : Result Answer E) (old later new : List ℕ) (reported : ℕ)
     : Type 0 where
   pub answer : Answer
   pub is : given ≡ Ok answer
   pub near : List ℕ
-  pub own : PrintsAnswer answer old near told
+  pub own : PrintsAnswer answer old near reported
   pub joined : new ≡ near ++ later
 
 -- the outcomes of the queries before a block's load and of those behind it can be joined to that of all its commands
@@ -90,49 +90,49 @@ pub record CanBeJoined (first last : Outcome) : Type 0 where
 -- what comes behind the answers to the queries before a block's load was printed: the load's answer, and what another
 -- printer made of the queries behind it; all commands and refusals of the block were counted
 pub record PrintsBehind {E : Type 0} (queries : Result (Outcome × Outcome) E) (load : Result Answer E)
-    (old later new : List ℕ) (told : Outcome) : Type 0 where
+    (old later new : List ℕ) (reported : Outcome) : Type 0 where
   pub queried : Outcome × Outcome
   pub queries_are : queries ≡ Ok queried
   pub errors : ℕ
   pub few : errors ≤ 1
   pub printed : PrintsBefore load old later new errors
-  pub commands : told.commands ≡ queried.0.commands + queried.1.commands + 1
-  pub refusals : told.errors ≡ queried.0.errors + queried.1.errors + errors
+  pub commands : reported.commands ≡ queried.0.commands + queried.1.commands + 1
+  pub refusals : reported.errors ≡ queried.0.errors + queried.1.errors + errors
 
 -- a command was answered, the records of its answer printed, and the refusals among them counted
 pub record PrintsOne (before : History) (number : ℕ) (meaning : Meaning) (after : History) (old new : List ℕ)
-    (told : ℕ) : Type 0 where
+    (reported : ℕ) : Type 0 where
   pub answer : List Record
   pub answers : AnswersOne before number meaning answer after
   pub printed : Adds old new answer
-  pub errors : told ≡ errors_in answer
+  pub errors : reported ≡ errors_in answer
 
 -- commands of a block, none of them a load that may be done, were answered one after another, whatever history the
 -- block's load leads to, and the records of their answers printed
-pub record PrintsQueries (before : History) (placed : List Placed) (old new : List ℕ) (told : Outcome)
+pub record PrintsQueries (before : History) (placed : List Placed) (old new : List ℕ) (reported : Outcome)
     : Type 0 where
   pub answers : List Record
   pub each : (after : History) → AnswersEach before after placed answers
   pub printed : Adds old new answers
-  pub commands : told.commands ≡ length placed
-  pub errors : told.errors ≡ errors_in answers
+  pub commands : reported.commands ≡ length placed
+  pub errors : reported.errors ≡ errors_in answers
 
 -- the same of the commands that a section of a block's records holds, the first of them of this number
 pub record PrintsSection (before : History) (number : ℕ) (records : List Record) (old new : List ℕ)
-    (told : Outcome) : Type 0 where
+    (reported : Outcome) : Type 0 where
   pub printed : (members : List Member) → AreMembers number records members
-      → PrintsQueries before (placed_in true members) old new told
-  pub few : told.errors ≤ told.commands
-  pub fewer : told.commands ≤ length records
+      → PrintsQueries before (placed_in true members) old new reported
+  pub few : reported.errors ≤ reported.commands
+  pub fewer : reported.commands ≤ length records
 
 -- all commands of a block were answered, one after another, and the records of their answers printed
 pub record PrintsBlock (before : History) (placed : List Placed) (after : History) (old new : List ℕ)
-    (told : Outcome) : Type 0 where
+    (reported : Outcome) : Type 0 where
   pub answers : List Record
   pub block : AnswersBlock before placed answers after
   pub printed : Adds old new answers
-  pub commands : told.commands ≡ length placed
-  pub errors : told.errors ≡ errors_in answers
+  pub commands : reported.commands ≡ length placed
+  pub errors : reported.errors ≡ errors_in answers
 
 -- what a command with the word `load` may ask for: a load, or nothing, where it is refused
 abbrev pub AsksLoad : Meaning → Type 0
@@ -142,24 +142,24 @@ AsksLoad meaning = ⊥
 
 -- the answer that an outcome is, a refusal being one too
 abbrev pub IsAnswerOf : Result Answer Failure → Answer → Type 0
-IsAnswerOf (Ok given) told = told ≡ given
-IsAnswerOf (Err (Refused wrong)) told = told ≡ answer.Refused wrong
-IsAnswerOf (Err NoMemory) told = ⊥
+IsAnswerOf (Ok given) reported = reported ≡ given
+IsAnswerOf (Err (Refused wrong)) reported = reported ≡ answer.Refused wrong
+IsAnswerOf (Err NoMemory) reported = ⊥
 
 -- a statement's answer was printed, and its commands and refusals counted
 pub record PrintsStatement (before : History) (number : ℕ) (statement : Statement) (after : History)
-    (old new : List ℕ) (told : Outcome) : Type 0 where
+    (old new : List ℕ) (reported : Outcome) : Type 0 where
   pub answer : List Record
   pub answers : Answers before number statement answer after
   pub printed : Adds old new answer
-  pub commands : told.commands ≡ commands_in statement
-  pub errors : told.errors ≡ errors_in answer
+  pub commands : reported.commands ≡ commands_in statement
+  pub errors : reported.errors ≡ errors_in answer
 
 -- the first statement of some records, the first of them of this number, takes so many of them; it was answered
 pub record PrintsNext (records : List Record) (number : ℕ) (before after : History) (old new : List ℕ)
-    (told : Outcome) (taken : ℕ) : Type 0 where
+    (reported : Outcome) (taken : ℕ) : Type 0 where
   pub some : 0 < taken
   pub within : taken ≤ length records
   pub statement : Statement
   pub states : States number (take taken records) (drop taken records) statement
-  pub prints : PrintsStatement before number statement after old new told
+  pub prints : PrintsStatement before number statement after old new reported

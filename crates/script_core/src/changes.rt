@@ -5,7 +5,7 @@ ghost use Rattle.script_core.specs.Ledgers.{ledger_history, left_in};
 ghost use Rattle.script_core.specs.Performing.{Changes, Gives};
 ghost use Rattle.command_core.specs.Lines.{lines_in};
 ghost use Rattle.command_core.specs.PairsIn.{pairs_in};
-ghost use Rattle.script_core.specs.Effects.{change_in, delete_in, load_in, load_told, make_in, update_in};
+ghost use Rattle.script_core.specs.Effects.{change_in, delete_in, load_in, load_or_fault, make_in, update_in};
 
 use crate::failure::{Failure, failure_at, refused};
 use crate::ledger::Ledger;
@@ -68,7 +68,7 @@ fn rows_of_load<T: Threads + Sync>(
     body: Lines<'_>,
 ) -> Result<Drafts, Failure>
     requires { number + 1 + length (lines_in body) < 2 ^ 64 }
-    ensures { Gives (load_told number (history newest.now) table (lines_in body.entry))
+    ensures { Gives (load_or_fault number (history newest.now) table (lines_in body.entry))
         (λ meant rows. rows ≡ meant) result }
 {
     match newest.schema(table) {

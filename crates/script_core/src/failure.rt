@@ -21,29 +21,29 @@ pub(crate) fn refused(number: u64, refusal: Refusal) -> Failure
 }
 
 /// Why a call of a crate below fails, as it is reported of the record of this number.
-pub(crate) fn failure_at<E: Told>(number: u64, why: row_core::Failure<E>) -> Failure
+pub(crate) fn failure_at<E: Reported>(number: u64, why: row_core::Failure<E>) -> Failure
     ensures { result ≡ failure_at number E.name why }
 {
     match why {
-        row_core::Failure::Refused(refusal) => refused(number, refusal.told()),
+        row_core::Failure::Refused(refusal) => refused(number, refusal.reported()),
         row_core::Failure::NoMemory => Failure::NoMemory,
     }
 }
 
 /// A refusal of a crate below, to which a script gives a name of its own.
-pub(crate) trait Told: Drop {
+pub(crate) trait Reported: Drop {
     /// That name.
     ghost name: { Self → command.Refusal };
 
     /// That name.
-    fn told(self) -> Refusal
+    fn reported(self) -> Refusal
         ensures { result ≡ name self };
 }
 
-impl Told for RowRefused {
+impl Reported for RowRefused {
     ghost name = { row_refusal };
 
-    fn told(self) -> Refusal {
+    fn reported(self) -> Refusal {
         match self {
             RowRefused::WrongWidth => Refusal::WrongWidth,
             RowRefused::BadPoint => Refusal::BadPoint,
@@ -55,10 +55,10 @@ impl Told for RowRefused {
     }
 }
 
-impl Told for ValueRefused {
+impl Reported for ValueRefused {
     ghost name = { value_refusal };
 
-    fn told(self) -> Refusal {
+    fn reported(self) -> Refusal {
         match self {
             ValueRefused::BadNumber => Refusal::BadNumber,
             ValueRefused::TooLong => Refusal::TooLong,
@@ -67,18 +67,18 @@ impl Told for ValueRefused {
     }
 }
 
-impl Told for NoTable {
+impl Reported for NoTable {
     ghost name = { table_refusal };
 
-    fn told(self) -> Refusal {
+    fn reported(self) -> Refusal {
         Refusal::NoTable
     }
 }
 
-impl Told for RangeRefused {
+impl Reported for RangeRefused {
     ghost name = { range_refusal };
 
-    fn told(self) -> Refusal {
+    fn reported(self) -> Refusal {
         match self {
             RangeRefused::BadPeriod => Refusal::BadPeriod,
             RangeRefused::NoTable => Refusal::NoTable,
@@ -86,10 +86,10 @@ impl Told for RangeRefused {
     }
 }
 
-impl Told for BookRefused {
+impl Reported for BookRefused {
     ghost name = { book_refusal };
 
-    fn told(self) -> Refusal {
+    fn reported(self) -> Refusal {
         match self {
             BookRefused::TableExists => Refusal::TableExists,
             BookRefused::TooMany => Refusal::TooMany,
@@ -102,10 +102,10 @@ impl Told for BookRefused {
     }
 }
 
-impl Told for QueryRefused {
+impl Reported for QueryRefused {
     ghost name = { query_refusal };
 
-    fn told(self) -> Refusal {
+    fn reported(self) -> Refusal {
         match self {
             QueryRefused::NoColumn => Refusal::NoColumn,
             QueryRefused::WrongKind => Refusal::WrongKind,

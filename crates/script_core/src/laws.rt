@@ -34,9 +34,9 @@ pub fn statement_has_one_answer()
 /// report the same numbers.
 pub fn complete_runs_agree()
     ensures { (script text : List ℕ) (one one_after other other_after : Streams)
-        (outcome told : Outcome)
+        (outcome reported : Outcome)
         → one.reader.unread ≡ Some script → one.writer.written ≡ Some text
         → other.reader.unread ≡ Some script → other.writer.written ≡ Some text
-        → RunsAll one one_after outcome → RunsAll other other_after told
-        → (one_after.writer.written ≡ other_after.writer.written) × (outcome ≡ told) }
+        → RunsAll one one_after outcome → RunsAll other other_after reported
+        → (one_after.writer.written ≡ other_after.writer.written) × (outcome ≡ reported) }
 {}

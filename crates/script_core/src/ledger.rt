@@ -82,7 +82,7 @@ impl Ledger {
     pub(crate) fn log<R: Wait>(&mut self, rt: &R) -> Result<Log, NoMemory>
         requires { 0 < left_in self.old }
         ensures same { ledger_history self.new ≡ ledger_history self.old }
-        ensures told { IfOk result (λ log. log ≡ log_of (ledger_history self.old)) }
+        ensures reported { IfOk result (λ log. log ≡ log_of (ledger_history self.old)) }
         ensures left { left_in self.new + 1 ≡ left_in self.old }
     {
         match self.store.log(rt, &mut self.pass) {

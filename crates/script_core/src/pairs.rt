@@ -2,7 +2,7 @@
 ghost use Rattle.std.specs.Prelude.{◌≡◌, IfOk, Ok, MatchResult};
 ghost use Rattle.command_core.specs.PairsIn.{name_pairs_in, pairs_in};
 ghost use Rattle.script_core.specs.Failure.{IsFailureOf, IsRecordFailure};
-ghost use Rattle.script_core.specs.Effects.{pair_read, pairs_told};
+ghost use Rattle.script_core.specs.Effects.{pair_read, pairs_or_fault};
 
 use crate::failure::{Failure, failure_at, refused};
 use book_core::Pairs;
@@ -40,8 +40,8 @@ pub(crate) fn read_pairs(
     texts: TextPairs<'_>,
 ) -> Result<Pairs, Failure>
     ensures { MatchResult result
-        (λ pairs. pairs_told number schema.now (pairs_in texts.entry) ≡ Ok pairs)
-        (IsFailureOf (pairs_told number schema.now (pairs_in texts.entry))) }
+        (λ pairs. pairs_or_fault number schema.now (pairs_in texts.entry) ≡ Ok pairs)
+        (IsFailureOf (pairs_or_fault number schema.now (pairs_in texts.entry))) }
 {
     let mut pairs = Pairs::new(alloc);
     for place in 0..texts.len() {

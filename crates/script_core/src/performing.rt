@@ -7,7 +7,7 @@ ghost use Rattle.command_core.specs.Statement.{is_allowed};
 ghost use Rattle.answer_core.specs.declared.answer.Answer.{Answer};
 ghost use Rattle.store_core.specs.Snapshots.{asked, history, number_shown};
 ghost use Rattle.script_core.specs.Answer.{IsAnswerTo};
-ghost use Rattle.script_core.specs.Effects.{rows_told};
+ghost use Rattle.script_core.specs.Effects.{rows_or_fault};
 ghost use Rattle.script_core.specs.Failure.{IsFailureOf};
 ghost use Rattle.script_core.specs.Ledgers.{ledger_history, left_in, ShowsAll};
 ghost use Rattle.script_core.specs.Performing.{asof_in, IsAnswerOf, Performs, PrintsAnswer, PrintsOne};
@@ -45,7 +45,7 @@ fn shown_asof(newest: &Snapshot, number: u64, asof: Option<u64>) -> Result<Snaps
 
     // It fails as each table's rows do, and where no commit is named, for want of memory alone.
     ensures fails { IfErr result (λ failure.
-        (table : List ℕ) → IsFailureOf (rows_told number (history newest.now) asof table) failure) }
+        (table : List ℕ) → IsFailureOf (rows_or_fault number (history newest.now) asof table) failure) }
     ensures newest { IfErr result (λ failure. asof ≡ None → failure ≡ NoMemory) }
 {
     match newest.as_of(asof.unwrap_or(newest.number())) {

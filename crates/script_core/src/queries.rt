@@ -14,7 +14,7 @@ ghost use Rattle.script_core.specs.Ledgers.{commit_shown, ShowsAll};
 ghost use Rattle.script_core.specs.Performing.{FailsToCompare, Gives, IsShown};
 ghost use Rattle.store_core.specs.Snapshots.{history};
 ghost use Rattle.agg_core.specs.Agg.{rows_on};
-ghost use Rattle.script_core.specs.Effects.{aggregated_told, claim_of, columns_told, rows_told, sides_told, versions_told};
+ghost use Rattle.script_core.specs.Effects.{aggregated_or_fault, claim_of, columns_or_fault, rows_or_fault, sides_or_fault, versions_or_fault};
 ghost use Rattle.answer_core.specs.declared.answer.Answer.TheVariants.{Rows};
 
 use crate::claims::read_claim;
@@ -104,7 +104,7 @@ fn crew_for<'a, T>(crew: &Crew<'a, T, OpenGate>, rows: usize) -> Crew<'a, T, Ope
 
 /// All rows of a table.
 pub(crate) fn rows(snapshot: &Snapshot, number: u64, table: Name) -> Result<Answer, Failure>
-    ensures { Gives (rows_told number (history snapshot.now) (commit_shown snapshot.now) table)
+    ensures { Gives (rows_or_fault number (history snapshot.now) (commit_shown snapshot.now) table)
         (λ rows answer. answer ≡ Rows rows) result }
 {
     let (_, rows) = shown_table(snapshot, number, table)?;
@@ -118,7 +118,7 @@ pub(crate) fn rows_on(
     table: Name,
     point: Point,
 ) -> Result<Answer, Failure>
-    ensures { Gives (rows_told number (history snapshot.now) (commit_shown snapshot.now) table)
+    ensures { Gives (rows_or_fault number (history snapshot.now) (commit_shown snapshot.now) table)
         (λ rows answer. answer ≡ Rows (rows_on point rows)) result }
 {
     match snapshot.rows_holding(table, point) {
@@ -134,7 +134,7 @@ pub(crate) fn divide<T: Threads + Sync>(
     number: u64,
     table: Name,
 ) -> Result<Answer, Failure>
-    ensures { Gives (rows_told number (history snapshot.now) (commit_shown snapshot.now) table)
+    ensures { Gives (rows_or_fault number (history snapshot.now) (commit_shown snapshot.now) table)
         (λ rows answer. IsDipOf (items_of rows) answer) result }
 {
     let (schema, rows) = shown_table(snapshot, number, table)?;
@@ -156,7 +156,7 @@ pub(crate) fn join_tables<T: Threads + Sync>(
     number: u64,
     tables: TwoTables<'_>,
 ) -> Result<Answer, Failure>
-    ensures { Gives (sides_told number (history snapshot.now) (commit_shown snapshot.now)
+    ensures { Gives (sides_or_fault number (history snapshot.now) (commit_shown snapshot.now)
         (compared_in tables.entry))
         (λ sides. IsJoinOf sides.0 sides.1 (name_pairs_in tables.entry.on)) result }
 {
@@ -195,7 +195,7 @@ pub(crate) fn anti_tables<T: Threads + Sync>(
     number: u64,
     tables: TwoTables<'_>,
 ) -> Result<Answer, Failure>
-    ensures { Gives (sides_told number (history snapshot.now) (commit_shown snapshot.now)
+    ensures { Gives (sides_or_fault number (history snapshot.now) (commit_shown snapshot.now)
         (compared_in tables.entry))
         (λ sides. IsAntiOf sides.0 sides.1 (name_pairs_in tables.entry.on)) result }
 {
@@ -234,7 +234,7 @@ pub(crate) fn agg_table<T: Threads + Sync>(
     aggregate: Aggregate,
 ) -> Result<Answer, Failure>
     ensures { Gives
-        (aggregated_told number (history snapshot.now) (commit_shown snapshot.now) aggregate)
+        (aggregated_or_fault number (history snapshot.now) (commit_shown snapshot.now) aggregate)
         (λ table. IsAggOf table aggregate) result }
 {
     let (schema, rows) = shown_table(snapshot, number, aggregate.table)?;
@@ -287,7 +287,7 @@ pub(crate) fn check(
 ) -> Result<Answer, Failure>
     requires { number + 1 + length (lines_in claimed.body) < 2 ^ 64 }
     ensures { Gives
-        (both_ok (rows_told number (history snapshot.now) (commit_shown snapshot.now) claimed.entry.table)
+        (both_ok (rows_or_fault number (history snapshot.now) (commit_shown snapshot.now) claimed.entry.table)
         (claim_of (number + 1) (lines_in claimed.entry.body)))
         (λ read answer. IsVerdictOn (items_of read.0) read.1 certificate answer) result }
 {
@@ -306,7 +306,7 @@ pub(crate) fn between(
     last: u64,
 ) -> Result<Answer, Failure>
     requires { ShowsAll snapshot.now }
-    ensures { Gives (versions_told number (history snapshot.now) (nat_lt last first) table)
+    ensures { Gives (versions_or_fault number (history snapshot.now) (nat_lt last first) table)
         (λ _ answer. IsVersions
         (AreBetween (history snapshot.now) (length (history snapshot.now)) first last table)
         answer) result }
@@ -326,7 +326,7 @@ pub(crate) fn from_to(
     end: u64,
 ) -> Result<Answer, Failure>
     requires { ShowsAll snapshot.now }
-    ensures { Gives (versions_told number (history snapshot.now) (nat_le end first) table)
+    ensures { Gives (versions_or_fault number (history snapshot.now) (nat_le end first) table)
         (λ _ answer. IsVersions
         (AreFromTo (history snapshot.now) (length (history snapshot.now)) first end table)
         answer) result }

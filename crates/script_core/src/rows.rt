@@ -6,7 +6,7 @@ ghost use Rattle.row_core.specs.declared.draft.Draft.{Draft as AnyDraft};
 ghost use Rattle.script_core.specs.Failure.{IsFailureOf, IsRecordFailure};
 ghost use Rattle.command_core.specs.Lines.{fields_in, lines_in};
 ghost use Rattle.script_core.specs.Effects.{loaded_row, loaded_rows};
-ghost use Rattle.script_core.specs.Loads.{all_drafts, drafts_told};
+ghost use Rattle.script_core.specs.Loads.{all_drafts, drafts_or_fault};
 
 use crate::failure::{Failure, failure_at, refused};
 use command_core::{Fault, Line, Lines, Refusal, begins};
@@ -70,7 +70,7 @@ fn rows_in_range(
     places: Range<usize>,
 ) -> Result<Result<Drafts, Fault>, NoMemory>
     requires { number + length (lines_in lines) < 2 ^ 64 }
-    ensures { IfOk result (λ read. drafts_told schema.now
+    ensures { IfOk result (λ read. drafts_or_fault schema.now
         (piece places (enumerate_from number (lines_in lines.entry))) ≡ read) }
 {
     let count = lines.len();
@@ -137,7 +137,7 @@ pub(crate) fn loaded_rows<T: Threads + Sync>(
         &shares,
         &|places: Range<usize>, _workers: u32| -> Result<Result<Drafts, Fault>, NoMemory>
             requires { number + length (lines_in lines) < 2 ^ 64 }
-            ensures { IfOk result (λ read. drafts_told schema.entry.now
+            ensures { IfOk result (λ read. drafts_or_fault schema.entry.now
                 (piece places (enumerate_from number (lines_in lines.entry))) ≡ read) }
         { rows_in_range(alloc, schema, lines, number, places) },
     )?;

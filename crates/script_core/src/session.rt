@@ -41,11 +41,11 @@ fn answer_statement<T: Threads + Wait + Sync>(
     requires numbers { number + behind_of statement < 2 ^ 64 }
     requires left { 2 ≤ left_in ledger.old }
     ensures printed { IfOk result
-        (λ told. (meant : said.Statement) → StandsFor number statement.entry meant
+        (λ reported. (meant : said.Statement) → StandsFor number statement.entry meant
         → PrintsStatement (ledger_history ledger.old) number meant
         (ledger_history ledger.new) printer.old
-        printer.new told) }
-    ensures few { IfOk result (λ told. told.errors ≤ told.commands) }
+        printer.new reported) }
+    ensures few { IfOk result (λ reported. reported.errors ≤ reported.commands) }
     ensures left { left_in ledger.old ≤ left_in ledger.new + 2 }
 {
     match statement {
@@ -72,15 +72,15 @@ fn answer_next<T: Threads + Wait + Sync>(
     requires some { 0 < length (lines_in lines) }
     requires numbers { number + length (lines_in lines) ≤ 2 ^ 64 }
     requires left { 2 ≤ left_in ledger.old }
-    ensures printed { IfOk result (λ told. PrintsNext (lines_in lines.entry) number
+    ensures printed { IfOk result (λ reported. PrintsNext (lines_in lines.entry) number
         (ledger_history ledger.old)
-        (ledger_history ledger.new) printer.old printer.new told.0 told.1) }
-    ensures few { IfOk result (λ told. told.0.errors ≤ told.0.commands) }
+        (ledger_history ledger.new) printer.old printer.new reported.0 reported.1) }
+    ensures few { IfOk result (λ reported. reported.0.errors ≤ reported.0.commands) }
     ensures left { left_in ledger.old ≤ left_in ledger.new + 2 }
 {
     let StatementCut { statement, taken } = next_statement(crew.alloc, lines, number)?;
-    let told = answer_statement(crew, ledger, number, statement, printer)?;
-    Ok((told, taken))
+    let reported = answer_statement(crew, ledger, number, statement, printer)?;
+    Ok((reported, taken))
 }
 
 /// Answers the statements of some records, the first of them on an empty ledger, and writes each
@@ -113,11 +113,11 @@ fn answer_each<T: Threads + Wait + Sync, W: Write>(
     while at < count {
         let number = at as u64 + 1;
         let lines = Lines::all(&records);
-        let (told, taken) = answer_next(crew, &mut ledger, number, lines, &mut printer)?;
+        let (reported, taken) = answer_next(crew, &mut ledger, number, lines, &mut printer)?;
         records.advance(taken);
         printer.write_to(writer, patience)?;
-        outcome.commands += told.commands;
-        outcome.errors += told.errors;
+        outcome.commands += reported.commands;
+        outcome.errors += reported.errors;
         at += taken;
     }
     Ok(outcome)

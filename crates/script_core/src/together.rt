@@ -63,7 +63,7 @@ fn answer_queries<T: Threads + Sync>(
         (lines_in section.entry.lines) printer.old printer.new) }
 {
     let Section { lines, first } = section;
-    let mut told = Outcome {
+    let mut reported = Outcome {
         commands: 0,
         errors: 0,
     };
@@ -72,11 +72,11 @@ fn answer_queries<T: Threads + Sync>(
         let number = first + at as u64;
         let CommandCut { command, taken } = next_inside(lines.range(at, lines.len()), number, true);
         let errors = answer_query(context, number, command, printer)?;
-        told.commands += 1;
-        told.errors += errors;
+        reported.commands += 1;
+        reported.errors += errors;
         at += taken;
     }
-    Ok(told)
+    Ok(reported)
 }
 
 /// What a command asks for that stands as the first load of a block.
@@ -134,11 +134,11 @@ fn answer_both<T: Threads + Wait + Sync>(
     requires numbers { CanBeNumbered block.now }
     requires left { 0 < left_in ledger.old }
     ensures front { IfOk result.0
-        (λ told. PrintsSection (history context.now.newest.now) block.now.front.first
-        (lines_in block.now.front.lines) printer.old printer.new told.0) }
+        (λ reported. PrintsSection (history context.now.newest.now) block.now.front.first
+        (lines_in block.now.front.lines) printer.old printer.new reported.0) }
     ensures back { IfOk result.0
-        (λ told. PrintsSection (history context.now.newest.now) block.now.back.first
-        (lines_in block.now.back.lines) later.old later.new told.1) }
+        (λ reported. PrintsSection (history context.now.newest.now) block.now.back.first
+        (lines_in block.now.back.lines) later.old later.new reported.1) }
     ensures load { IfOk result.1 (λ answer. IsAnswerTo (ledger_history ledger.old) block.now.number
         (first_load_meaning block.now.load) answer (ledger_history ledger.new)) }
     ensures left { left_in ledger.old ≤ left_in ledger.new + 1 }
@@ -146,12 +146,12 @@ fn answer_both<T: Threads + Wait + Sync>(
     let mut queries = || -> Result<(Outcome, Outcome), NoMemory>
         requires { IsSync T.row × ((members : List Member) × IsCutAt block.now members)
             × CanBeNumbered block.now }
-        ensures front { IfOk result (λ told. PrintsSection (history context.entry.now.newest.now)
+        ensures front { IfOk result (λ reported. PrintsSection (history context.entry.now.newest.now)
             block.entry.now.front.first
-            (lines_in block.entry.now.front.lines) printer.entry.now printer.exit.now told.0) }
-        ensures back { IfOk result (λ told. PrintsSection (history context.entry.now.newest.now)
+            (lines_in block.entry.now.front.lines) printer.entry.now printer.exit.now reported.0) }
+        ensures back { IfOk result (λ reported. PrintsSection (history context.entry.now.newest.now)
             block.entry.now.back.first
-            (lines_in block.entry.now.back.lines) later.entry.now later.exit.now told.1) }
+            (lines_in block.entry.now.back.lines) later.entry.now later.exit.now reported.1) }
     {
         let before = answer_queries(context, block.front, printer)?;
         let behind = answer_queries(context, block.back, later)?;
@@ -228,7 +228,7 @@ fn print_behind<T: Threads + Sync>(
     load: Result<Answer, NoMemory>,
     later: AnswerWriter,
 ) -> Result<Outcome, NoMemory>
-    requires queries { IfOk queries (λ told. CanBeJoined told.0 told.1) }
+    requires queries { IfOk queries (λ reported. CanBeJoined reported.0 reported.1) }
     ensures { IfOk result (PrintsBehind queries load printer.old later printer.new) }
 {
     let (before, behind) = queries?;
@@ -250,12 +250,12 @@ fn answer_beside_load<T: Threads + Wait + Sync>(
     requires whole { (members : List Member) × IsCutAt block.now members }
     requires numbers { CanBeNumbered block.now }
     requires left { 0 < left_in ledger.old }
-    ensures printed { IfOk result (λ told. (members : List Member) → IsCutAt block.now members
+    ensures printed { IfOk result (λ reported. (members : List Member) → IsCutAt block.now members
         → PrintsBlock (history context.now.newest.now) (placed_in false members)
         (ledger_history ledger.new)
-        printer.old printer.new told) }
-    ensures few { IfOk result (λ told. told.errors ≤ told.commands) }
-    ensures fewer { IfOk result (λ told. told.commands ≤ length (lines_in block.now.front.lines)
+        printer.old printer.new reported) }
+    ensures few { IfOk result (λ reported. reported.errors ≤ reported.commands) }
+    ensures fewer { IfOk result (λ reported. reported.commands ≤ length (lines_in block.now.front.lines)
         + length (lines_in block.now.back.lines) + 1) }
     ensures left { left_in ledger.old ≤ left_in ledger.new + 1 }
 {
@@ -276,13 +276,13 @@ fn answer_commands<T: Threads + Wait + Sync>(
         (lines_in block.lines) members }
     requires numbers { block.first + length (lines_in block.lines) < 2 ^ 64 }
     requires left { 0 < left_in ledger.old }
-    ensures printed { IfOk result (λ told. (members : List Member)
+    ensures printed { IfOk result (λ reported. (members : List Member)
         → AreMembers block.entry.first (lines_in block.entry.lines) members
         → PrintsBlock (history context.now.newest.now) (placed_in false members)
         (ledger_history ledger.new)
-        printer.old printer.new told) }
-    ensures few { IfOk result (λ told. told.errors ≤ told.commands) }
-    ensures fewer { IfOk result (λ told. told.commands ≤ length (lines_in block.entry.lines)) }
+        printer.old printer.new reported) }
+    ensures few { IfOk result (λ reported. reported.errors ≤ reported.commands) }
+    ensures fewer { IfOk result (λ reported. reported.commands ≤ length (lines_in block.entry.lines)) }
     ensures left { left_in ledger.old ≤ left_in ledger.new + 1 }
 {
     match first_load(block.lines) {
@@ -303,12 +303,12 @@ pub(crate) fn answer_together<T: Threads + Wait + Sync>(
     requires whole { (members : List Member) × AreMembers (number + 1) (lines_in body) members }
     requires numbers { number + 1 + length (lines_in body) < 2 ^ 64 }
     requires left { 2 ≤ left_in ledger.old }
-    ensures printed { IfOk result (λ told. (members : List Member)
+    ensures printed { IfOk result (λ reported. (members : List Member)
         → AreMembers (number + 1) (lines_in body.entry) members
         → PrintsStatement (ledger_history ledger.old) number (Together (placed_in false members))
         (ledger_history ledger.new)
-        printer.old printer.new told) }
-    ensures few { IfOk result (λ told. told.errors ≤ told.commands) }
+        printer.old printer.new reported) }
+    ensures few { IfOk result (λ reported. reported.errors ≤ reported.commands) }
     ensures left { left_in ledger.old ≤ left_in ledger.new + 2 }
 {
     let newest = ledger.newest(crew.rt)?;
@@ -321,9 +321,9 @@ pub(crate) fn answer_together<T: Threads + Wait + Sync>(
         crew,
         newest: &newest,
     };
-    let told = answer_commands(&context, ledger, block, printer)?;
+    let reported = answer_commands(&context, ledger, block, printer)?;
     Ok(Outcome {
-        commands: told.commands + 1,
-        errors: told.errors,
+        commands: reported.commands + 1,
+        errors: reported.errors,
     })
 }

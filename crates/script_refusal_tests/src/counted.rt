@@ -18,11 +18,11 @@ const ANSWERS: [Result<usize, ErrorKind>; 6] = [
 
 // Answers its calls so, and counts them.
 #[derive(Drop)]
-struct Told {
+struct Answering {
     calls: usize,
 }
 
-impl Told {
+impl Answering {
     fn answer(&mut self, most: usize) -> io::Result<usize>
         ensures { IfOk result (λ size. size ≤ most) }
     {
@@ -36,13 +36,13 @@ impl Told {
     }
 }
 
-impl Read for Told {
+impl Read for Answering {
     fn read(&mut self, buf: &mut [u8]) -> io::Result<usize> {
         self.answer(buf.len())
     }
 }
 
-impl Write for Told {
+impl Write for Answering {
     fn write(&mut self, buf: &[u8]) -> io::Result<usize> {
         self.answer(buf.len())
     }
@@ -61,7 +61,7 @@ fn check_answer(rt: &impl Abort, answer: io::Result<usize>, number: usize) {
 // A read that gives no bytes has not failed: it is at the end.
 #[test]
 fn a_counted_read_is_one_read(rt: HostRuntime) {
-    let mut reader = Counted::new(Told { calls: 0 });
+    let mut reader = Counted::new(Answering { calls: 0 });
     for (number, failures) in [0u64, 1, 1, 2, 3, 3].iter().enumerate() {
         check_answer(&rt, reader.read(&mut [0; 4]), number);
         assert_eq!(rt; reader.failures(), *failures);
@@ -72,12 +72,12 @@ fn a_counted_read_is_one_read(rt: HostRuntime) {
 // A write that takes none of some bytes has failed; of no bytes there are none to take.
 #[test]
 fn a_counted_write_is_one_write(rt: HostRuntime) {
-    let mut writer = Counted::new(Told { calls: 0 });
+    let mut writer = Counted::new(Answering { calls: 0 });
     for (number, failures) in [0u64, 1, 2, 3, 4, 4].iter().enumerate() {
         check_answer(&rt, writer.write(b"ok,1"), number);
         assert_eq!(rt; writer.failures(), *failures);
     }
     assert_eq!(rt; writer.into_inner().calls, 6);
-    let mut idle = Counted::new(Told { calls: 0 });
+    let mut idle = Counted::new(Answering { calls: 0 });
     assert!(rt; idle.write(b"").is_ok() && idle.failures() == 0);
 }

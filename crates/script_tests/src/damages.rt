@@ -406,7 +406,7 @@ fn check_often(rt: &impl Abort, lines: &str, verdict: &str) {
         .lines()
         .filter(|line| line.starts_with(verdict))
         .count();
-    assert!(rt; count >= 50, "{verdict} is told only {count} times");
+    assert!(rt; count >= 50, "{verdict} is answered only {count} times");
 }
 
 #[test]

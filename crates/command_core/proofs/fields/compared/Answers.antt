@@ -16,9 +16,9 @@ returns-in-Some c =
     let line = fields_in c.args.line in
     let it = c.in-Some-Some in
     let rest = rest-from line (fields_in c.range.result) c.len.result 3 c.len.ensures c.range.ensures in
-    let told = c.in-Some.ensures ∙ ap (paired_behind (codes "on")) rest in
+    let paired = c.in-Some.ensures ∙ ap (paired_behind (codes "on")) rest in
     let follow =
     λ (names : Record).
     map_ok compared_by (both_ok (both_ok (name_in it.left.now) (name_in it.right.now)) (name_pairs names)) in
     let whole = compared-two line it.left.now it.right.now (sym it.ensures) (sym it.ensures') in
-    c.names_and_pairs.ensures ∙ (ap (λ o. and_then (ok_or o BadCommand) follow) told ∙ sym whole)
+    c.names_and_pairs.ensures ∙ (ap (λ o. and_then (ok_or o BadCommand) follow) paired ∙ sym whole)

@@ -4,7 +4,7 @@ use Rattle.std.specs.Prelude.{codes}
 use Rattle.command_core.specs.Lines.{fields_in}
 use Rattle.command_core.specs.Words.{begins}
 use Rattle.command_core.proofs.Cutting.{part-first, rest-from}
-use Rattle.command_core.proofs.FieldLemmas.{split_asof-none, split_asof-told}
+use Rattle.command_core.proofs.FieldLemmas.{split_asof-none, split_asof-named}
 use Rattle.command_core.proofs.fields.split_asof.Goals as goal
 
 pub returns-then-begins-clause-front : goal.returns-then-begins-clause-front
@@ -14,9 +14,9 @@ returns-then-begins-clause-front c =
     let two : length line ≡ k + 2 = omega (arith, c.len-len.ensures, c.if-len-lt2.false) in
     let rest = rest-from line (fields_in c.range.result) c.len-len.result k c.len-len.ensures c.range.ensures in
     let word = ap (begins (codes "asof")) (sym rest) ∙ (sym c.begins.ensures ∙ c.if-begins.true) in
-    let told = split_asof-told k line two word in
+    let named = split_asof-named k line two word in
     part-first line (fields_in c.range-then-begins.result) k c.range-then-begins.ensures
-    ∙ sym (ap (λ parts. parts.0) told)
+    ∙ sym (ap (λ parts. parts.0) named)
 
 pub returns-then-begins-clause-text : goal.returns-then-begins-clause-text
 returns-then-begins-clause-text c =
@@ -25,9 +25,9 @@ returns-then-begins-clause-text c =
     let two : length line ≡ k + 2 = omega (arith, c.len-len.ensures, c.if-len-lt2.false) in
     let rest = rest-from line (fields_in c.range.result) c.len-len.result k c.len-len.ensures c.range.ensures in
     let word = ap (begins (codes "asof")) (sym rest) ∙ (sym c.begins.ensures ∙ c.if-begins.true) in
-    let told = split_asof-told k line two word in
+    let named = split_asof-named k line two word in
     let last : c.len-len.result - 1 ≡ k + 1 = omega (arith, c.if-len-lt2.false) in
-    c.get.ensures ∙ (ap (slice_get line) last ∙ sym (ap (λ parts. parts.1) told))
+    c.get.ensures ∙ (ap (slice_get line) last ∙ sym (ap (λ parts. parts.1) named))
 
 pub returns-else-begins-clause-front : goal.returns-else-begins-clause-front
 returns-else-begins-clause-front c =

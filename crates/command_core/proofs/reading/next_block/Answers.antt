@@ -1,7 +1,7 @@
 use Rattle.std.proofs.Common.{ℕ, List, ◌≡◌, ◌-◌, ◌+◌, ◌≤◌, ◌∙◌, ap, arith, drop, inl, inr, length, length-take, subst, sym, take}
 use Rattle.std.proofs.lemmas.List.{length-drop}
 use Rattle.command_core.specs.Lines.{fields_in, lines_in}
-use Rattle.command_core.specs.Meaning.{behind_length, block_meaning, told}
+use Rattle.command_core.specs.Meaning.{behind_length, block_meaning, meaning_or_refusal}
 use Rattle.command_core.specs.Records.{Record}
 use Rattle.command_core.proofs.BehindLemmas.{block-behind}
 use Rattle.command_core.proofs.Cuts.{block-means, unended-means}
@@ -22,7 +22,7 @@ returns-in-Some-clause-means c =
     (lines_in c.range.result) rest c.requires.first c.requires.opens
     found.within found.before found.last
     (c.read_block.ensures
-    ∙ ap (λ body. told c.args.number (block_meaning opening body))
+    ∙ ap (λ body. meaning_or_refusal c.args.number (block_meaning opening body))
     (c.range-in-Some.ensures ∙ ap (λ n. take n (drop 1 lines)) size))))
 
 pub returns-in-None-clause-means : goal.returns-in-None-clause-means

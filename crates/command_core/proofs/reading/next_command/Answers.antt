@@ -1,7 +1,7 @@
 use Rattle.std.proofs.Common.{◌≤◌, ◌∙◌, ap, arith, inl, subst, sym, take}
 use Rattle.command_core.specs.Command.{meaning_of}
 use Rattle.command_core.specs.Lines.{fields_in, lines_in}
-use Rattle.command_core.specs.Meaning.{MeansRecord, behind_length, told}
+use Rattle.command_core.specs.Meaning.{MeansRecord, behind_length, meaning_or_refusal}
 use Rattle.command_core.specs.Words.{verb_of}
 use Rattle.command_core.proofs.BehindLemmas.{record-behind}
 use Rattle.command_core.proofs.Cuts.{record-means}
@@ -17,12 +17,12 @@ returns-clause-means c =
       | in-Ok w ↦
           rw w.command-is
           (inl (subst (λ m. MeansRecord c.args.number (take 1 lines) m)
-          (ap (told c.args.number) w.in-Ok.ensures.reads) own))
+          (ap (meaning_or_refusal c.args.number) w.in-Ok.ensures.reads) own))
       | in-Err-Refused w ↦
           let reads = rw w.in-Err-Refused.field-0-is at w.in-Err-Refused.ensures.reads in
           rw w.command-is
           (inl (subst (λ m. MeansRecord c.args.number (take 1 lines) m)
-          (ap (told c.args.number) reads ∙ sym w.refused-command.ensures) own))
+          (ap (meaning_or_refusal c.args.number) reads ∙ sym w.refused-command.ensures) own))
     ]
 
 pub returns-clause-behind : goal.returns-clause-behind
@@ -32,7 +32,7 @@ returns-clause-behind c =
     elim c.match-read_record.branch [
       | in-Ok w ↦
           let own : behind_length (meaning_of w.in-Ok.command) ≤ 0 =
-          subst (λ r. behind_length (told c.args.number r) ≤ 0) w.in-Ok.ensures.reads none in
+          subst (λ r. behind_length (meaning_or_refusal c.args.number r) ≤ 0) w.in-Ok.ensures.reads none in
           rw w.command-is (omega (arith, own, c.requires))
       | in-Err-Refused w ↦
           let own : behind_length (meaning_of w.refused-command.result) ≤ 0 =

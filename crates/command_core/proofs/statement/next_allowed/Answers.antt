@@ -2,7 +2,7 @@ use Rattle.std.proofs.Common.{◌≡◌, ◌<◌, ◌≤◌, ◌∙◌, List, []
 use Rattle.std.specs.List.{slice_get}
 use Rattle.command_core.specs.Command.{meaning_of}
 use Rattle.command_core.specs.Lines.{fields_in, lines_in}
-use Rattle.command_core.specs.Meaning.{MeansRecord, behind_length, told}
+use Rattle.command_core.specs.Meaning.{MeansRecord, behind_length, meaning_or_refusal}
 use Rattle.command_core.specs.Records.{Record}
 use Rattle.command_core.specs.Words.{verb_of}
 use Rattle.command_core.proofs.BehindLemmas.{record-behind}
@@ -23,11 +23,11 @@ returns-clause-means c =
       | in-Ok w ↦
           rw w.command-is
           (inl (subst (λ m. MeansRecord c.args.number (take 1 lines) m)
-          (ap (told c.args.number) (sym w.in-Ok.ensures)) own))
+          (ap (meaning_or_refusal c.args.number) (sym w.in-Ok.ensures)) own))
       | in-Err w ↦
           rw w.command-is
           (inl (subst (λ m. MeansRecord c.args.number (take 1 lines) m)
-          (ap (told c.args.number) (sym w.in-Err.ensures) ∙ sym w.refused-command.ensures) own))
+          (ap (meaning_or_refusal c.args.number) (sym w.in-Err.ensures) ∙ sym w.refused-command.ensures) own))
     ]
 
 pub returns-clause-behind : goal.returns-clause-behind
@@ -38,7 +38,7 @@ returns-clause-behind c =
     elim c.match-read_tableless.branch [
       | in-Ok w ↦
           let own : behind_length (meaning_of w.in-Ok.command) ≤ 0 =
-          subst (λ r. behind_length (told c.args.number r) ≤ 0) (sym w.in-Ok.ensures) none in
+          subst (λ r. behind_length (meaning_or_refusal c.args.number r) ≤ 0) (sym w.in-Ok.ensures) none in
           rw w.command-is (omega (arith, own, some))
       | in-Err w ↦
           let own : behind_length (meaning_of w.refused-command.result) ≤ 0 =

@@ -1,9 +1,9 @@
 use Rattle.std.proofs.Common.{◌≡◌, ◌+◌, ◌-◌, ◌∙◌, ap, arith, drop, false, inl, inr, subst, sym, take}
 use Rattle.command_core.specs.Lines.{fields_in, lines_in}
 use Rattle.command_core.specs.Meaning.{refuse}
-use Rattle.command_core.specs.Statement.{AreMembers, One, placed_in, stated, together_told}
+use Rattle.command_core.specs.Statement.{AreMembers, One, placed_in, stated, opened_together}
 use Rattle.command_core.specs.declared.refusal.Refusal.TheVariants.{Unended}
-use Rattle.command_core.proofs.Blocks.{states-together, states-unended, told-more, told-one}
+use Rattle.command_core.proofs.Blocks.{states-together, states-unended, opened-more, opened-one}
 use Rattle.command_core.proofs.Cutting.{rest-from}
 use Rattle.command_core.proofs.statement.next_together.Goals.{then-len-eq1, else-len-eq1}
 use Rattle.command_core.proofs.statement.next_together.Goals as goal
@@ -32,7 +32,7 @@ returns-clause-states c =
     let rest = rest-from lines behind c.len.result 1 c.len.ensures c.range.ensures in
     let members = found.before (number + 1) in
     let commands = placed_in false members.0 in
-    let statement = stated number (together_told opening commands) in
+    let statement = stated number (opened_together opening commands) in
     let states = states-together lines behind opening number rest c.requires.first c.requires.opens len members.0
     found.within members.1 found.last in
     elim c.if-len-eq1.branch [
@@ -44,14 +44,14 @@ returns-clause-states c =
             (
               members.0,
               subst (λ l. AreMembers (number + 1) l members.0) (sym body) members.1,
-              ap (stated number) (told-one opening commands (sym c.len-2.ensures ∙ w.if-len-eq1.true)),
+              ap (stated number) (opened-one opening commands (sym c.len-2.ensures ∙ w.if-len-eq1.true)),
             ),
             inr (inl states),
           )
       | else-len-eq1 w ↦
           rw w.statement-is (
             statement,
-            ap (stated number) (told-more opening commands (λ e. w.if-len-eq1.false (c.len-2.ensures ∙ e)))
+            ap (stated number) (opened-more opening commands (λ e. w.if-len-eq1.false (c.len-2.ensures ∙ e)))
                 ∙ ap One (sym w.refused-else-len-eq1.ensures),
             inr (inl states),
           )

@@ -10,7 +10,7 @@ use Rattle.command_core.specs.declared.refusal.Refusal.{Refusal}
 use Rattle.command_core.proofs.Cutting.{drop-slice_get, slice_get-there}
 use Rattle.row_core.specs.declared.schema.Column.{Column}
 use Rattle.script_core.specs.Failure.{Failure, IsFailureOf, IsRecordFailure}
-use Rattle.script_core.specs.Effects.{pair_read, pairs_read, pairs_told}
+use Rattle.script_core.specs.Effects.{pair_read, pairs_read, pairs_or_fault}
 use Rattle.row_core.specs.declared.failure.Failure.TheVariants.{Refused, NoMemory}
 use Rattle.script_core.proofs.Loading.{behind, behind-next, behind-refused}
 use Rattle.script_core.proofs.pairs.read_pairs.Goals as goal
@@ -37,7 +37,7 @@ value_failed : (number : ℕ) (columns : List Column) (texts : List TextPair) (p
     (had : List Pair) (failure : Failure) → slice_get texts place ≡ Some text
     → pairs_read columns texts ≡ behind had (pairs_read columns (drop place texts))
     → IsRecordFailure number (pair_read columns text) failure
-    → IsFailureOf (pairs_told number columns texts) failure
+    → IsFailureOf (pairs_or_fault number columns texts) failure
 value_failed number columns texts place text had (Refused wrong) e is (refusal, bad, same) =
     ap (map_err (fault number)) (is ∙ no_value columns texts place text had refusal e bad) ∙ ap Err (sym same)
 value_failed number columns texts place text had NoMemory e is h = tt

@@ -12,8 +12,8 @@ returns-in-Ok g c =
     let asof = commit_shown c.args.snapshot.now in
     let asked = c.args.aggregate in
     let table : TableRows = (c.in_ok-schema.schema.now, c.in_ok-schema.rows) in
-    let (_, told, is) = c.in_ok-schema.ensures.gives in
-    let read = table-read number h asof asked.table table.0 table.1 (told ∙ ap Ok (sym is))
+    let (_, reported, is) = c.in_ok-schema.ensures.gives in
+    let read = table-read number h asof asked.table table.0 table.1 (reported ∙ ap Ok (sym is))
     c.in_ok-schema.ensures.columns in
     let answered = c.in-Ok.ensures in (
       table,

@@ -6,16 +6,16 @@ use Rattle.store_core.specs.Snapshots.{history, number_shown, rows_of_snapshot}
 use Rattle.command_core.specs.Refusal.{fault}
 use Rattle.agg_core.specs.Agg.{rows_on}
 use Rattle.script_core.specs.Refusal.{table_refusal}
-use Rattle.script_core.proofs.Showing.{rows-told}
+use Rattle.script_core.proofs.Showing.{rows-reported}
 use Rattle.script_core.proofs.queries.rows_on.Goals as goal
 
 -- where rows that hold are given, they are those of the rows that are meant
-held-told : {E D : Type 0} (rename : E → D) (point : ℤ) (meant : Result (List Row) E) (held : List Row)
+held-reported : {E D : Type 0} (rename : E → D) (point : ℤ) (meant : Result (List Row) E) (held : List Row)
     → map_ok (rows_on point) meant ≡ Ok held
     → (read : List Row) × (map_err rename meant ≡ Ok read) × (Rows held ≡ Rows (rows_on point read))
-held-told rename point (Ok read) held e =
+held-reported rename point (Ok read) held e =
     let same : held ≡ rows_on point read = cc in (read, refl, ap Rows same)
-held-told rename point (Err refusal) held e = absurd (cc)
+held-reported rename point (Err refusal) held e = absurd (cc)
 
 pub returns-in-Ok : goal.returns-in-Ok
 returns-in-Ok c =
@@ -23,6 +23,6 @@ returns-in-Ok c =
     let h = history snapshot in
     let n = number_shown snapshot in
     let read =
-    held-told (λ refused. fault c.args.number (table_refusal refused)) c.args.point (rows_of_snapshot h n c.args.table)
+    held-reported (λ refused. fault c.args.number (table_refusal refused)) c.args.point (rows_of_snapshot h n c.args.table)
     c.in-Ok.rows c.in-Ok.ensures.given in
-    (read.0, rows-told c.args.number h n c.args.table snapshot.within ∙ read.1, read.2)
+    (read.0, rows-reported c.args.number h n c.args.table snapshot.within ∙ read.1, read.2)

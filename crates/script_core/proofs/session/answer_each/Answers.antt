@@ -10,8 +10,8 @@ use Rattle.script_core.proofs.session.answer_each.Goals as goal
 text_is : (old new bytes : List ℕ) → old ≡ [] → new ≡ old ++ bytes → new ≡ bytes
 text_is old new bytes fresh adds = adds ∙ ap (λ t. t ++ bytes) fresh
 
-pub returns-in_err-told-clause-fault : goal.returns-in_err-told-clause-fault
-returns-in_err-told-clause-fault g c =
+pub returns-in_err-reported-clause-fault : goal.returns-in_err-reported-clause-fault
+returns-in_err-reported-clause-fault g c =
     let below : c.loop-at.at < length c.args.records =
     omega (arith, c.loop-at-test.true, c.len-count.ensures) in
     let p = err_from_is_err_and c.from_residual.result c.from_residual.ensures.1 in
@@ -19,13 +19,13 @@ returns-in_err-told-clause-fault g c =
 
 pub returns-in_err-write_to-clause-fault : goal.returns-in_err-write_to-clause-fault
 returns-in_err-write_to-clause-fault g c =
-    let next = rw (c.all-lines.ensures, c.loop-at.invariant.rest) at c.in_ok-told.ensures.printed in
+    let next = rw (c.all-lines.ensures, c.loop-at.invariant.rest) at c.in_ok-reported.ensures.printed in
     let text = text_is c.loop-at.printer c.answer_next.new.printer
     (bytes_of next.prints.answer) c.loop-at.invariant.begins next.prints.printed in
     let why = rw text at c.in_err-write_to.ensures in
     let p = err_from_is_err_and c.from_residual-in_err-write_to.result c.from_residual-in_err-write_to.ensures.1 in
     rw (p.1, p.2)
-    (progress-stopped _ _ _ _ _ _ c.loop-at.at c.in_ok-told.taken c.loop-at.outcome _ next.prints.answer _
+    (progress-stopped _ _ _ _ _ _ c.loop-at.at c.in_ok-reported.taken c.loop-at.outcome _ next.prints.answer _
     c.loop-at.invariant.progress next.within next.states next.prints.answers
     (omega (arith, next.within, next.some)) c.loop-at.invariant.counts why.fault)
 
@@ -33,8 +33,8 @@ pub overflow_add-outcome : goal.overflow_add-outcome
 overflow_add-outcome g c =
     let records = c.args.records in
     let at = c.loop-at.at in
-    let taken = c.in_ok-told.taken in
-    let next = rw (c.all-lines.ensures, c.loop-at.invariant.rest) at c.in_ok-told.ensures.printed in
+    let taken = c.in_ok-reported.taken in
+    let next = rw (c.all-lines.ensures, c.loop-at.invariant.rest) at c.in_ok-reported.ensures.printed in
     omega (
       arith,
       next.within,
@@ -52,8 +52,8 @@ pub loop-at-preserved : goal.loop-at-preserved
 loop-at-preserved g c =
     let records = c.args.records in
     let at = c.loop-at.at in
-    let taken = c.in_ok-told.taken in
-    let next = rw (c.all-lines.ensures, c.loop-at.invariant.rest) at c.in_ok-told.ensures.printed in
+    let taken = c.in_ok-reported.taken in
+    let next = rw (c.all-lines.ensures, c.loop-at.invariant.rest) at c.in_ok-reported.ensures.printed in
     let text = text_is c.loop-at.printer c.answer_next.new.printer
     (bytes_of next.prints.answer) c.loop-at.invariant.begins next.prints.printed in
     let wrote = subst
@@ -69,7 +69,7 @@ loop-at-preserved g c =
         commands-few (at + 1) (take taken (drop at records)) _ next.statement next.states,
         length-take taken (drop at records),
       );
-      fewer = omega (arith, c.in_ok-told.ensures.few);
+      fewer = omega (arith, c.in_ok-reported.ensures.few);
       counts = omega arith;
       tries = omega (arith, c.in_ok-write_to.ensures.tries, c.loop-at.invariant.tries);
       begins = c.in_ok-write_to.ensures.begins;
@@ -77,5 +77,5 @@ loop-at-preserved g c =
           c.loop-at.invariant.progress next.within next.states next.prints.answers wrote
           (ap (λ n. c.loop-at.outcome.commands + n) next.prints.commands)
           (ap (λ n. c.loop-at.outcome.errors + n) next.prints.errors);
-      left = omega (arith, next.some, c.in_ok-told.ensures.left, c.loop-at.invariant.left);
+      left = omega (arith, next.some, c.in_ok-reported.ensures.left, c.loop-at.invariant.left);
     }

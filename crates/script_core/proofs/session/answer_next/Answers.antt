@@ -13,5 +13,5 @@ returns-clause-printed g c =
       within = found.within;
       statement = found.states.0;
       states = found.states.2;
-      prints = c.in_ok-told.ensures.printed found.states.0 found.states.1;
+      prints = c.in_ok-reported.ensures.printed found.states.0 found.states.1;
     }

@@ -12,9 +12,9 @@ answer_together-requires-clause-whole g c κs within =
 pub returns-in-Together-clause-printed : goal.returns-in-Together-clause-printed
 returns-in-Together-clause-printed g c =
     IfOk-weaker c.answer_together.result _ _
-    (λ told given meant stands.
+    (λ reported given meant stands.
     let is = rw c.in-Together.is at stands in
     subst
     (λ (said : Statement). PrintsStatement (ledger_history c.args.ledger.now) c.args.number said
-    (ledger_history c.answer_together.new.ledger) c.args.printer.now c.answer_together.new.printer told) (sym is.2)
+    (ledger_history c.answer_together.new.ledger) c.args.printer.now c.answer_together.new.printer reported) (sym is.2)
     (given is.0 is.1)) c.answer_together.ensures.printed

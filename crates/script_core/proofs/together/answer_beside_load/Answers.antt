@@ -26,7 +26,7 @@ print_behind-requires-clause-queries g c = λ κs outlives.
 pub returns-clause-printed : goal.returns-clause-printed
 returns-clause-printed g c =
     IfOk-weaker c.print_behind.result _ _
-    (λ told behind members cut.
+    (λ reported behind members cut.
     let block = c.args.block.now in
     let newest = history c.args.context.now.newest.now in
     let before = ledger_history c.args.ledger.now in
@@ -37,10 +37,10 @@ returns-clause-printed g c =
     let queries = c.answer_both-queries.ensures in
     let said = behind.printed in
     let given = said.answer in
-    let first = IfOk-at_ok (λ (told : Outcome × Outcome). PrintsSection newest block.front.first
-    (lines_in block.front.lines) c.args.printer.now mid told.0) behind.queries_are queries.front in
-    let second = IfOk-at_ok (λ (told : Outcome × Outcome). PrintsSection newest block.back.first
-    (lines_in block.back.lines) c.new-later.result later told.1) behind.queries_are queries.back in
+    let first = IfOk-at_ok (λ (reported : Outcome × Outcome). PrintsSection newest block.front.first
+    (lines_in block.front.lines) c.args.printer.now mid reported.0) behind.queries_are queries.front in
+    let second = IfOk-at_ok (λ (reported : Outcome × Outcome). PrintsSection newest block.back.first
+    (lines_in block.back.lines) c.new-later.result later reported.1) behind.queries_are queries.back in
     let others = subst
     (λ (u : List ℕ). PrintsQueries newest (placed_in true cut.back) u later behind.queried.1)
     c.new-later.ensures (second.printed cut.back cut.behind) in
@@ -50,7 +50,7 @@ returns-clause-printed g c =
     (subst (λ m. IsAnswerTo before cut.load.number m given after) cut.means
     (subst (λ n. IsAnswerTo before n meant given after) (sym cut.numbered) done)) in
     block-printed newest after members cut.front cut.back cut.load behind.errors
-    c.args.printer.now mid said.near later c.print_behind.new.printer behind.queried.0 behind.queried.1 told cut.are
+    c.args.printer.now mid said.near later c.print_behind.new.printer behind.queried.0 behind.queried.1 reported cut.are
     cut.none cut.loads (subst AsksLoad cut.means (first-asks block.load)) (first.printed cut.front cut.before)
     (record {
       answer = said.own.records;
@@ -64,12 +64,12 @@ returns-clause-few g c =
     let block = c.args.block.now in
     let newest = history c.args.context.now.newest.now in
     IfOk-weaker c.print_behind.result _ _
-    (λ told behind.
-    let first = IfOk-at_ok (λ (told : Outcome × Outcome). PrintsSection newest block.front.first
-    (lines_in block.front.lines) c.args.printer.now c.answer_both-queries.new.printer told.0)
+    (λ reported behind.
+    let first = IfOk-at_ok (λ (reported : Outcome × Outcome). PrintsSection newest block.front.first
+    (lines_in block.front.lines) c.args.printer.now c.answer_both-queries.new.printer reported.0)
     behind.queries_are c.answer_both-queries.ensures.front in
-    let second = IfOk-at_ok (λ (told : Outcome × Outcome). PrintsSection newest block.back.first
-    (lines_in block.back.lines) c.new-later.result c.answer_both-queries.new.later told.1)
+    let second = IfOk-at_ok (λ (reported : Outcome × Outcome). PrintsSection newest block.back.first
+    (lines_in block.back.lines) c.new-later.result c.answer_both-queries.new.later reported.1)
     behind.queries_are c.answer_both-queries.ensures.back in
     omega (arith, first.few, second.few, behind.few, behind.commands, behind.refusals)) c.print_behind.ensures
 
@@ -78,11 +78,11 @@ returns-clause-fewer g c =
     let block = c.args.block.now in
     let newest = history c.args.context.now.newest.now in
     IfOk-weaker c.print_behind.result _ _
-    (λ told behind.
-    let first = IfOk-at_ok (λ (told : Outcome × Outcome). PrintsSection newest block.front.first
-    (lines_in block.front.lines) c.args.printer.now c.answer_both-queries.new.printer told.0)
+    (λ reported behind.
+    let first = IfOk-at_ok (λ (reported : Outcome × Outcome). PrintsSection newest block.front.first
+    (lines_in block.front.lines) c.args.printer.now c.answer_both-queries.new.printer reported.0)
     behind.queries_are c.answer_both-queries.ensures.front in
-    let second = IfOk-at_ok (λ (told : Outcome × Outcome). PrintsSection newest block.back.first
-    (lines_in block.back.lines) c.new-later.result c.answer_both-queries.new.later told.1)
+    let second = IfOk-at_ok (λ (reported : Outcome × Outcome). PrintsSection newest block.back.first
+    (lines_in block.back.lines) c.new-later.result c.answer_both-queries.new.later reported.1)
     behind.queries_are c.answer_both-queries.ensures.back in
     omega (arith, first.fewer, second.fewer, behind.commands)) c.print_behind.ensures

@@ -13,15 +13,15 @@ first_load-requires g c = record {
 pub returns-in-None-clause-printed : goal.returns-in-None-clause-printed
 returns-in-None-clause-printed g c =
     IfOk-weaker c.answer_queries.result _ _
-    (λ told given members are.
+    (λ reported given members are.
     queries-block (history c.args.context.now.newest.now) (ledger_history c.args.ledger.now) members c.args.printer.now
-    c.answer_queries.new.printer told (c.in-None.ensures.none c.args.block.first members are)
+    c.answer_queries.new.printer reported (c.in-None.ensures.none c.args.block.first members are)
     (sym c.requires.same) (given.printed members are)) c.answer_queries.ensures
 
 pub returns-in-None-clause-few : goal.returns-in-None-clause-few
 returns-in-None-clause-few g c =
-    IfOk-weaker c.answer_queries.result _ _ (λ told given. given.few) c.answer_queries.ensures
+    IfOk-weaker c.answer_queries.result _ _ (λ reported given. given.few) c.answer_queries.ensures
 
 pub returns-in-None-clause-fewer : goal.returns-in-None-clause-fewer
 returns-in-None-clause-fewer g c =
-    IfOk-weaker c.answer_queries.result _ _ (λ told given. given.fewer) c.answer_queries.ensures
+    IfOk-weaker c.answer_queries.result _ _ (λ reported given. given.fewer) c.answer_queries.ensures

@@ -20,7 +20,7 @@ loop-at-preserved g c =
       few = omega (arith, next.some, c.loop-at.invariant.few);
       fewer = omega (arith, c.loop-at.invariant.fewer, c.in_ok-errors.ensures.few);
       done = queries-more (history c.args.context.now.newest.now) c.args.section.first lines at taken c.args.printer.now
-          c.loop-at.printer c.answer_query.new.printer c.loop-at.told _
+          c.loop-at.printer c.answer_query.new.printer c.loop-at.reported _
           (meaning_of c.next_inside-command.result.command)
           c.in_ok-errors.errors c.loop-at.invariant.done next.within next.next next.allowed one refl refl;
     }
@@ -32,7 +32,7 @@ returns g c =
     record {
       printed = λ members are.
           queries-all (history c.args.context.now.newest.now) c.args.section.first lines c.loop-at.at c.args.printer.now
-          c.loop-at.printer c.loop-at.told c.loop-at.invariant.done over members are;
+          c.loop-at.printer c.loop-at.reported c.loop-at.invariant.done over members are;
       few = c.loop-at.invariant.fewer;
       fewer = omega (arith, c.loop-at.invariant.few, c.loop-at.invariant.within);
     }

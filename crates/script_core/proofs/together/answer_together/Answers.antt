@@ -15,7 +15,7 @@ returns-clause-printed g c = λ members are.
     let shown = c.in_ok-newest.ensures.shows in
     let count : c.number.result ≡ length before = c.number.ensures.number ∙ (shown.1 ∙ ap length shown.0) in
     let block = subst (λ (h : History). PrintsBlock h (placed_in false members) after c.together.new.self
-    c.answer_commands.new.printer c.in_ok-told.told) shown.0 (c.in_ok-told.ensures.printed members are) in
+    c.answer_commands.new.printer c.in_ok-reported.reported) shown.0 (c.in_ok-reported.ensures.printed members are) in
     block-stated before number (placed_in false members) after c.args.printer.now c.together.new.self
-    c.answer_commands.new.printer c.in_ok-told.told _ _ (ap (λ n. together_record n ∷ []) count)
+    c.answer_commands.new.printer c.in_ok-reported.reported _ _ (ap (λ n. together_record n ∷ []) count)
     c.in_ok-together.ensures.ok block refl refl

@@ -17,10 +17,10 @@ pub returns-in-Division : goal.returns-in-Division
 returns-in-Division g c =
     rw c.in-Division.is
     (on_ok_weaker c.division.result
-    (λ told. (
-      division_records c.in-Division.rows c.in-Division.division told.0,
-      (told.0, told.1, refl),
-      told.2,
+    (λ printed. (
+      division_records c.in-Division.rows c.in-Division.division printed.0,
+      (printed.0, printed.1, refl),
+      printed.2,
     )) c.division.ensures)
 
 pub returns-in-Verdict : goal.returns-in-Verdict

@@ -24,8 +24,8 @@ returns-in-Some c =
     let at : Some field ≡ last (joined c.args.self.now) =
     sym (ap (option_map (λ (s : Bor (List ℕ)). s.now)) c.in-Some.is)
     ∙ found_is (goal.at.returns-in-Some c).After-last_field in
-    let told = not_line field c.ends_line.result c.ends_line.ensures in
-    (λ whole. subst Holds at (told.0 whole), λ holds. told.1 (subst Holds (sym at) holds))
+    let ends = not_line field c.ends_line.result c.ends_line.ensures in
+    (λ whole. subst Holds at (ends.0 whole), λ holds. ends.1 (subst Holds (sym at) holds))
 
 pub returns-in-None : goal.returns-in-None
 returns-in-None c =

@@ -7,8 +7,8 @@ pub returns-in-Ok-clause-same : goal.returns-in-Ok-clause-same
 returns-in-Ok-clause-same g c =
     keeps-alone c.args.self.now.pass c.log.new.pass c.args.self.now.one c.in-Ok.ensures.reply.0
 
-pub returns-in-Ok-clause-told : goal.returns-in-Ok-clause-told
-returns-in-Ok-clause-told g c = c.in-Ok.ensures.reply.1 ∙ ap log_of (returns-in-Ok-clause-same g c)
+pub returns-in-Ok-clause-reported : goal.returns-in-Ok-clause-reported
+returns-in-Ok-clause-reported g c = c.in-Ok.ensures.reply.1 ∙ ap log_of (returns-in-Ok-clause-same g c)
 
 pub returns-in-Err-NoMemory-clause-same : goal.returns-in-Err-NoMemory-clause-same
 returns-in-Err-NoMemory-clause-same g c =
