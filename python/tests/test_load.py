@@ -104,6 +104,14 @@ class LastDays(Case):
         others = [f"{end},1,2024-01-01,{end}" for end in days[1:]]
         self.noted("6 ends are last days of a month, 0 are first days", rows("A,1,2024-01-31,2024-02-29", *others))
 
+    def test_the_day_before_no_end_is_no_last_day_where_ends_may_be_unknown(self) -> None:
+        text, words = rows("A,1,2024-01-01,30.12.9999"), [*WORDS, "--german", "--last-day"]
+        wanted = "load,pay\nrow,2024-01-01,9999-12-31,A,1\nend\n"
+        self.loaded(wanted, text, *words)
+        self.loaded(wanted, text, *words, "--no-end", "30.12.9999")
+        for more in (["--open"], ["--no-end", "NULL"]):
+            self.refused("stands for no known end; --no-end '30.12.9999' reads it as that", text, *words, *more)
+
     def test_the_last_minute_of_a_day_is_reported(self) -> None:
         text = rows("A,1,2024-01-01,2024-03-15 23:59:59")
         self.noted("the row doesn't hold at its end", text, *WORDS, "--dates", "2024-12-31 00:00:00")

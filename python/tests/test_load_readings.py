@@ -233,6 +233,9 @@ def wanted_row(start: str, end: str, form: Optional[str], words: Dict[str, str])
     elif last and is_last:
         if shown(last) == "9999-12-31":
             last = last if "--open" in words else None
+        elif shown(last) == "9999-12-30" and ("--open" in words or words["--no-end"]):
+            # The day after it stands for no end.
+            last = None
         else:
             last = last + timedelta(days=1) if len(shown(last)) == 10 else None
     return [shown(first), shown(last)] if first and last and first < last else None

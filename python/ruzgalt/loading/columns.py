@@ -13,6 +13,8 @@ from ruzgalt.script.forms import TEXT_LIMIT, in_lines, is_integer, is_short
 from ruzgalt.script.records import Printer, visible
 from ruzgalt.script.schemas import Kind
 
+# What stands for an end that isn't known, for a person.
+UNKNOWN = f"{NO_END}, which stands for no known end"
 TO_SPACE = str.maketrans(SPACES, " " * len(SPACES))
 
 
@@ -102,22 +104,29 @@ class End(Column):
         if "T23:59" in made and not self.is_last_day:
             why = "the row doesn't hold at its end: a day ends at the next one's midnight"
             self.doubts[value] = Doubt("23:59", why)
-        return self.the_next_day(made) if self.is_last_day else made
+        return self.the_next_day(made, text) if self.is_last_day else made
 
     def remedy(self, text: str) -> str:
         if not text:
-            return f"no end is given; --open reads it as {NO_END}, which stands for no known end"
-        return f"not a date; --no-end '{text}' reads it as {NO_END}, which stands for no known end"
+            return f"no end is given; --open reads it as {UNKNOWN}"
+        return f"not a date; --no-end '{text}' reads it as {UNKNOWN}"
 
-    def the_next_day(self, text: str) -> str:
-        if text == NO_END:
+    def the_next_day(self, last: str, text: str) -> str:
+        """The day after a last day, which the file has as this text.
+
+        Where ends may be unknown, the day before that which stands for them would become one of them.
+        """
+        if last == NO_END:
             if not self.is_open:
-                raise Misfit(f"there is no day after it; --open reads it as {NO_END}, which stands for no known end")
+                raise Misfit(f"there is no day after it; --open reads it as {UNKNOWN}")
             self.met.add("")
             return NO_END
-        if len(text) != 10:
+        if len(last) != 10:
             raise Misfit("a last day can't have a time")
-        return dates.shifted(text, 1)
+        made = dates.shifted(last, 1)
+        if made == NO_END and self.no_ends:
+            raise Misfit(f"the day after it is {UNKNOWN}; --no-end '{text}' reads it as that")
+        return made
 
 
 class Text(Column):
