@@ -62,6 +62,11 @@ class Reading(ToolCase):
         second = f'+,{time},"Byron, Ada",5000\n-,{time},"Byron, Ada",5400\n'
         self.check([*changed, "4", "5"], "", 0, "change,valid_from,valid_to,person,euros\n" + second)
         self.check([*changed, "4", "7"], "", 1, "answers: line 10: log: ")
+        texts, row = "table,u,n,text\nload,u\nrow,2024-01-01,2024-02-01,x\nend\n", "row,1,2024-01-01,2024-02-01"
+        with kept(f"ok,1\nok,2\nok,3\nok,4\n{row},5\nend,1\n{row},x\nend,1\n") as answers:
+            script = f"{texts.replace('text', 'int').replace('u', 't').replace('x', '5')}{texts}rows,t\nrows,u\n"
+            note = "line 9 and line 10: rows,t and rows,u: n is int in one, and text in the other"
+            self.check(["tools/answers", "changed", "-", "--answers", answers], script, 1, note)
 
 
 class Questions(ToolCase):

@@ -9,7 +9,7 @@ from ruzgalt.periods import amounts, pieces
 from ruzgalt.script.forms import POINTS, at_second, print_point, read_point, seconds
 from ruzgalt.script.reader import Row
 from ruzgalt.script.records import short
-from ruzgalt.script.schemas import PERIOD, Column, Kind, Table, unique
+from ruzgalt.script.schemas import PERIOD, Column, Kind, Table, refuse_other_kinds, unique
 
 BEGINNING, END = "0001-01-01", "9999-12-31T23:59:59"
 # An end from then on stands for none that is known.
@@ -59,7 +59,8 @@ def sums(answer: Answer, wish: Wish, less: Optional[Answer] = None) -> Sums:
     """
     refuse_points(wish)
     sides = [side_of(answer, wish, 1), *([side_of(less, wish, -1)] if less else [])]
-    refuse_other_kinds(sides)
+    places = " and ".join(side.answer.place for side in sides)
+    refuse_other_kinds(places, sides[0].columns, sides[-1].columns)
     calendar, columns = pieces.calendar(wish.each), sides[0].columns
     found: List[Row] = []
     rounded = 0
@@ -77,14 +78,6 @@ def side_of(answer: Answer, wish: Wish, sign: int) -> Side:
     groups = grouped.by_columns(answer, wish.by, wish.where)
     summed = answer.table.columns[summed_place(answer, wish.summed)]
     return Side(answer, [*groups.columns, summed], groups.records, sign)
-
-
-def refuse_other_kinds(sides: Sequence[Side]) -> None:
-    """Refuses columns of one name that have numbers in one answer, and texts in the other."""
-    for one, other in zip(sides[0].columns, sides[-1].columns):
-        if one.kind is not other.kind:
-            places = " and ".join(side.answer.place for side in sides)
-            raise Misfit(f"{places}: {one.name} is {one.kind.value} in one, and {other.kind.value} in the other")
 
 
 def rows_of(side: Side, values: grouped.Values, wish: Wish) -> Iterator[amounts.Row]:

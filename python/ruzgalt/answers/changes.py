@@ -12,7 +12,7 @@ from ruzgalt.errors import Misfit
 from ruzgalt.script.forms import next_second, printed
 from ruzgalt.script.language import Answered
 from ruzgalt.script.records import short
-from ruzgalt.script.schemas import PERIOD, Column, Kind, Table, unique
+from ruzgalt.script.schemas import PERIOD, Column, Kind, Table, refuse_other_kinds, unique
 
 # Ids are new after each change, so they are left out of what is compared.
 IDS = {Answered.ROWS: ("row_id",), Answered.PAIRS: ("left_id", "right_id"), Answered.STEPS: ()}
@@ -26,6 +26,7 @@ def between(before: Answer, after: Answer) -> Table:
     if names[0] != names[1]:
         others = f"{','.join(names[0])} can't be compared with {','.join(names[1])}"
         raise Misfit(f"{both}: {others}: ask one question of two commits, or of two tables of the same columns")
+    refuse_other_kinds(both, *(columns for columns, _ in kept))
     if point_of(before) != point_of(after):
         raise Misfit(f"{both}: an `at` is of one point alone: ask both for the same, or both by `rows`")
     columns = unique([Column("change", Kind.TEXT), *PERIOD, *kept[0][0]])

@@ -29,6 +29,13 @@ def listed(names: Sequence[str]) -> str:
     return f"its columns are {', '.join(names)}" if names else "it has none"
 
 
+def refuse_other_kinds(places: str, ones: Iterable[Column], others: Iterable[Column]) -> None:
+    """Refuses columns of one name that have numbers in one of two answers, and texts in the other."""
+    for one, other in zip(ones, others):
+        if one.kind is not other.kind:
+            raise Misfit(f"{places}: {one.name} is {one.kind.value} in one, and {other.kind.value} in the other")
+
+
 @dataclass(frozen=True)
 class Schema:
     """A table of the store: its name, its columns, and the places of those of its key."""
