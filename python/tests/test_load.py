@@ -585,6 +585,18 @@ class Claims(Case):
             part = f"--check can't be given with {word.partition('=')[0]}"
             self.refused(part, "P,I\nA\u00a0B,1\nA B,2\n", "posts", "P", "I", "--check", "2024-01-05", word)
 
+    def test_the_columns_are_found_as_those_of_a_load(self) -> None:
+        words = ["posts", "Post", "Contract", "--check", "2024-01-05"]
+        twins = "two columns of the header have the name Post"
+        self.refused(twins, "Post,Post,Contract\nA,B,1\n", *words)
+        self.refused("not in the header: Contract; it has 'Post'", "Post\nA\n", *words)
+        self.refused("there is no header: the file has nothing but empty lines", "\n", *words)
+
+    def test_rows_without_a_part_are_reported(self) -> None:
+        self.noted("Post is empty in 2 rows, which are one part: 2, 3", "Post,Id\nA,1\n,2\n ,3\n", *[
+            "posts", "Post", "Id", "--check", "2024-01-05",
+        ])
+
     def test_an_id_that_is_none_is_refused_with_its_line(self) -> None:
         self.refused("line 2: A,x: not a row with a part", "P,I\nA,x\n", "posts", "P", "I", "--check", "2024-01-05")
 

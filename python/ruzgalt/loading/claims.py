@@ -3,9 +3,10 @@ from typing import Dict, Iterable, Iterator, List, Tuple
 
 from ruzgalt.checking.looks import LookAlikes
 from ruzgalt.errors import Misfit
+from ruzgalt.loading.making import refuse_header
 from ruzgalt.loading.sheets import Records
 from ruzgalt.script.forms import is_count
-from ruzgalt.script.records import to_text, visible
+from ruzgalt.script.records import short, to_text, visible
 
 
 def check_of(sheet: Records, table: str, part: str, row_id: str, instant: str) -> Tuple[str, List[str]]:
@@ -13,9 +14,7 @@ def check_of(sheet: Records, table: str, part: str, row_id: str, instant: str) -
 
     After it stands what is noted of the parts' names.
     """
-    unknown = [name for name in (part, row_id) if name not in sheet.header]
-    if unknown:
-        raise Misfit(f"not in the header: {visible(unknown[0])}; it has {', '.join(map(visible, sheet.header))}")
+    refuse_header(sheet.header, [part, row_id], [])
     places = sheet.header.index(part), sheet.header.index(row_id)
     parts: Dict[str, List[str]] = {}
     for piece in sheet.pieces():
@@ -24,7 +23,15 @@ def check_of(sheet: Records, table: str, part: str, row_id: str, instant: str) -
                 raise Misfit(f"line {line}: {visible(','.join(record))}: not a row with a part and an id")
             parts.setdefault(record[places[0]].strip(), []).append(record[places[1]].strip())
     opening = ["check", table, str(len(parts)), instant]
-    return to_text([opening, *(["part", *ids] for ids in parts.values()), ["end"]]), list(alike(part, parts))
+    return to_text([opening, *(["part", *ids] for ids in parts.values()), ["end"]]), list(notes(part, parts))
+
+
+def notes(column: str, parts: Dict[str, List[str]]) -> Iterator[str]:
+    """What may not be meant in the parts' names."""
+    if "" in parts:
+        ids = short(", ".join(parts[""]))
+        yield f"{visible(column)} is empty in {len(parts['']):,} rows, which are one part: {ids}"
+    yield from alike(column, parts)
 
 
 def alike(column: str, parts: Iterable[str]) -> Iterator[str]:
