@@ -142,6 +142,8 @@ class Words(ToolCase):
         self.check([*pay, "4", "--table", "T"], "", 1, "--table T: not a table's name")
         self.check([*pay, "4", "--table", "t", "--key", "who"], "", 1, "who: not one of the table's columns person")
         self.check([*pay, "4", "--table", "t", *["--key", "person"] * 2], "", 1, "--key person: given twice")
+        both = ["--ids", "--column", "euros"]
+        self.check([*pay, "4", "--table", "t", *both], "", 1, "--ids can't be given with --column")
         for words, note in [
             (["person=Person"], "Person: not a column's name"), (["person", "euros=person"], "the name of two columns"),
             (["name"], "no column name; its columns are row_id, "), (["person=by"], "by: not a column's name"),

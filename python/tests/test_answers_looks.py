@@ -76,6 +76,7 @@ class Words(ToolCase):
         self.check([*self.PAY, "4", "--german"], "", 1, "--german needs --for-spreadsheet or --decimals")
         sqlite = ["tools/answers", "sqlite", EXAMPLE, ":memory:", "--answers", EXAMPLE + ".stdout", "4=pay"]
         self.check([*sqlite, "--last-day"], "", 1, "--last-day need --query, whose answers they print")
+        self.check([*sqlite, "--query", "select 1", "--german"], "", 1, "--german needs --decimals")
         query = ["--query", "select 1.0 * euros as mean, euros from pay", "--decimals"]
         self.check([*sqlite, *query, "mean=2"], "", 1, "--decimals mean: 4800.0 isn't a whole number")
         self.check([*sqlite, *query, "cents=2"], "", 1, "cents: not a column of numbers; those are mean, euros")

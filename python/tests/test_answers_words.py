@@ -43,6 +43,7 @@ class Reading(ToolCase):
         picture = ["tools/answers", "picture"]
         given = ["--answers", "examples/posts.csv.stdout"]
         self.check([*picture, "examples/posts.csv", *given, "--by", "row_id"], "", 1, "can't be drawn with --by")
+        self.check([*picture, "examples/posts.csv", *given, "--height", "400"], "", 1, "--height needs --svg")
         self.check([*picture, "examples/posts.csv", *given, "--from", "2030-01-01"], "", 0, "\nnothing to draw: ")
         self.check([*picture, "examples/posts.csv", *given, "--svg"], "", 0, 'fill="#c00">2024-02-05</text>\n<text ')
         self.check(

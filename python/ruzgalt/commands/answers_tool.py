@@ -108,6 +108,8 @@ def do_sqlite(options: Namespace) -> None:
     databases.refuse_words(options.database, wishes, options.query)
     if not options.query and not (look.is_plain and not options.german):
         raise Misfit("--decimals, --german and --last-day need --query, whose answers they print")
+    if options.german and not options.decimals:
+        raise Misfit("--german needs --decimals")
     found = chosen(read(options), options.pick)
     with databases.opened(options.database) as database:
         for column in databases.make_tables(found, database, wishes):

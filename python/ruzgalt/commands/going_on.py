@@ -7,6 +7,7 @@ from ruzgalt.checking import fitting, raises
 from ruzgalt.commands import streams
 from ruzgalt.commands.given import last, read, warn
 from ruzgalt.commands.words import pair, words_of_where
+from ruzgalt.errors import Misfit
 from ruzgalt.periods.rounding import ROUNDINGS
 from ruzgalt.script import records
 
@@ -34,6 +35,8 @@ def named(word: str) -> Tuple[str, str]:
 
 
 def do_next(options: Namespace) -> None:
+    if options.ids and options.column:
+        raise Misfit("--ids can't be given with --column, which names the columns: give it that of the ids too")
     [answer] = last(read(options), [options.pick] if options.pick else [], 1)
     wish = next_script.Wish(options.table, options.column, options.key, options.ids)
     # All is looked at before anything is printed.

@@ -8,6 +8,7 @@ from typing import Sequence
 from ruzgalt.answers import Answer
 from ruzgalt.answers.amounts import Amounts
 from ruzgalt.commands.words import decimals, words_of_where
+from ruzgalt.errors import Misfit
 from ruzgalt.pictures import figures, svg, terminal
 
 
@@ -38,6 +39,8 @@ def pixels(word: str) -> int:
 
 def drawn(found: Sequence[Answer], answer: Answer, options: Namespace) -> str:
     """The picture of an answer, as SVG or as text."""
+    if options.height and not options.svg:
+        raise Misfit("--height needs --svg: text has as many lines as it takes")
     amounts = Amounts(options.decimals, options.german)
     name = "" if options.script == "-" else Path(options.script).name
     wish = figures.Wish(options.by, options.label, options.where, options.start, options.end, amounts, name)
