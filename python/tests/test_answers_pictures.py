@@ -119,6 +119,11 @@ class Sums(unittest.TestCase):
         self.assertIn("agg,t,sum,cents,by,flat: 2 periods by flat\nA\n100,000 ####", drawn)
         self.assertIn("\nB\n100,000\n 50,000 ....", drawn)
 
+    def test_a_group_s_name_stands_in_one_line(self) -> None:
+        script, answered = rows_of(['2024-01-01,2024-02-01,"A\n9 ####",5'])
+        sums = 'row,"A\n9 ####",2024-01-01,2024-02-01,5\nend,1\n'
+        self.assertIn("by flat\nA9 ####\n4 ####", picture(f"{script}agg,t,sum,cents,by,flat\n", answered + sums))
+
     def test_one_group_is_drawn_where_it_is_given(self) -> None:
         self.assertNotIn("\nB\n", self.sums("--where", "flat=A"))
 

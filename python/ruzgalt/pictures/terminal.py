@@ -109,7 +109,7 @@ def draw_groups(picture: Groups, width: int) -> str:
     margin = margin_for(names, width)
     lines = [begun_at(picture, scale)]
     for name, steps in picture.groups:
-        lines.extend([shortened(name, width, ".."), *lines_of(steps, scale, names, margin, width)])
+        lines.extend([to_width(shortened(name, width, ".."), width), *lines_of(steps, scale, names, margin, width)])
     lines.append(axis(picture.span, margin, width - margin)[1])
     return "\n".join(line.rstrip() for line in lines) + "\n"
 
