@@ -260,6 +260,12 @@ class Databases(ToolCase):
 
 
 class Only(ToolCase):
+    def test_answers_to_another_script_are_noticed(self) -> None:
+        script = Path(TOP, EXAMPLE).read_text().replace("4800", "4810")
+        for words in (["only", "-", "pay", "2"], ["refusals", "-"]):
+            note = "at,pay,2024-08-15: record 1 of the answer is "
+            self.check(["tools/answers", *words, "--answers", EXAMPLE + ".stdout"], script, 1, note)
+
     def test_a_value_of_another_kind_is_refused(self) -> None:
         words = ["tools/answers", "only", EXAMPLE, "pay", "2", "--answers", EXAMPLE + ".stdout", "--set"]
         self.check([*words, "euros=4900"], "", 0, "update,pay,2024-03-01,2025-01-01,set,euros,4900,where,")

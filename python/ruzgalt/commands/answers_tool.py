@@ -10,10 +10,10 @@ from typing import Callable, Dict, NamedTuple, Optional, Sequence
 
 from ruzgalt import answers, which
 from ruzgalt.answers import asking, changes, databases, divided, export, front, history, picks
-from ruzgalt.checking import fitting, marks, overlaps, queries, refusals, single
+from ruzgalt.checking import marks, overlaps, queries, refusals, single
 from ruzgalt.checking.replay import Replay
 from ruzgalt.commands import called, going_on, over_time, picture, printed, streams
-from ruzgalt.commands.given import Found, bytes_of, chosen, last, read, warn
+from ruzgalt.commands.given import Found, bytes_of, chosen, last, read, read_fit, warn
 from ruzgalt.commands.progress import Progress
 from ruzgalt.commands.words import Words, look_of, pair, some_commits, words_of_looks, words_of_where
 from ruzgalt.errors import Misfit
@@ -44,10 +44,7 @@ def show(text: str) -> None:
 
 def do_list(options: Namespace) -> int:
     """Lists all answers, refusals too. The status is 1 where there is one, as that of dipq is."""
-    own = read(options, shows_refusals=True)
-    found = own.answers
-    if not own.is_own:
-        fitting.refuse_unfit(found, found)
+    found = read_fit(options, shows_refusals=True).answers
     show(export.listing(found))
     found_marks, replay = marks.Marks(found), Replay()
     for answer, replay in marks.walk(found):
@@ -156,9 +153,7 @@ def do_gaps(options: Namespace) -> None:
 def do_history(options: Namespace) -> None:
     if options.retroactive and not options.diary:
         raise Misfit("--retroactive needs --diary, which has the days of commits")
-    found = read(options)
-    if not found.is_own:
-        fitting.refuse_unfit(found.answers, found.answers)
+    found = read_fit(options)
     newest = max((answer.commits for answer in found.answers), default=0)
     wanted = commits_of(options, newest)
     days = history.days_in(found.answers, options.diary) if options.diary else None
@@ -216,7 +211,7 @@ def do_page(options: Namespace) -> int:
 
 def do_refusals(options: Namespace) -> int:
     """Explains each refusal, and of one for a key the rows. The status is 1 where there is one."""
-    found = read(options, shows_refusals=True).answers
+    found = read_fit(options, shows_refusals=True).answers
     found_marks, replay = marks.Marks(found), Replay()
     for answer, replay in marks.walk(found):
         found_marks.look(answer, replay)
@@ -230,7 +225,7 @@ def do_refusals(options: Namespace) -> int:
 
 
 def do_only(options: Namespace) -> None:
-    found = read(options).answers
+    found = read_fit(options).answers
     show(records.to_record(single.command_for(found, options.table, options.row_id, options.set)) + "\n")
 
 

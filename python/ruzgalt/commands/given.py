@@ -101,6 +101,14 @@ def names_of(asked: Sequence[Answer], names: Sequence[str], lines: Sequence[int]
     return found
 
 
+def read_fit(options: Namespace, shows_refusals: bool = False) -> Found:
+    """The same where all answers are made something of: refuses those from a file that aren't to this script."""
+    found = read(options, shows_refusals)
+    if not found.is_own:
+        fitting.refuse_unfit(found.answers, found.answers)
+    return found
+
+
 def bytes_of(name: str) -> bytes:
     return streams.given() if name == "-" else Path(name).read_bytes()
 

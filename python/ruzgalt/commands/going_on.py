@@ -3,9 +3,9 @@ from argparse import ArgumentParser, Namespace
 from typing import Tuple
 
 from ruzgalt.answers import export, next_script
-from ruzgalt.checking import fitting, raises
+from ruzgalt.checking import raises
 from ruzgalt.commands import streams
-from ruzgalt.commands.given import last, read, warn
+from ruzgalt.commands.given import last, read, read_fit, warn
 from ruzgalt.commands.words import pair, words_of_where
 from ruzgalt.errors import Misfit
 from ruzgalt.periods.rounding import ROUNDINGS
@@ -58,9 +58,7 @@ def words_of_raise(parser: ArgumentParser) -> None:
 
 
 def do_raise(options: Namespace) -> None:
-    found = read(options)
-    if not found.is_own:
-        fitting.refuse_unfit(found.answers, found.answers)
+    found = read_fit(options)
     wish = raises.Wish(
         options.table, options.column, options.percent, options.start, options.end, options.where, options.rounding,
     )
