@@ -64,8 +64,8 @@ def restored(column: Values, cells: Cells, stand_in: Optional[Cell]) -> Any:
     there = column.restored(cells[~is_missing])
     if not is_missing.any():
         return there
-    if getattr(there.dtype, "kind", "") in "iub" and isinstance(there, np.ndarray):
-        there = pd.array(there)
+    if getattr(there.dtype, "kind", "") in "iub" and isinstance(there, (np.ndarray, pd.arrays.SparseArray)):
+        there = pd.array(np.asarray(there))
     if there.dtype == object:
         found = np.full(len(cells), None, object)
         found[~is_missing] = there

@@ -118,8 +118,13 @@ def is_whole(dtype: Any) -> bool:
 def bounds_of(dtype: Any) -> Tuple[int, int]:
     if is_bool(dtype):
         return 0, 1
-    bounds = np.iinfo(getattr(dtype, "numpy_dtype", dtype))
+    bounds = np.iinfo(numpys(dtype))
     return int(bounds.min), int(bounds.max)
+
+
+def numpys(dtype: Any) -> Any:
+    """Numpy's dtype of the numbers in a column of a dtype of pandas, which may be a sparse one."""
+    return dtype.subtype if isinstance(dtype, pd.SparseDtype) else getattr(dtype, "numpy_dtype", dtype)
 
 
 def categories_of(cells: Cells, dtype: Any) -> Any:
@@ -182,7 +187,7 @@ def of_categories(column: Any) -> Values:
 def ints_of(column: Any) -> Ints:
     missing = column.isna().to_numpy()
     refuse(missing, column, "BadNumber", no_value(column.name))
-    is_signed = getattr(column.dtype, "numpy_dtype", column.dtype).kind != "u"
+    is_signed = numpys(column.dtype).kind != "u"
     numbers: Cells = column.to_numpy(dtype="i8" if is_signed else "u8")
     if not is_signed:
         refuse(numbers > np.uint64(GREATEST), column, "BadNumber", f"greater than {GREATEST}; .astype(str) makes texts")
@@ -240,7 +245,7 @@ def scaled(column: Any, digits: int) -> Ints:
     """Whole numbers of 10^-digits. A float is taken where it is the nearest of its dtype to such a number."""
     if column.dtype == object:
         return scaled_decimals(column, digits)
-    dtype = getattr(column.dtype, "numpy_dtype", column.dtype)
+    dtype = numpys(column.dtype)
     if getattr(dtype, "kind", "") != "f":
         is_category = isinstance(dtype, pd.CategoricalDtype)
         remedy = ".astype('float64') makes floats" if is_category else "leave it out for whole numbers"
@@ -304,7 +309,7 @@ def refuse_unheld(cells: Cells, column: Values, what: str) -> None:
     """Raises Refused (BadNumber) where a column of floats doesn't hold one of these numbers of its smaller units."""
     if column.digits is None or column.dtype == object:
         return
-    own = getattr(column.dtype, "numpy_dtype", column.dtype)
+    own = numpys(column.dtype)
     bits = np.finfo(own).nmant + 1
     is_large = len(cells) and max(abs(int(cells.max())), abs(int(cells.min()))) >= 2**bits
     if is_large or are_shared(cells.astype("f8"), column.digits, own).any():

@@ -118,6 +118,20 @@ class NotCompared(unittest.TestCase):
                 pd.testing.assert_series_equal(left["other"], one["other"].take([0, 1, 1, 3]))
 
 
+class Sparse(unittest.TestCase):
+    def test_they_come_back_as_they_are(self):
+        for cells, dtype, decimals in (
+            ([3, 0, 3, 1], "uint8", {}), ([True, False] * 2, "bool", {}), ([1.5, 0.0, 2.5, 0.0], "float64", {"k": 1}),
+        ):
+            one, made = frame(ROWS, cells, f"Sparse[{dtype}]"), ruzgalt.Store()
+            with self.subTest(dtype):
+                made.table("t", one, decimals=decimals)
+                pd.testing.assert_frame_equal(made.rows("t").drop(columns="row_id"), one)
+                got = ruzgalt.agg(one, "max", "k", decimals=decimals)["max_k"]
+                wanted = ruzgalt.agg(frame(ROWS, cells, dtype), "max", "k", decimals=decimals)["max_k"]
+                pd.testing.assert_series_equal(got, wanted.astype(one["k"].dtype))
+
+
 class Intervals(unittest.TestCase):
     def test_they_are_taken_by_their_sides(self):
         wanted = frame(ROWS, [row[2] for row in ROWS])
