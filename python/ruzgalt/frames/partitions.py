@@ -8,6 +8,7 @@ from __future__ import annotations
 
 import inspect
 from contextlib import contextmanager
+from dataclasses import replace
 from typing import Any, Callable, Iterator, List, Mapping, Sequence
 
 import dask
@@ -15,7 +16,7 @@ import dask.dataframe as dd
 import numpy as np
 import pandas as pd
 
-from ruzgalt.frames import doubts, groups, intervals, values
+from ruzgalt.frames import doubts, groups, intervals, points, values
 from ruzgalt.frames.computed import counted
 from ruzgalt.frames.errors import Refused
 from ruzgalt.frames.measures import Measures
@@ -67,6 +68,7 @@ def paired(asked: Pairs, left: Any, right: Any, on: Names, options: Options) -> 
     frames = [with_labels_flat(frame) for frame in (left, right)]
     metas = [frame._meta if isinstance(frame, dd.DataFrame) else frame.iloc[:0] for frame in frames]
     doubts.of_decimals(options.decimals, *map(with_levels, metas, names))
+    options = with_kind(options, *metas)
     meta = asked(metas[0], metas[1], on, options)
     with keeping_objects(meta, *metas):
         spread = [frame if isinstance(frame, dd.DataFrame) else as_one(frame) for frame in frames]
@@ -74,6 +76,19 @@ def paired(asked: Pairs, left: Any, right: Any, on: Names, options: Options) -> 
         rows = [by_value(frame, own, options.decimals, parts) for frame, own in zip(spread, names)]
         words = {"meta": meta, "align_dataframes": False, "transform_divisions": False}
         return dd.map_partitions(sent(counted(asked, options, parts), on, options), *rows, **words)
+
+
+def with_kind(options: Options, *metas: Any) -> Options:
+    """The options with the answer's kind of points, where those of frames are objects beside others: period[S].
+
+    Which objects there are, a partition without rows doesn't say, and its answer would be of the others' kind.
+    """
+    columns = [one for meta, period in zip(metas, options.periods) for one in intervals.bounds_of(meta, period)]
+    kinds = [points.seconds_of(column)[1] for column in columns]
+    is_one = len({bool(kind.name) for kind in kinds}) == 1
+    if is_one or options.points_as or intervals.are_in(options.periods[0]) or any(kind.zone for kind in kinds):
+        return options
+    return replace(options, points_as="S")
 
 
 def with_labels_flat(frame: Any) -> Any:
@@ -85,6 +100,7 @@ def with_labels_flat(frame: Any) -> Any:
 def agg(frame: Any, measures: Measures, options: Options) -> Any:
     """Of groups: those in a partition are in order, and partitions are in none."""
     doubts.of_decimals(options.decimals, with_levels(frame._meta, options.by or ()))
+    options = with_kind(options, frame._meta)
     meta = groups.agg_part(frame._meta, measures, options)
     with keeping_objects(meta, frame._meta):
         parts = options.parts or frame.npartitions
@@ -104,10 +120,11 @@ def grouped(asked: Callable[..., Any], frame: Any, more: Sequence[Any], options:
     if not options.by:
         raise Refused("BadCommand", "a frame of Dask needs by=: without it, all rows belong together")
     doubts.of_decimals(options.decimals, with_levels(frame._meta, options.by or ()))
+    options = with_kind(options, frame._meta)
     meta = asked(frame._meta, *more, options)
     with keeping_objects(meta, frame._meta):
         parts = options.parts or frame.npartitions
-        rows = by_value(frame, options.by, options.decimals, parts)
+        rows = by_value(frame, options.by or (), options.decimals, parts)
         each = sent(counted(asked, options, parts), *more, options)
         return rows.map_partitions(each, meta=meta, transform_divisions=False)
 

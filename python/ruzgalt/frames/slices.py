@@ -18,7 +18,7 @@ from ruzgalt.frames.computed import counted
 from ruzgalt.frames.kinds import Kind
 from ruzgalt.frames.measures import Ask, Measures, asks_of, columns_of, measured_by
 from ruzgalt.frames.options import Options
-from ruzgalt.frames.partitions import PART, by_part, keeping_objects
+from ruzgalt.frames.partitions import PART, by_part, keeping_objects, with_kind
 from ruzgalt.frames.sides import Side
 from ruzgalt.frames.values import Values
 from ruzgalt.frames.worker import sent
@@ -53,7 +53,7 @@ class Question:
 def agg(frame: Any, measures: Measures, options: Options) -> Any:
     """Partitions in the order of time. The frame is read at once, for the cuts."""
     doubts.of_decimals(options.decimals, frame)
-    asked = Question(measures, options)
+    asked = Question(measures, with_kind(options, frame._meta))
     meta = asked.agg(frame._meta)
     cuts, kind = cuts_of(frame, asked, options.parts or frame.npartitions)
     empty = replace(asked.side_of(frame._meta), kind=kind)

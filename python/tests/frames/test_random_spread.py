@@ -316,6 +316,19 @@ class Spread(unittest.TestCase):
         found = lazy.compute(scheduler="sync")
         self.assertEqual((len(found), set(map(type, found["from"]))), (100, {datetime.date}))
 
+    def test_objects_beside_other_points_come_as_one_kind(self):
+        days = day_of(column(TEXTS[:9], object))
+        dates = days.iloc[:2].assign(**{"from": days["from"].dt.date, "to": days["to"].dt.date})
+        with dask.config.set({"dataframe.convert-string": False}):
+            left, mixed = (dd.from_pandas(one, npartitions=2) for one in (dates, dates.assign(to=days["to"])))
+            asked = [
+                ruzgalt.join(left, days, on="k", how="outer", parts=4), ruzgalt.agg(mixed, "count"),
+                ruzgalt.coalesce(mixed, "k", parts=4), ruzgalt.gaps(mixed, "k", parts=4),
+            ]
+            for lazy in asked:
+                parts = [lazy._meta, *(part.compute(scheduler="sync") for part in lazy.to_delayed())]
+                self.assertEqual({str(part["from"].dtype) for part in parts}, {str(pd.PeriodDtype("S"))})
+
     def test_an_answer_is_a_frame_of_dask_as_others_are(self):
         one = day_of(column(NUMBERS, "int64"))
         spread = dd.from_pandas(one, npartitions=3)
