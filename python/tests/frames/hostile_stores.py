@@ -6,6 +6,7 @@ import pandas as pd
 from hypothesis import strategies as st
 
 import plain_store
+from ruzgalt.frames.kinds import OFFSETS
 
 NAMES = ["row_id", "id", "left_id", "right_id", "part", "count", "cents", "sum_cents", "sys_from", "sys_to", "sys_to_",
          "valid_from", "id_left", "a", "b", "person", "Person", "PERSON", "Löhne €", "", " id", 'a"b', "a\nb", "by",
@@ -45,12 +46,12 @@ def point(kind, day):
         return None if kind == "date" else pd.NaT
     if kind == "ns":
         return pd.Timestamp(moment(day))
-    return moment(day).date() if kind == "date" else pd.Period(moment(day), freq=kind)
+    return moment(day).date() if kind == "date" else pd.Period(moment(day), freq=OFFSETS[kind])
 
 
 def column(kind, days):
     cells = [point(kind, day) for day in days]
-    dtype = {"ns": "datetime64[ns]", "date": object}.get(kind) or f"period[{kind}]"
+    dtype = {"ns": "datetime64[ns]", "date": object}.get(kind) or pd.PeriodDtype(OFFSETS[kind])
     return pd.Series(cells, dtype=dtype)
 
 

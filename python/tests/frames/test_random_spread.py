@@ -327,7 +327,7 @@ class Spread(unittest.TestCase):
             ]
             for lazy in asked:
                 parts = [lazy._meta, *(part.compute(scheduler="sync") for part in lazy.to_delayed())]
-                self.assertEqual({str(part["from"].dtype) for part in parts}, {str(pd.PeriodDtype("S"))})
+                self.assertEqual({part["from"].dtype for part in parts}, {pd.PeriodDtype(pd.offsets.Second())})
 
     def test_an_answer_is_a_frame_of_dask_as_others_are(self):
         one = day_of(column(NUMBERS, "int64"))

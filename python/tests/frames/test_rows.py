@@ -104,7 +104,7 @@ class Points(unittest.TestCase):
 
     def test_points_in_a_zone(self):
         """Clocks go on at 2 o'clock of March 31st 2024, and back at 3 o'clock of October 27th."""
-        hours = pd.date_range("2024-03-30 23:00", periods=3, freq="H", tz="UTC").tz_convert(BERLIN)
+        hours = pd.date_range("2024-03-30 23:00", periods=3, freq=pd.offsets.Hour(), tz="UTC").tz_convert(BERLIN)
         frame = pd.DataFrame({"from": hours, "to": hours + pd.Timedelta(hours=1)})
         asked = lambda *words: ruzgalt.at(frame, *words)  # noqa: E731
         for place, day in enumerate(("2024-03-31", "2024-03-31T01:30:00", "2024-03-31T03:00:00")):

@@ -251,7 +251,8 @@ class LastDays(unittest.TestCase):
 
     def test_amounts_are_spread_by_days_where_one_begins_at_one(self):
         """In São Paulo the fourth day began at one o'clock: of 30 days a row has the first three, another the rest."""
-        points = pd.to_datetime(["2018-11-01", "2018-11-04T01:00", "2018-12-01"]).tz_localize("America/Sao_Paulo")
+        days = pd.DatetimeIndex(["2018-11-01T00:00", "2018-11-04T01:00", "2018-12-01T00:00"])
+        points = days.tz_localize("America/Sao_Paulo")
         rows = pd.DataFrame({"from": points[:2], "to": points[1:], "cents": [30, 60]})
         self.assertEqual(ruzgalt.spread(rows, "cents", exact=True)["cents"].tolist(), [3 + 54])
 
