@@ -102,7 +102,7 @@ def names_of(asked: Sequence[Answer], names: Sequence[str], lines: Sequence[int]
 
 
 def read_fit(options: Namespace, shows_refusals: bool = False) -> Found:
-    """The same where all answers are made something of: refuses those from a file that aren't to this script."""
+    """What `read` gives to who looks at all answers: refuses those from a file that aren't to this script."""
     found = read(options, shows_refusals)
     if not found.is_own:
         fitting.refuse_unfit(found.answers, found.answers)

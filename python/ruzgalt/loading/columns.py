@@ -13,7 +13,7 @@ from ruzgalt.script.forms import TEXT_LIMIT, in_lines, is_integer, is_short
 from ruzgalt.script.records import Printer, visible
 from ruzgalt.script.schemas import Kind
 
-# What stands for an end that isn't known, for a person.
+# How messages name the end that stands for one that isn't known.
 UNKNOWN = f"{NO_END}, which stands for no known end"
 TO_SPACE = str.maketrans(SPACES, " " * len(SPACES))
 
