@@ -9,6 +9,7 @@ from typing import Any, Sequence
 import numpy as np
 import pandas as pd
 
+from ruzgalt.frames import values
 from ruzgalt.frames.arrays import Ints, Marks
 from ruzgalt.frames.errors import Refused, label_at
 from ruzgalt.frames.intervals import BY_SIDES
@@ -53,9 +54,14 @@ def either(one: Any, other: Any, places: Sequence[Ints], is_wide: bool = False) 
 
 def concatenated(parts: Sequence[Any]) -> Any:
     """The cells one after another. True beside numbers stays True, in objects; pandas 1.5 makes 1 of it, and warns."""
-    is_bool = [part.dtype == bool for part in parts]
-    kept = [part.astype(object) for part in parts] if any(is_bool) and not all(is_bool) else parts
+    are_bool = [values.is_bool(part.dtype) for part in parts]
+    kept = parts if all(are_bool) or not any(are_bool) else list(map(as_objects, parts))
     return pd.concat(kept, ignore_index=True)
+
+
+def as_objects(cells: Any) -> Any:
+    """The cells as objects: a sparse column stays sparse by .astype, and pandas warns of that."""
+    return pd.Series(np.asarray(cells, object), dtype=object, name=cells.name)
 
 
 def refuse_rounded(column: Any, rows: Ints, dtype: Any) -> None:

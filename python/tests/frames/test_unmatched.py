@@ -67,11 +67,25 @@ class Unmatched(unittest.TestCase):
                     pd.testing.assert_frame_equal(got.drop(columns=["from", "to"]), wanted)
 
     def test_true_beside_numbers_stays_true(self):
-        bools, numbers = frame({"k": [True, False]}), frame({"k": [1, 2]})
-        for left, right, wanted in ((bools, numbers, [True, False, 2]), (numbers, bools, [1, 2, False])):
-            with self.subTest(wanted):
+        for dtype in ("bool", "Sparse[bool]"):
+            bools = frame({"k": pd.Series([True, False], dtype=dtype)})
+            numbers = frame({"k": [1, 2]})
+            for left, right, wanted in (
+                (bools, numbers, [True, False, 2]), (numbers, bools, [1, 2, False]),
+            ):
+                with self.subTest(wanted, dtype=dtype):
+                    got = ruzgalt.join(left, right, on="k", how="outer")["k"]
+                    said = (got.dtype, list(map(repr, got)))
+                    self.assertEqual(said, (object, list(map(repr, wanted))))
+
+    def test_bools_of_both_dtypes_are_boolean(self):
+        for one, other in (("bool", "boolean"), ("boolean", "bool")):
+            left = frame({"k": pd.Series([True], dtype=one)})
+            right = frame({"k": pd.Series([False], dtype=other)})
+            with self.subTest(dtypes=(one, other)):
                 got = ruzgalt.join(left, right, on="k", how="outer")["k"]
-                self.assertEqual((got.dtype, list(map(repr, got))), (object, list(map(repr, wanted))))
+                wanted = pd.Series([True, False], dtype="boolean", name="k")
+                pd.testing.assert_series_equal(got, wanted)
 
     def test_a_number_that_a_float_does_not_hold_is_refused(self):
         left = frame({"k": [1, 2, 3], "x": [2**53, 2**53 + 1, 2**62]})
