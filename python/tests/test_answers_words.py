@@ -281,6 +281,11 @@ class Only(ToolCase):
 
 
 class Folders(ToolCase):
+    NAMELESS = (
+        "answers: @7=august: nothing is made here that has a name; only what `csv --folder`, "
+        "`sqlite`, `json` and `page` make has one: give @7\n"
+    )
+
     def test_a_file_is_replaced_only_where_that_is_asked(self) -> None:
         words = ["tools/answers", "csv", EXAMPLE, "--answers", EXAMPLE + ".stdout", "@7=august"]
         with tempfile.TemporaryDirectory() as folder:
@@ -293,6 +298,16 @@ class Folders(ToolCase):
             for name in ("a/b", ".a", "a\nb"):
                 self.check([*words[:-1], f"@7={name}", "--folder", folder], "", 1, ": not a file's name")
         self.check([*words, "--replace"], "", 1, "answers: --replace needs --folder, whose files ")
+
+    def test_a_name_is_refused_where_nothing_has_it(self) -> None:
+        for tool in (
+            "csv", "picture", "changed @9", "next --table t", "months --sum euros",
+            "gaps person --of", "coalesce --of", "months @9 --sum euros --less",
+        ):
+            name, *more = tool.split()
+            with self.subTest(tool):
+                given = [*more, "@7=august", "--answers", EXAMPLE + ".stdout"]
+                self.check(["tools/answers", name, EXAMPLE, *given], "", 1, self.NAMELESS)
 
 
 class Spreadsheets(ToolCase):

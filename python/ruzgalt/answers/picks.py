@@ -8,9 +8,11 @@ from ruzgalt.commands import called
 from ruzgalt.errors import Misfit
 from ruzgalt.script.records import short
 
+# What makes something that has a name.
+NAMED_BY = "`csv --folder`, `sqlite`, `json` and `page`"
 HELP = (
     f"an answer: its NUMBER in `{called.ANSWERS} list`, @LINE of its command in the script, `last`, or `last-N` for "
-    "the N-th before that; =NAME after it gives it a name"
+    f"the N-th before that; =NAME after it names what {NAMED_BY} make of it"
 )
 FORM = re.compile(r"(?P<number>\d{1,9})|@(?P<line>\d{1,9})|last(-(?P<back>\d{1,9}))?", re.ASCII)
 
@@ -45,6 +47,15 @@ def picked(answers: Sequence[Answer], word: str, names: Dict[int, str]) -> Pick:
     if mark and not name:
         raise Misfit(f"{word}: no name after the =")
     return Pick(name or names.get(answer.number, name_of(answer)), answer)
+
+
+def refuse_names(words: Sequence[str]) -> None:
+    """Refuses a name where nothing is made that would have it."""
+    for word in words:
+        which, mark, _ = word.partition("=")
+        if mark:
+            only = f"only what {NAMED_BY} make has one: give {which}"
+            raise Misfit(f"{word}: nothing is made here that has a name; {only}")
 
 
 def refuse_twins(picks: Sequence[Pick]) -> None:

@@ -138,6 +138,7 @@ def look_at(found: Found, taken: Sequence[Answer]) -> None:
 
 def last(found: Found, words: Sequence[str], count: int) -> List[Answer]:
     """So many answers: those that were picked or asked, or else the last that are more than an `ok`."""
+    picks.refuse_names(words)
     some = picked(found, words)
     if len(some) < count and not words:
         more = f"{len(some)} of the answers are more than an `ok`, but it takes {count}"

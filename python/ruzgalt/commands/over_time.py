@@ -76,6 +76,7 @@ def summed(options: Namespace) -> Tuple[Answer, Optional[Answer]]:
         return answer, None
     # No pick has a comma, and each question of records does.
     is_question = "," in options.less
+    picks.refuse_names([] if is_question else [options.less])
     options.ask = [*([options.less] if is_question else []), *options.ask]
     found = read(options)
     less = found.asked[0] if is_question else picks.picked(found.answers, options.less, found.names).answer
