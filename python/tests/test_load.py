@@ -331,6 +331,12 @@ class Tables(Case):
         wanted = f"{self.RECORD}\nload,pay\nrow,2024-01-01,2024-03-05,A,1\nend\n"
         self.loaded(wanted, text, "pay", "Start", "End", "--table", self.RECORD, "--print-table")
 
+    def test_the_record_is_not_printed_before_changes(self) -> None:
+        words = [*WORDS, "--table", self.RECORD, "--print-table"]
+        for more in (["--update", "Name"], ["--delete"]):
+            why = f"--print-table can't be given with {more[0]}: a table that is only made there"
+            self.refused(why, rows("A,1,2024-01-01,2024-03-05"), *words, *more)
+
     def test_a_record_that_the_store_refuses_is_refused(self) -> None:
         wide = ",".join(f"c{number},text" for number in range(17))
         for columns in (

@@ -84,7 +84,10 @@ def words_of_table(parser: ArgumentParser) -> None:
         help="the table's record, such as table,pay,person,text, or a script that has it: what doesn't fit it is "
         "refused, and its columns are the COLUMNs if none is given",
     )
-    parser.add_argument("--print-table", action="store_true", help="prints that record before the load")
+    parser.add_argument(
+        "--print-table", action="store_true",
+        help="prints that record before the load; updates and deletes are of a table that is there",
+    )
     parser.add_argument(
         "--update", action="append", default=[], metavar="COLUMN",
         help="prints updates of the rows with this column's value, in place of a load: FROM and TO are the portion, "
@@ -148,6 +151,10 @@ def refuse_words(options: Namespace) -> None:
         raise Misfit("--unit needs --decimals: values of other columns are taken as they are")
     if options.print_table and not options.record:
         raise Misfit("--print-table needs --table")
+    if options.print_table and (options.update or options.delete):
+        word = "update" if options.update else "delete"
+        reason = "a table that is only made there has no rows to change"
+        raise Misfit(f"--print-table can't be given with --{word}: {reason}")
 
 
 def given(options: Namespace) -> bytes:
