@@ -123,6 +123,15 @@ class AsOf(unittest.TestCase):
         empty = PAY + DIARY.partition("load")[0]
         self.is_refused("asof 2024-07-01: diary has no day of a commit", *question, script=empty)
 
+    def test_a_diary_is_looked_at_without_a_day_too(self) -> None:
+        none, other = "notes: no such table; the tables are pay, diary", f"pay: {NO_DIARY}"
+        for tool, more in [*TOOLS.items(), ("page", "--ask a=rows,pay")]:
+            twice = ["--ask", "rows,pay"] if tool == "changed" else []
+            for name, why in (("notes", none), ("pay", other)):
+                with self.subTest(tool, name=name):
+                    ran = asked(f"{tool} {more}", *twice, "--ask", "a=rows,pay", "--diary", name)
+                    self.assertEqual(ran, (1, "", f"answers: {why}\n"))
+
     def test_what_has_no_diary_is_refused(self) -> None:
         day = ["--ask", "rows,pay,asof,2024-07-01"]
         begun = "rows,pay,asof,2024-07-01: asof takes"

@@ -84,9 +84,20 @@ def days_of(schema: Schema, rows: Iterable[Sequence[str]]) -> Days:
 
     Its rows are given by start, end and values. One with 0 is of no commit's day.
     """
-    if not schema.columns or schema.columns[0].kind is not Kind.INT:
-        raise Misfit(f"{schema.name}: a diary's first column must be an int, the newest commit from a row's start on")
+    refuse_no_commits(schema)
     return sorted((start, int(newest)) for start, _, newest, *_ in rows if int(newest))
+
+
+def refuse_no_diary(found: Sequence[Answer], name: str) -> None:
+    """Refuses a table that isn't there at the script's end, or can't name commits."""
+    refuse_missing(found, name)
+    refuse_no_commits(found[-1].tables[name])
+
+
+def refuse_no_commits(schema: Schema) -> None:
+    if not schema.columns or schema.columns[0].kind is not Kind.INT:
+        must = "a diary's first column must be an int, the newest commit from a row's start on"
+        raise Misfit(f"{schema.name}: {must}")
 
 
 def doubts_of(table: Table, days: Optional[Days], newest: int) -> Iterator[str]:

@@ -5,7 +5,7 @@ from pathlib import Path
 from typing import Dict, List, NamedTuple, Optional, Sequence
 
 from ruzgalt import answers
-from ruzgalt.answers import Answer, asking, diary, picks
+from ruzgalt.answers import Answer, asking, diary, history, picks
 from ruzgalt.checking import fitting, refusals, replay
 from ruzgalt.commands import called, streams
 from ruzgalt.commands.progress import Progress
@@ -52,16 +52,25 @@ def read(options: Namespace, shows_refusals: bool = False, script: Optional[byte
     output = running.output() if running else bytes_of(options.answers)
     with Progress(called.ANSWERS_SAY) as advance:
         found = answers.of_commands(begun, output, running is not None, advance)
-    refused = [answer for answer in found if answer.refusal and not shows_refusals]
-    if refused and not options.go_on:
+    if not shows_refusals:
+        end_where_refused(found, options.go_on)
+    if options.diary is not None:
+        # Questions as of days, which alone look it up, may come another time.
+        history.refuse_no_diary(found, options.diary)
+    asked = [answer for answer in found if answer.command.record.is_asked]
+    names = names_of(asked, [name for name, _ in named], questions.lines_of(options.ask, own_lines or 0))
+    return Found(found, asked, options.answers is None, names, output)
+
+
+def end_where_refused(found: Sequence[Answer], goes_on: bool) -> None:
+    """Raises Misfit for a refused command; where they are passed over, for a question of --ask."""
+    refused = [answer for answer in found if answer.refusal]
+    if refused and not goes_on:
         more = f"{len(refused)} refused; `{called.ANSWERS} refusals` explains, --go-on goes on"
         raise Misfit(f"{refusals.described(refused[0])} ({more})")
     for answer in refused:
         if answer.command.record.is_asked:
             raise Misfit(f"{refusals.described(answer)} (--go-on doesn't pass over a question of --ask)")
-    asked = [answer for answer in found if answer.command.record.is_asked]
-    names = names_of(asked, [name for name, _ in named], questions.lines_of(options.ask, own_lines or 0))
-    return Found(found, asked, options.answers is None, names, output)
 
 
 def by_commits(options: Namespace, asked: Sequence[str], shows_refusals: bool, script: bytes) -> List[str]:
