@@ -122,7 +122,17 @@ class Sums(unittest.TestCase):
     def test_a_group_s_name_stands_in_one_line(self) -> None:
         script, answered = rows_of(['2024-01-01,2024-02-01,"A\n9 ####",5'])
         sums = 'row,"A\n9 ####",2024-01-01,2024-02-01,5\nend,1\n'
-        self.assertIn("by flat\nA9 ####\n4 ####", picture(f"{script}agg,t,sum,cents,by,flat\n", answered + sums))
+        drawn = picture(f"{script}agg,t,sum,cents,by,flat\n", answered + sums)
+        self.assertIn("by flat\nA\\n9 ####\n4 ####", drawn)
+
+    def test_values_that_differ_do_not_look_alike(self) -> None:
+        flats = ["A9", '"A\n9"', "A\u00a09", "A\u200b9"]
+        made = rows_of([f"2024-01-01,2024-06-01,{flat},5" for flat in flats])
+        drawn = picture(*made)
+        for name in ("A9", "A\\n9", "A\\xa09", "A\\u200b9"):
+            self.assertIn(f"\n{name.ljust(8)} [5==", drawn)
+            self.assertIn(f">{name}</text>", picture(*made, "--svg"))
+            self.assertIn(f"[{name}==", picture(*made, "--by", "cents", "--label", "flat"))
 
     def test_one_group_is_drawn_where_it_is_given(self) -> None:
         self.assertNotIn("\nB\n", self.sums("--where", "flat=A"))

@@ -3,6 +3,8 @@ import re
 import unicodedata
 from typing import List
 
+from ruzgalt.script.records import code_of
+
 NUMBER = re.compile(r"-?\d[\d.,]*", re.ASCII)
 
 
@@ -11,6 +13,11 @@ def cell_width(character: str) -> int:
     if unicodedata.combining(character) or not character.isprintable():
         return 0
     return 2 if unicodedata.east_asian_width(character) in "WF" else 1
+
+
+def in_line(text: str) -> str:
+    """The text with codes of what has no ink in a line, as a line end: no two look alike."""
+    return "".join(one if one.isprintable() else code_of(one) for one in text)
 
 
 def width_of(text: str) -> int:

@@ -6,6 +6,7 @@ from typing import Dict, Iterable, List, Optional, Sequence, Tuple
 from ruzgalt.answers import Answer, conditions
 from ruzgalt.checking import replay
 from ruzgalt.errors import Misfit
+from ruzgalt.pictures.cells import in_line
 from ruzgalt.pictures.shapes import NOTHING, Bar, Bars, Groups, Picture, Step, Steps, counted
 from ruzgalt.pictures.squares import shaded, square
 from ruzgalt.pictures.timeline import Span
@@ -102,7 +103,7 @@ def by_value(answer: Answer, wish: Wish) -> Bars:
     for value, records in lanes_of(table, by, wish):
         below = stacked(bar_of(record, 0, label_of(answer, record, labels, wish)) for record in records)
         bars.extend(replace(bar, lane=len(lanes) + bar.lane) for bar in below)
-        lanes.extend([value or "-", *[""] * max(bar.lane for bar in below)])
+        lanes.extend([in_line(value) or "-", *[""] * max(bar.lane for bar in below)])
     title = wish.title(answer, counted(len(bars), "record") + (f" by {by}" if by else ""))
     return Bars(title, span_for(bars, wish), lanes, shaded(bars))
 
@@ -157,7 +158,7 @@ def groups(answer: Answer, wish: Wish) -> Groups:
     title = wish.title(answer, f"{counted(count, 'period')} by {column.name}")
     names = [wish.amounts.printed(column.name, value) if column.kind is Kind.INT else value for value in values]
     return Groups(title, [
-        (name or "-", Steps(title, span, by_value[value], table.names[-1], wish.amounts))
+        (in_line(name) or "-", Steps(title, span, by_value[value], table.names[-1], wish.amounts))
         for name, value in zip(names, values)
     ])
 

@@ -5,6 +5,7 @@ from typing import Dict, Iterable, List, Optional, Sequence, Tuple
 from ruzgalt.answers import Answer, conditions
 from ruzgalt.answers.amounts import Amounts
 from ruzgalt.errors import Misfit
+from ruzgalt.pictures.cells import in_line
 from ruzgalt.pictures.shapes import Bar
 from ruzgalt.pictures.timeline import Span, span_of
 from ruzgalt.script.forms import POINTS, printed, read_point, seconds
@@ -64,7 +65,7 @@ class Wish:
             raise Misfit(f"there is no column {missing[0]}; {listed(list(record))}")
         numbers = [column.name for column in table.columns if column.kind is Kind.INT]
         texts = (self.amounts.printed(name, record[name]) if name in numbers else record[name] for name in names)
-        return " ".join(" ".join(text.split()) for text in texts)
+        return " ".join(map(in_line, texts))
 
 
 def bar_of(record: Record, lane: int, label: str) -> Bar:
@@ -73,4 +74,4 @@ def bar_of(record: Record, lane: int, label: str) -> Bar:
 
 def fields_of(record: Record) -> str:
     """The record as the answer has it."""
-    return ", ".join(f"{name}: {' '.join(value.split())}" for name, value in record.items() if value)
+    return ", ".join(f"{name}: {in_line(value)}" for name, value in record.items() if value)
