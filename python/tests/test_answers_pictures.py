@@ -92,6 +92,17 @@ class Labels(unittest.TestCase):
         output = "ok,1\nok,2\nrow,1,2024-01-01,2025-01-01,A,5\nend,1\nversion,1,2024-01-01,2025-01-01,2,-,A,5\nend,1\n"
         self.assertIn("\ncommit 2 [A 5==", picture(f"{script}between,t,2,2\n", output))
 
+    def test_past_the_newest_commit_versions_are_those_that_it_shows(self) -> None:
+        script, answered = rows_of(["2024-01-01,2025-01-01,A,5"])
+        output = f"{answered}version,1,2024-01-01,2025-01-01,2,-,A,5\nend,1\n"
+        for command, lane in (
+            ("between,t,3,3", "past commit 2"), ("between,t,7,900", "past commit 2"),
+            ("fromto,t,3,900", "past commit 2"), ("between,t,2,9", "commit 2"),
+        ):
+            with self.subTest(command):
+                drawn = picture(f"{script}{command}\n", output)
+                self.assertIn(f"1 version, time across and commits down\n{lane} [A 5==", drawn)
+
     def test_a_day_has_its_label_beside_it(self) -> None:
         rows = ["2024-01-01,2024-01-02,A,5", "2024-12-31,2025-01-01,A,6", "2024-01-01,2025-01-01,B,7"]
         drawn = picture(*rows_of(rows), "--svg")

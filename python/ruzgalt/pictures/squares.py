@@ -13,7 +13,9 @@ def square(answer: Answer, wish: Wish) -> Bars:
     """A version stands where it holds, from the commit that made it to the one that closed it."""
     word, _, low, high = answer.command.front
     records = wish.wanted(answer.table)
-    first, last = max(int(low), 1), min(int(high) - (word == "fromto"), answer.commits)
+    # Past the newest commit what that one shows counts as shown.
+    first = max(int(low), 1)
+    last = max(min(int(high) - (word == "fromto"), answer.commits), first)
     events = {int(record[name]) for record in records for name in ("sys_from", "sys_to") if record[name]}
     commits = sorted({first, *(commit for commit in events if first < commit <= last)})
     labels = labels_of(answer, records, wish)
@@ -25,6 +27,8 @@ def square(answer: Answer, wish: Wish) -> Bars:
             bars.append(replace(bar_of(record, shown[0], label), lanes=len(shown)))
     refuse_overlaps(answer, bars)
     lanes = [commit_lane(commit, after) for commit, after in zip(commits, [*commits[1:], last + 1])]
+    if first > answer.commits:
+        lanes = [f"past commit {answer.commits}"]
     title = wish.title(answer, f"{counted(len(bars), 'version')}, time across and commits down")
     return Bars(title, wish.span((bar.start, bar.end) for bar in bars), lanes, shaded(bars))
 
