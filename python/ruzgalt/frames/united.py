@@ -11,12 +11,13 @@ from typing import TYPE_CHECKING, Any, Mapping, Optional, Tuple, Union
 import numpy as np
 import pandas as pd
 
-from ruzgalt.frames import groups, instants, measures, pairs, sides, split
+from ruzgalt.frames import groups, instants, measures, pairs, split
 from ruzgalt.frames.answer import Columns
 from ruzgalt.frames.arrays import Ints
 from ruzgalt.frames.ask import Found
 from ruzgalt.frames.checks import are_spread
 from ruzgalt.frames.errors import Refused
+from ruzgalt.frames.kinds import Kind
 from ruzgalt.frames.named import with_levels
 from ruzgalt.frames.options import (
     NO_DECIMALS, PERIOD, SUFFIXES, WORKERS, Names, Options, PairOfSuffixes, PeriodNames, options_of,
@@ -172,16 +173,15 @@ def gaps(frame: Frame, by: Names = None, *, within: Any = None, period: PeriodNa
     )
     if are_spread(frame=frame):
         from ruzgalt.frames import partitions
-        return partitions.grouped(gaps_part, frame, (span_of(frame._meta, options),), options)
+        return partitions.grouped(gaps_part, frame, (), options)
     with OfCall(options.call, options.progress):
-        return gaps_of(frame, span_of(frame, options), options)
+        return gaps_of(frame, options)
 
 
-def span_of(frame: Any, options: Options) -> Optional[Span]:
-    """The seconds of the time that is looked at, in a frame of such points. Raises Refused."""
+def span_of(kind: Kind, options: Options) -> Optional[Span]:
+    """The seconds of the time that is looked at, beside points of the kind. Raises Refused."""
     if options.within is None:
         return None
-    kind = sides.side_of(frame.iloc[:0], [], options.period, options.form, {}).kind
     if kind.is_long and options.points_as is None:
         reason = f"within=: period[{kind.name}] may lack such points"
         raise Refused("WrongKind", f"{reason}; points_as='D' gives days", options.period[0])
@@ -189,17 +189,19 @@ def span_of(frame: Any, options: Options) -> Optional[Span]:
     return instants.span(start, end, options.form, kind.zone)
 
 
-def gaps_of(frame: Any, span: Optional[Span], options: Options) -> Any:
+def gaps_of(frame: Any, options: Options) -> Any:
     frame = with_levels(frame, options.by or ())
     side = groups.side_of(frame, [], options)
+    span = span_of(side.kind, options)
     groups.warn(frame, side, options)
     return gaps_in(frame, side, span, options)
 
 
-def gaps_part(frame: Any, span: Optional[Span], options: Options) -> Any:
+def gaps_part(frame: Any, options: Options) -> Any:
     """Of a partition, in which nothing is looked at that may not be meant."""
     frame = with_levels(frame, options.by or ())
-    return gaps_in(frame, groups.side_of(frame, [], options), span, options)
+    side = groups.side_of(frame, [], options)
+    return gaps_in(frame, side, span_of(side.kind, options), options)
 
 
 def gaps_in(frame: Any, side: Side, span: Optional[Span], options: Options) -> Any:

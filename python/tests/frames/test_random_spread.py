@@ -319,9 +319,13 @@ class Spread(unittest.TestCase):
     def test_objects_beside_other_points_come_as_one_kind(self):
         days = day_of(column(TEXTS[:9], object))
         dates = days.iloc[:2].assign(**{"from": days["from"].dt.date, "to": days["to"].dt.date})
+        months = dates.assign(**{"from": dates["from"].astype("datetime64[ns]").dt.to_period("M")})
         with dask.config.set({"dataframe.convert-string": False}):
             left, mixed = (dd.from_pandas(one, npartitions=2) for one in (dates, dates.assign(to=days["to"])))
+            months = dd.from_pandas(months, npartitions=2)
+            within = ("2020-01-01", "2030-01-01T08:00:00")
             asked = [
+                ruzgalt.gaps(months, "k", within=within, parts=4),
                 ruzgalt.join(left, days, on="k", how="outer", parts=4), ruzgalt.agg(mixed, "count"),
                 ruzgalt.coalesce(mixed, "k", parts=4), ruzgalt.gaps(mixed, "k", parts=4),
             ]

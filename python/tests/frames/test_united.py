@@ -36,6 +36,16 @@ class United(unittest.TestCase):
         got = ruzgalt.gaps(rows, points_as="D", **within)
         self.assertEqual(got.astype(str).values.tolist(), [["2024-03-05", "2024-03-07"]])
 
+    def test_months_beside_dates_are_points_that_lack_none(self):
+        months = pd.PeriodIndex(["2024-01"], freq="M")
+        rows = pd.DataFrame({"from": months, "to": [datetime.date(2024, 3, 1)]})
+        got = ruzgalt.gaps(rows, within=("2023-12-15", "2024-03-02T06:00:00"))
+        seconds = pd.PeriodDtype(pd.offsets.Second())
+        self.assertEqual(got.dtypes.tolist(), [seconds, seconds])
+        wanted = [["2023-12-15 00:00:00", "2024-01-01 00:00:00"]]
+        wanted.append(["2024-03-01 00:00:00", "2024-03-02 06:00:00"])
+        self.assertEqual(got.astype(str).values.tolist(), wanted)
+
     def test_a_time_that_is_looked_at_has_no_end(self):
         rows = frame(("2024-01-01", "2024-02-01"), ("2024-03-01", None))
         words = {"open_end": True, "within": ("2023-01-01", None)}
