@@ -5,7 +5,7 @@ so no value of theirs passes through a text.
 """
 from __future__ import annotations
 
-from dataclasses import dataclass
+from dataclasses import dataclass, replace
 from typing import Any, List, Sequence, Tuple
 
 import numpy as np
@@ -35,7 +35,7 @@ def join(left: Any, right: Any, on: Names, options: Options) -> Any:
 def join_part(left: Any, right: Any, on: Names, options: Options) -> Any:
     """Of a partition, in which nothing is looked at that may not be meant."""
     frames = with_keys(left, right, on, options)
-    return joined(frames, sides_of(frames, on, options), on, options, is_part=True)
+    return joined(frames, sides_of(frames, on, options, is_part=True), on, options, is_part=True)
 
 
 def with_keys(left: Any, right: Any, on: Names, options: Options) -> List[Any]:
@@ -142,7 +142,8 @@ def anti(left: Any, right: Any, on: Names, options: Options) -> Any:
 
 def anti_part(left: Any, right: Any, on: Names, options: Options) -> Any:
     """Of a partition, as join_part."""
-    return left_over(left, sides_of(keyed((left, right), on, options), on, options), options)
+    both = sides_of(keyed((left, right), on, options), on, options, is_part=True)
+    return left_over(left, both, options)
 
 
 def left_over(left: Any, both: Sequence[Side], options: Options) -> Any:
@@ -198,17 +199,35 @@ class Taken:
         return missing.rows_at(with_labels_twice(columns), self.rows, self.is_wide)
 
 
-def sides_of(frames: Sequence[Any], on: Names, options: Options) -> List[Side]:
-    """The rows of both frames, with their compared columns. Raises Refused."""
+def sides_of(
+    frames: Sequence[Any], on: Names, options: Options, is_part: bool = False,
+) -> List[Side]:
+    """The rows of both frames, with their compared columns. Raises Refused.
+
+    is_part: of partitions, of which one may have no row where others have texts.
+    """
     names = compared(on, options)
     for pair in zip(*([column_of(frame, name) for name in own] for frame, own in zip(frames, names))):
         refuse_float_beside_int(*pair)
     each = zip(frames, names, options.periods, options.forms)
     both = [sides.side_of(frame, own, period, form, options.decimals) for frame, own, period, form in each]
+    if not is_part:
+        both = [like(one, other) for one, other in (both, both[::-1])]
     for one, other in zip(both[0].columns, both[1].columns):
         refuse_two_kinds(one, other)
     refuse_two_zones(both[0].kind, both[1].kind, options.periods[1][0])
     return both
+
+
+def like(side: Side, other: Side) -> Side:
+    """The side; without rows its columns of objects, which say no kind, are of the other's."""
+    if len(side):
+        return side
+    columns = [
+        replace(own, kind=its.kind, digits=its.digits) if own.dtype == object else own
+        for own, its in zip(side.columns, other.columns)
+    ]
+    return replace(side, columns=columns)
 
 
 def refuse_float_beside_int(one: Any, other: Any) -> None:

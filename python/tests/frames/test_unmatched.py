@@ -87,6 +87,24 @@ class Unmatched(unittest.TestCase):
                 wanted = pd.Series([True, False], dtype="boolean", name="k")
                 pd.testing.assert_series_equal(got, wanted)
 
+    def test_objects_without_rows_meet_nothing_of_any_kind(self):
+        """They are what pandas.DataFrame(columns=..) has."""
+        none = pd.DataFrame(columns=["from", "to", "k"])
+        for cells in ([1, 2], ["a", "b"], pd.Series([True, False], dtype="boolean")):
+            rows = frame({"k": cells})
+            rows = rows[["from", "to", "k"]]
+            with self.subTest(dtype=rows["k"].dtype):
+                counts = [len(ruzgalt.join(rows, none, on="k", how=how)) for how in HOWS]
+                self.assertEqual(counts, [0, 2, 0, 2])
+                for how in ("right", "outer"):
+                    got = ruzgalt.join(none, rows, on="k", how=how)
+                    pd.testing.assert_frame_equal(got, rows)
+                pd.testing.assert_frame_equal(ruzgalt.anti(rows, none, on="k"), rows)
+                self.assertEqual(len(ruzgalt.anti(none, rows, on="k")), 0)
+        known = none.astype({"k": "string"})
+        with self.assertRaises(ruzgalt.Refused):
+            ruzgalt.join(frame({"k": [1]}), known, on="k")
+
     def test_a_number_that_a_float_does_not_hold_is_refused(self):
         left = frame({"k": [1, 2, 3], "x": [2**53, 2**53 + 1, 2**62]})
         for how, keys, wanted in (("left", [2, 9], [2**53, 2**53 + 1, 2**62]), ("right", [2], [2**53 + 1])):
