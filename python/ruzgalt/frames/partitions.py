@@ -8,7 +8,8 @@ from __future__ import annotations
 
 import inspect
 from contextlib import contextmanager
-from dataclasses import replace
+from dataclasses import dataclass, replace
+from itertools import chain
 from typing import Any, Callable, Iterator, List, Mapping, Sequence
 
 import dask
@@ -16,7 +17,7 @@ import dask.dataframe as dd
 import numpy as np
 import pandas as pd
 
-from ruzgalt.frames import doubts, groups, intervals, points, values
+from ruzgalt.frames import doubts, groups, intervals, kinds, points, values
 from ruzgalt.frames.computed import counted
 from ruzgalt.frames.errors import Refused
 from ruzgalt.frames.measures import Measures
@@ -74,8 +75,7 @@ def paired(asked: Pairs, left: Any, right: Any, on: Names, options: Options) -> 
         spread = [frame if isinstance(frame, dd.DataFrame) else as_one(frame) for frame in frames]
         parts = options.parts or max(frame.npartitions for frame in spread)
         rows = [by_value(frame, own, options.decimals, parts) for frame, own in zip(spread, names)]
-        words = {"meta": meta, "align_dataframes": False, "transform_divisions": False}
-        return dd.map_partitions(sent(counted(asked, options, parts), on, options), *rows, **words)
+        return mapped(Asked(asked, (on,), options, meta), rows, spread)
 
 
 def with_kind(options: Options, *metas: Any) -> Options:
@@ -84,9 +84,9 @@ def with_kind(options: Options, *metas: Any) -> Options:
     Which objects there are, a partition without rows doesn't say, and its answer would be of the others' kind.
     """
     columns = [one for meta, period in zip(metas, options.periods) for one in intervals.bounds_of(meta, period)]
-    kinds = [points.seconds_of(column)[1] for column in columns]
-    is_one = len({bool(kind.name) for kind in kinds}) == 1
-    if is_one or options.points_as or intervals.are_in(options.periods[0]) or any(kind.zone for kind in kinds):
+    found = [points.seconds_of(column)[1] for column in columns]
+    is_one = len({bool(kind.name) for kind in found}) == 1
+    if is_one or options.points_as or intervals.are_in(options.periods[0]) or any(kind.zone for kind in found):
         return options
     return replace(options, points_as="S")
 
@@ -103,10 +103,8 @@ def agg(frame: Any, measures: Measures, options: Options) -> Any:
     options = with_kind(options, frame._meta)
     meta = groups.agg_part(frame._meta, measures, options)
     with keeping_objects(meta, frame._meta):
-        parts = options.parts or frame.npartitions
-        rows = by_value(frame, options.by or (), options.decimals, parts)
-        asked = sent(counted(groups.agg_part, options, parts), measures, options)
-        return rows.map_partitions(asked, meta=meta, transform_divisions=False)
+        rows = by_value(frame, options.by or (), options.decimals, parts_of(frame, options))
+        return mapped(Asked(groups.agg_part, (measures,), options, meta), [rows], [frame])
 
 
 def parted(frame: Any, asked: Callable[..., Any], *given: Any) -> Any:
@@ -123,10 +121,86 @@ def grouped(asked: Callable[..., Any], frame: Any, more: Sequence[Any], options:
     options = with_kind(options, frame._meta)
     meta = asked(frame._meta, *more, options)
     with keeping_objects(meta, frame._meta):
-        parts = options.parts or frame.npartitions
-        rows = by_value(frame, options.by or (), options.decimals, parts)
-        each = sent(counted(asked, options, parts), *more, options)
-        return rows.map_partitions(each, meta=meta, transform_divisions=False)
+        rows = by_value(frame, options.by or (), options.decimals, parts_of(frame, options))
+        return mapped(Asked(asked, more, options, meta), [rows], [frame])
+
+
+def parts_of(frame: Any, options: Options) -> int:
+    """How many partitions the answer has."""
+    return options.parts or int(frame.npartitions)
+
+
+@dataclass(frozen=True)
+class Asked:
+    """What each partition is asked, what is given beside its rows, and an empty answer."""
+
+    function: Callable[..., Any]
+    given: Sequence[Any]
+    options: Options
+    meta: Any
+
+
+def mapped(asked: Asked, rows: Sequence[Any], frames: Sequence[Any]) -> Any:
+    """The answer of each partition of the rows, which were sent there from the frames."""
+    function, parts = asked.function, rows[0].npartitions
+    known = kinds_of(frames, asked.options)
+    if known:
+        function = Known(function, len(rows))
+    each = sent(counted(function, asked.options, parts), *asked.given, asked.options)
+    words = {"meta": asked.meta, "align_dataframes": False, "transform_divisions": False}
+    return dd.map_partitions(each, *rows, *known, **words)
+
+
+def kinds_of(frames: Sequence[Any], options: Options) -> List[Any]:
+    """A frame of Dask with the kind of all points of these frames, where these are objects.
+
+    A partition without a datetime, where others have some, would answer dates.
+    """
+    metas = zip(frames, options.periods)
+    columns = [one for frame, period in metas for one in intervals.bounds_of(frame._meta, period)]
+    if options.points_as or any(points.seconds_of(column)[1].name for column in columns):
+        return []
+    looks = [
+        dask.delayed(sent(kinds_in, period))(part)
+        for frame, period in zip(frames, options.periods)
+        for part in frame.to_delayed(optimize_graph=False)
+    ]
+    joint = dask.delayed(sent(joint_in))(looks)
+    made = dd.from_delayed([joint], meta=in_cell(kinds.Kind()).iloc[:0], verify_meta=False)
+    # Older versions of Dask give a frame as it is made to the first partition alone.
+    return [made.partitions[0]]
+
+
+def kinds_in(frame: Any, period: Sequence[Any]) -> List[kinds.Kind]:
+    """The kinds of points in a partition."""
+    return [points.seconds_of(one, is_open=True)[1] for one in intervals.bounds_of(frame, period)]
+
+
+def joint_in(found: Sequence[Sequence[kinds.Kind]]) -> Any:
+    return in_cell(kinds.joint_kind(*chain.from_iterable(found)))
+
+
+def in_cell(kind: kinds.Kind) -> Any:
+    """A kind by its place among the names of all, since Dask may make other texts of a text."""
+    names = [*kinds.NAMES, ""]
+    return pd.DataFrame({"kind": np.array([names.index(kind.name)], np.int64)})
+
+
+@dataclass(frozen=True)
+class Known:
+    """A function of so many partitions that is given, after them, the kind in which points come."""
+
+    function: Callable[..., Any]
+    count: int
+
+    @property
+    def __name__(self) -> str:
+        return self.function.__name__
+
+    def __call__(self, *given: Any) -> Any:
+        rows, (kind, *others, options) = given[:self.count], given[self.count:]
+        name = [*kinds.NAMES, None][int(kind["kind"].iloc[0])]
+        return self.function(*rows, *others, replace(options, points_as=name))
 
 
 def by_value(frame: Any, names: Sequence[Any], decimals: Mapping[Any, int], parts: int) -> Any:

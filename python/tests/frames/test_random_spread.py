@@ -189,6 +189,10 @@ def day_of(cells):
     return pd.DataFrame({"from": days[0], "to": days[1], "k": cells})
 
 
+def objects_of(column, made):
+    return pd.Series(list(map(made, column)), dtype=object)
+
+
 class Spread(unittest.TestCase):
     def test_equal_values_of_other_dtypes_land_together(self):
         for what, one, other in ALIKE:
@@ -332,6 +336,33 @@ class Spread(unittest.TestCase):
             for lazy in asked:
                 parts = [lazy._meta, *(part.compute(scheduler="sync") for part in lazy.to_delayed())]
                 self.assertEqual({part["from"].dtype for part in parts}, {pd.PeriodDtype(pd.offsets.Second())})
+
+    def test_dates_beside_datetimes_come_as_datetimes_in_each_partition(self):
+        """Also where a partition has rows of dates alone."""
+        days = day_of(column(TEXTS[:9], object))
+        dates, times = (
+            days.assign(**{name: objects_of(days[name], made) for name in ("from", "to")})
+            for made in (pd.Timestamp.date, pd.Timestamp.to_pydatetime)
+        )
+        ends = dates.assign(to=column([None] * 8 + [times["to"][8]], object))
+        with dask.config.set({"dataframe.convert-string": False}):
+            left, right, endless = (
+                dd.from_pandas(one, npartitions=3) for one in (dates, times.iloc[:2], ends)
+            )
+            asked = [
+                *(ruzgalt.join(left, right, on="k", how=how, parts=4) for how in ("left", "outer")),
+                ruzgalt.join(right, left, on="k", how="right", parts=4),
+                ruzgalt.anti(left, right, on="k", parts=4),
+                ruzgalt.agg(endless, "count", by="k", open_end=True, parts=4),
+                ruzgalt.agg(endless, "count", open_end=True),
+                ruzgalt.coalesce(endless, "k", open_end=True, parts=4),
+            ]
+            for place, lazy in enumerate(asked):
+                with self.subTest(place):
+                    found = lazy.compute(scheduler="sync")["from"]
+                    self.assertEqual(set(map(type, found)), {datetime.datetime})
+            same = ruzgalt.join(left, left, on="k", how="left", parts=4).compute(scheduler="sync")
+            self.assertEqual(set(map(type, same["from"])), {datetime.date})
 
     def test_an_answer_is_a_frame_of_dask_as_others_are(self):
         one = day_of(column(NUMBERS, "int64"))
