@@ -63,6 +63,8 @@ class Reading(ToolCase):
         second = f'+,{time},"Byron, Ada",5000\n-,{time},"Byron, Ada",5400\n'
         self.check([*changed, "4", "5"], "", 0, "change,valid_from,valid_to,person,euros\n" + second)
         self.check([*changed, "4", "7"], "", 1, "answers: line 10: log: ")
+        twice = "answers: line 7: at,pay,2024-08-15: picked twice\n"
+        self.check([*changed, "4", "@7"], "", 1, twice)
         texts, row = "table,u,n,text\nload,u\nrow,2024-01-01,2024-02-01,x\nend\n", "row,1,2024-01-01,2024-02-01"
         with kept(f"ok,1\nok,2\nok,3\nok,4\n{row},5\nend,1\n{row},x\nend,1\n") as answers:
             script = f"{texts.replace('text', 'int').replace('u', 't').replace('x', '5')}{texts}rows,t\nrows,u\n"

@@ -1,7 +1,7 @@
 """Chooses answers by their number, by their line, or from the last one back, and gives them names."""
 import re
 from dataclasses import dataclass
-from typing import Dict, List, Sequence
+from typing import Dict, List, Sequence, Set
 
 from ruzgalt.answers import Answer
 from ruzgalt.commands import called
@@ -34,7 +34,6 @@ def pick(
     taken = {one.answer.number for one in picks}
     others = [one for one in (asked if words or asked else answers) if one.number not in taken and is_asked(one)]
     picks.extend(Pick(names.get(one.number, name_of(one)), one) for one in others)
-    refuse_twins(picks)
     return picks
 
 
@@ -56,6 +55,15 @@ def refuse_names(words: Sequence[str]) -> None:
         if mark:
             only = f"only what {NAMED_BY} make has one: give {which}"
             raise Misfit(f"{word}: nothing is made here that has a name; {only}")
+
+
+def refuse_same(picks: Sequence[Pick]) -> None:
+    """Refuses an answer that is picked twice, where one would be compared with itself."""
+    seen: Set[int] = set()
+    for one in picks:
+        if one.answer.number in seen:
+            raise Misfit(f"{one.answer.place}: {short(one.answer.command.text)}: picked twice")
+        seen.add(one.answer.number)
 
 
 def refuse_twins(picks: Sequence[Pick]) -> None:

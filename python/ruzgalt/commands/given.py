@@ -125,6 +125,7 @@ def bytes_of(name: str) -> bytes:
 def chosen(found: Found, words: Sequence[str]) -> List[picks.Pick]:
     """The answers that were picked and all that were asked, or where there is neither, all of the script."""
     some = picked(found, words)
+    picks.refuse_twins(some)
     look_at(found, [pick.answer for pick in some])
     if not some:
         warn("none of the answers is more than an `ok`, so there is no table: ask for one, for example by --ask rows,T")
@@ -149,6 +150,7 @@ def last(found: Found, words: Sequence[str], count: int) -> List[Answer]:
     """So many answers: those that were picked or asked, or else the last that are more than an `ok`."""
     picks.refuse_names(words)
     some = picked(found, words)
+    picks.refuse_same(some)
     if len(some) < count and not words:
         more = f"{len(some)} of the answers are more than an `ok`, but it takes {count}"
         raise Misfit(f"{more}: ask for more, for example by --ask rows,T")
