@@ -231,6 +231,10 @@ class Contents(ToolCase):
         self.assertIn("@7=august --answers pay.csv.stdout --title '<b>Löhne</b>' --note", data["command"])
         self.check([*words, "@7"], "", 1, "answers: @7: the page has all answers; @7=NAME gives one a name")
         self.check([*words, "@99=x"], "", 1, "answers: @99: no such answer")
+        change = "answers: 1=x: line 1: table,pay,person,text,euros,int: only questions have names"
+        self.check([*words, "1=x"], "", 1, change)
+        twice = "answers: 4=x: line 7: at,pay,2024-08-15 has the name august already"
+        self.check([*words, "@7=august", "4=x"], "", 1, twice)
 
     def test_columns_say_how_their_fields_are_shown(self) -> None:
         words = ["tools/answers", "page", "examples/pay.csv", "--answers", "examples/pay.csv.stdout"]
