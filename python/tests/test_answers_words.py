@@ -54,6 +54,8 @@ class Reading(ToolCase):
             ("euros=4.800", "not a whole number in digits alone"), ("valid_to=2025-1-1", "not a date or time as it "),
         ]:
             self.check([*pay, "4", "--where", value], "", 1, f"answers: --where {value}: {wrong}")
+        self.check([*pay, "4", "--german"], "", 1, "answers: --german needs --decimals: only")
+        self.check([*pay, "4", "--german", "--decimals", "euros=2"], "", 0, "[54,00=")
         drawn = "commit 2\ncommit 3 [Byron, Ada 5400="
         self.check([*pay, "6", "--where", "sys_to=", "--where", "euros=5400"], "", 0, drawn)
 

@@ -10,6 +10,7 @@ from ruzgalt.answers.amounts import Amounts
 from ruzgalt.commands.words import decimals, words_of_where
 from ruzgalt.errors import Misfit
 from ruzgalt.pictures import figures, svg, terminal
+from ruzgalt.script.language import Answered
 
 
 def words_of_picture(parser: ArgumentParser) -> None:
@@ -41,6 +42,8 @@ def drawn(found: Sequence[Answer], answer: Answer, options: Namespace) -> str:
     """The picture of an answer, as SVG or as text."""
     if options.height and not options.svg:
         raise Misfit("--height needs --svg: text has as many lines as it takes")
+    if options.german and not (options.decimals or answer.command.form.answered is Answered.STEPS):
+        raise Misfit("--german needs --decimals: only an aggregate's numbers have marks without it")
     amounts = Amounts(options.decimals, options.german)
     name = "" if options.script == "-" else Path(options.script).name
     wish = figures.Wish(options.by, options.label, options.where, options.start, options.end, amounts, name)
