@@ -284,7 +284,9 @@ class Contents(ToolCase):
         answered = Path(TOP, "examples/pay.csv.stdout").read_text().replace(",5400", ",5401")
         words = ["tools/answers", "page", "examples/pay.csv", "--answers", "-"]
         self.check(words, answered, 1, "answers: line 7: at,pay,")
-        self.check([*words, "--once"], answered, 1, "answers: line 7: at,pay,")
+        why = "answers: --once can't be given with --answers: answers of a file are always "
+        why += "compared\n"
+        self.check([*words, "--once"], answered, 1, why)
 
     def test_the_status_is_that_of_a_list(self) -> None:
         words = ["examples/payroll.csv", "--answers", "examples/payroll.csv.stdout"]

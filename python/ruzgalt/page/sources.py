@@ -97,6 +97,8 @@ def ask(options: Namespace) -> Sources:
     """The sources of a page of this script. Where the program answers, it is asked for versions after the script, and
     answers are done again but where that isn't wanted. Raises Misfit where one isn't what the changes give.
     """
+    if options.once and options.answers is not None:
+        raise Misfit("--once can't be given with --answers: answers of a file are always compared")
     script = bytes_of(options.script)
     words = list(options.ask)
     asked = [question for _, question in map(named, words)]
@@ -104,7 +106,7 @@ def ask(options: Namespace) -> Sources:
     options.ask = [*options.ask, *versions]
     found = read(options, shows_refusals=True, script=script)
     files = files_of(options.program) if found.is_own else [marked(options.answers, found.output)]
-    is_done_again = not found.is_own or not options.once
+    is_done_again = not options.once
     replay = behind(found.answers)
     if is_done_again:
         refuse_others(found, replay)
