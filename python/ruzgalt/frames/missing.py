@@ -4,7 +4,8 @@ A whole number is a float beside a missing cell then; one that would be rounded 
 """
 from __future__ import annotations
 
-from typing import Any, Sequence
+from dataclasses import replace
+from typing import Any, List, Optional, Sequence
 
 import numpy as np
 import pandas as pd
@@ -39,11 +40,19 @@ def labels_at(frame: Any, rows: Ints, is_wide: bool = False) -> Any:
     return rows_at(labels.to_frame(), rows, is_wide).iloc[:, 0]
 
 
-def either(one: Any, other: Any, places: Sequence[Ints], is_wide: bool = False) -> Any:
-    """Of two columns the first one's cells, and where the first place is -1 the second one's: in a dtype for both."""
+def either(
+    one: Any, other: Any, places: Sequence[Ints], is_wide: bool = False,
+    digits: Optional[int] = None,
+) -> Any:
+    """Of two columns the first one's cells, and where the first place is -1 the second one's: in a dtype for both.
+
+    digits: floats are numbers of so many decimals, and stay such in the wider dtype of both.
+    """
     is_first = places[0] >= 0
     rows = [places[0][is_first], places[1][~is_first]]
     parts = [column.take(own) for column, own in zip((one, other), rows) if len(own)]
+    if digits is not None:
+        parts = in_one_width(parts, [one, other] if is_wide else parts, digits)
     made = concatenated(parts or [one.iloc[:0]])
     dtype = concatenated([one.iloc[:0], other.iloc[:0]]).dtype if is_wide else made.dtype
     for column, own in zip((one, other), rows):
@@ -57,6 +66,21 @@ def concatenated(parts: Sequence[Any]) -> Any:
     are_bool = [values.is_bool(part.dtype) for part in parts]
     kept = parts if all(are_bool) or not any(are_bool) else list(map(as_objects, parts))
     return pd.concat(kept, ignore_index=True)
+
+
+def in_one_width(parts: List[Any], columns: Sequence[Any], digits: int) -> List[Any]:
+    """The parts; floats of a narrower dtype than the columns come to as the nearest of that one."""
+    if {values.number_kind(column.dtype) for column in columns} != {"float"}:
+        return parts
+    dtype = concatenated([column.iloc[:0] for column in columns]).dtype
+    return [part if part.dtype == dtype else nearest(part, dtype, digits) for part in parts]
+
+
+def nearest(cells: Any, dtype: Any, digits: int) -> Any:
+    """The floats of this dtype nearest to the cells as numbers of so many decimals."""
+    found = values.values_of(cells, digits)
+    made = values.unscaled(found.codes, replace(found, dtype=dtype))
+    return pd.Series(made, name=cells.name)
 
 
 def as_objects(cells: Any) -> Any:

@@ -6,7 +6,7 @@ so no value of theirs passes through a text.
 from __future__ import annotations
 
 from dataclasses import dataclass, replace
-from typing import Any, List, Sequence, Tuple
+from typing import Any, List, Mapping, Optional, Sequence, Tuple
 
 import numpy as np
 
@@ -64,24 +64,27 @@ def framed(frames: Sequence[Any], found: Found, both: Sequence[Side], on: Names,
         own += [(name, one.labels()) for name, one in zip(LABELS, taken)]
     kept = [one.period(period) for one, period in zip(taken, options.periods) if options.keep_periods]
     shared = list(dict.fromkeys(map(same, compared(on, options)[1] if on is not None else [])))
-    others = columns_beside(taken, shared, options.periods)
+    others = columns_beside(taken, shared, options.decimals, options.periods)
     return answer.beside(own, [*kept, *others], [*(options.suffixes if kept else ()), *options.suffixes])
 
 
-def columns_beside(taken: Sequence[Taken], shared: Sequence[Any], left_out: Sequence[Period] = ((), ())) -> Any:
+def columns_beside(
+    taken: Sequence[Taken], shared: Sequence[Any], decimals: Mapping[Any, Optional[int]],
+    left_out: Sequence[Period] = ((), ()),
+) -> Any:
     """The columns of both sides but for some, as their periods; the shared ones once, where the left frame has them."""
     others = [one.others([*away, *shared]) for one, away in zip(taken, left_out)]
-    others[0] += [shared_column(taken, name) for name in shared]
+    others[0] += [shared_column(taken, name, decimals.get(name)) for name in shared]
     others[0].sort(key=lambda column: place_of(taken[0].frame, column[0]))
     return others
 
 
-def shared_column(taken: Sequence[Taken], name: Any) -> Column:
+def shared_column(taken: Sequence[Taken], name: Any, digits: Optional[int]) -> Column:
     """A compared column of both: the left row's cell, or where there is no left row that of the right one."""
     one, other = (column_of(with_labels_twice(side.frame), name) for side in taken)
     places, is_wide = [side.rows for side in taken], taken[0].is_wide
     if is_wide or (places[0] < 0).any():
-        return name, missing.either(one, other, places, is_wide)
+        return name, missing.either(one, other, places, is_wide, digits)
     return name, one.take(places[0]).reset_index(drop=True)
 
 

@@ -41,7 +41,8 @@ def join(asked: Asked, tables: Tables, on: Any) -> Any:
     own = tables[0].period_cells(iter((start, end)), kind, tables[1].form.is_open)
     own += ids_of(taken)
     shared = list(dict.fromkeys(names[1] if on is not None else []))
-    return answer.beside(own, pairs.columns_beside(taken, shared), options.suffixes)
+    digits = {name: tables[1].column(name).digits for name in shared}
+    return answer.beside(own, pairs.columns_beside(taken, shared, digits), options.suffixes)
 
 
 def rows_of(asked: Asked, tables: Tables, names: Sequence[Sequence[Any]]) -> Iterator[Rows]:

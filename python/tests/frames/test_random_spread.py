@@ -337,6 +337,13 @@ class Spread(unittest.TestCase):
                 parts = [lazy._meta, *(part.compute(scheduler="sync") for part in lazy.to_delayed())]
                 self.assertEqual({part["from"].dtype for part in parts}, {pd.PeriodDtype(pd.offsets.Second())})
 
+    def test_floats_of_two_dtypes_stay_numbers_of_their_decimals(self):
+        narrow, wide = day_of(column([0.1, 0.2], "float32")), day_of(column([0.1, 0.3], "float64"))
+        left = dd.from_pandas(narrow, npartitions=2)
+        lazy = ruzgalt.join(left, wide, on="k", how="outer", decimals={"k": 1}, parts=3)
+        found = lazy.compute(scheduler="sync")["k"]
+        self.assertEqual((found.dtype, sorted(found)), ("float64", [0.1, 0.2, 0.3]))
+
     def test_dates_beside_datetimes_come_as_datetimes_in_each_partition(self):
         """Also where a partition has rows of dates alone."""
         days = day_of(column(TEXTS[:9], object))

@@ -87,6 +87,24 @@ class Unmatched(unittest.TestCase):
                 wanted = pd.Series([True, False], dtype="boolean", name="k")
                 pd.testing.assert_series_equal(got, wanted)
 
+    def test_floats_of_two_dtypes_stay_numbers_of_their_decimals(self):
+        narrow = frame({"k": pd.Series([0.1, 0.2], dtype="float32")})
+        wide = frame({"k": [0.1, 0.3]})
+        for left, right, how, wanted in (
+            (narrow, wide, "right", [0.1, 0.3]), (narrow, wide, "outer", [0.1, 0.2, 0.3]),
+            (wide, narrow, "right", [0.1, 0.2]), (wide, narrow, "outer", [0.1, 0.3, 0.2]),
+        ):
+            with self.subTest(how=how, dtype=left["k"].dtype):
+                got = ruzgalt.join(left, right, on="k", how=how, decimals={"k": 1})
+                self.assertEqual((got["k"].dtype, got["k"].tolist()), ("float64", wanted))
+                counts = ruzgalt.agg(got, "count", by="k", decimals={"k": 1})
+                self.assertEqual(counts["k"].tolist(), sorted(wanted))
+                store = ruzgalt.Store()
+                for name, rows in (("l", left), ("r", right)):
+                    store.table(name, rows, decimals={"k": 1})
+                found = store.join("l", "r", on="k", how=how)["k"]
+                self.assertEqual((found.dtype, found.tolist()), ("float64", wanted))
+
     def test_objects_without_rows_meet_nothing_of_any_kind(self):
         """They are what pandas.DataFrame(columns=..) has."""
         none = pd.DataFrame(columns=["from", "to", "k"])
