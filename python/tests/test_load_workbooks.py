@@ -138,6 +138,15 @@ class Workbooks(ToolCase):
         self.assertEqual((status, text), (1, "csv-to-load failed\n"))
         self.assertIn("cell C2 has a formula without a saved value", said)
 
+    def test_true_and_false_are_as_spreadsheets_show_them(self) -> None:
+        period = [date(2024, 1, 1), date(2024, 2, 1)]
+        rows: List[List[Any]] = [["From", "To", "Paid"]]
+        rows.extend([*period, one] for one in (True, False, "TRUE"))
+        made = "".join(f"row,2024-01-01,2024-02-01,{one}\n" for one in ("TRUE", "FALSE", "TRUE"))
+        status, text, said = loaded(workbook({"A": rows}), ["Paid"])
+        self.assertEqual((status, text), (0, f"load,t\n{made}end\n"), said)
+        self.assertNotIn("looks like", said)
+
     def test_a_date_among_values_is_noted(self) -> None:
         rows: List[List[Any]] = [["From", "To", "Grade"], [date(2024, 1, 1), date(2024, 2, 1), date(2024, 2, 1)]]
         status, text, said = loaded(workbook({"A": rows}), ["Grade"])

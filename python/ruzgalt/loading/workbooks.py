@@ -97,6 +97,9 @@ def text_of(value: Any, mark: str) -> str:
     """The value as a text: a day as a date, a number with as many digits as a spreadsheet keeps."""
     if value is None:
         return ""
+    if isinstance(value, bool):
+        # As English spreadsheets show it, and write it to CSV.
+        return "TRUE" if value else "FALSE"
     if isinstance(value, datetime):
         return value.isoformat().replace("T00:00:00", "") if value.time() == time() else value.isoformat()
     if isinstance(value, float):
