@@ -57,6 +57,8 @@ class Refused(Case):
 
     def test_a_unit_of_no_column_is_refused(self) -> None:
         self.refused("--unit needs --decimals", rows(f"A,5 €,{PERIOD}"), *WORDS, "--unit", "€")
+        words = [*WORDS, "--decimal-mark", ","]
+        self.refused("--decimal-mark needs --decimals", rows(f"A,5,{PERIOD}"), *words)
 
     def test_points_of_other_forms_are_refused(self) -> None:
         for end, part in [

@@ -168,6 +168,10 @@ def opened(options: Namespace) -> Records:
         return Workbook(data, options.sheet, mark_of(options))
     if options.sheet is not None:
         raise Misfit(f"--sheet {visible(options.sheet)}: the file isn't an Excel workbook, so it has no sheets")
+    if options.decimal_mark and not options.decimals:
+        # Of a workbook's numbers it is the mark in texts too.
+        reason = "values of other columns are taken as they are"
+        raise Misfit(f"--decimal-mark needs --decimals: {reason}")
     return Sheet(data, options.line_breaks)
 
 
