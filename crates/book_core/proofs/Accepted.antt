@@ -4,7 +4,7 @@ use Rattle.std.specs.Prelude.{Result, Err, IfNone, IfSome, IsOkUnless, ◌≢◌
 use Rattle.row_core.specs.Refusals.{map_refused}
 use Rattle.row_core.specs.declared.failure.Failure.{Failure}
 use Rattle.row_core.specs.declared.failure.Failure.TheVariants.{Refused, NoMemory}
-use Rattle.version_core.specs.declared.change.Change.{Change}
+use Rattle.book_core.specs.declared.change.Change.{Change}
 use Rattle.version_core.specs.declared.keys.KeyOverlap as keys
 use Rattle.book_core.specs.State.{State, first_refusal, leaves_overlap, or_overlap, refusal_of, table_named, table_of, IsRefusedAs, overlap_refusal}
 use Rattle.book_core.specs.declared.refusal.BookRefused.{BookRefused}

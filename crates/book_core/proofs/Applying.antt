@@ -10,8 +10,8 @@ use Rattle.row_core.specs.Schema.{fits}
 use Rattle.row_core.specs.Refusals.{first_of}
 use Rattle.version_core.specs.Limits.{version_limit}
 use Rattle.book_core.specs.Limits.{commit_limit, table_limit}
-use Rattle.version_core.specs.declared.change.Change.{Change}
-use Rattle.version_core.specs.declared.change.Change.TheVariants.{Make, Load, Update, Delete}
+use Rattle.book_core.specs.declared.change.Change.{Change}
+use Rattle.book_core.specs.declared.change.Change.TheVariants.{Make, Load, Update, Delete}
 use Rattle.book_core.specs.State.{State, Table, table_of, first_refusal, refusal_of, tests_of, with_table, changed, pair_tests}
 use Rattle.book_core.specs.History.{History, IsLegal, state_after}
 use Rattle.book_core.specs.StoredTables.{kept_table, StoredTable, table_at, at_kept, kept_tables_after, kept_tables_from, HasRoom, AreKept}

@@ -1,6 +1,6 @@
 -- One commit in the tables.
-use Rattle.std.proofs.Common.{◌≡◌, ℕ, ◌+◌, ◌≤◌, List, [], ◌∷◌, ◌++◌, true, false, cond, Option, Some, None, length, map, get_or, set, refl, ap, sym, ◌∙◌, arith}
-use Rattle.std.specs.Prelude.{position, count_by, IfSome, bytes_eq}
+use Rattle.std.proofs.Common.{◌≡◌, ℕ, ◌+◌, ◌≤◌, List, [], ◌∷◌, ◌++◌, Bool, true, false, ◌&&◌, cond, Option, Some, None, length, map, get_or, set, refl, ap, sym, ◌∙◌, arith}
+use Rattle.std.specs.Prelude.{position, count_by, IfSome, bytes_eq, is_none}
 use Rattle.std.specs.List.{position_from}
 use Rattle.std.proofs.lemmas.Iterator.Adapters.{position_from-zero}
 use Rattle.list_core.proofs.MadeLemmas.{count-cons}
@@ -8,12 +8,16 @@ use Rattle.row_core.specs.declared.row.Row.{Row}
 use Rattle.row_core.specs.declared.schema.Column.{Column}
 use Rattle.version_core.specs.Limits.{version_limit}
 use Rattle.table_core.specs.Numbered.{numbered}
-use Rattle.version_core.specs.Rows.{drafts_of, removes}
+use Rattle.version_core.specs.Rows as by_place
+use Rattle.version_core.specs.declared.change.RowsChange.{RowsChange}
+use Rattle.version_core.specs.declared.version.Version.{Version}
+use Rattle.book_core.specs.Bound.{DoesTheSame}
+use Rattle.book_core.specs.Rows.{drafts_of, removes}
 use Rattle.version_core.specs.OpenVersions.{closed, current, versions_after}
 use Rattle.version_core.specs.Made.{made}
 use Rattle.version_core.specs.Shown.{shown}
-use Rattle.version_core.specs.declared.change.Change.{Change}
-use Rattle.version_core.specs.declared.change.Change.TheVariants.{Make}
+use Rattle.book_core.specs.declared.change.Change.{Change}
+use Rattle.book_core.specs.declared.change.Change.TheVariants.{Make}
 use Rattle.version_core.proofs.ListLemmas.{at_some}
 use Rattle.book_core.specs.State.{changed}
 use Rattle.book_core.specs.StoredTables.{kept_table, IsWellKept, StoredTable, added_in, at_kept, closed_in, kept_table_after, table_at}
@@ -67,30 +71,60 @@ pub closed_in-make : (n : ℕ) (name : List ℕ) (schema : List Column) (o : Opt
 closed_in-make n name schema None = refl
 closed_in-make n name schema (Some t) = none_counted (shown n t.versions)
 
+-- ---- a change by places that does the same
+
+closed-same : (n : ℕ) (p q : Row → Bool) → ((row : Row) → p row ≡ q row) → (vs : List Version)
+    → map (closed n p) vs ≡ map (closed n q) vs
+closed-same n p q same [] = refl
+closed-same n p q same (v ∷ vs) =
+    ap (λ b. cond (is_none v.systo && b) (record v { systo = Some n }) v ∷ map (closed n p) vs) (same v.row)
+    ∙ ap (λ l. closed n q v ∷ l) (closed-same n p q same vs)
+
+count-same : (p q : Row → Bool) → ((row : Row) → p row ≡ q row) → (rows : List Row) → count_by p rows ≡ count_by q rows
+count-same p q same [] = refl
+count-same p q same (row ∷ rows) =
+    count-cons p row rows
+    ∙ ap (λ b. cond b 1 0 + count_by p rows) (same row)
+    ∙ ap (λ n. cond (q row) 1 0 + n) (count-same p q same rows)
+    ∙ sym (count-cons q row rows)
+
 -- the open versions are those that the newest commit shows
-pub versions_after-kept : (n : ℕ) (c : Change) (t : StoredTable) → IsWellKept n t
-    → record t { versions = versions_after (n + 1) c t.schema t.versions } ≡ kept_table_after n c t
-versions_after-kept n c t well =
-    ap (λ rows. record t {
-      versions = map (closed (n + 1) (removes c t.schema)) t.versions ++ made (n + 1)
-          (numbered (length t.versions) (drafts_of c t.schema rows));
+pub versions_after-kept : (n : ℕ) (c : Change) (r : RowsChange) (t : StoredTable) → DoesTheSame c t.schema r
+    → IsWellKept n t → record t { versions = versions_after (n + 1) r t.versions } ≡ kept_table_after n c t
+versions_after-kept n c r t same well =
+    ap (λ vs. record t {
+      versions = vs ++ made (n + 1) (numbered (length t.versions) (by_place.drafts_of r (current t.versions)));
     })
-    (sym (shown-current n t.versions well.times))
+    (closed-same (n + 1) (by_place.removes r) (removes c t.schema) same.out t.versions)
+    ∙ ap (λ ds. record t {
+      versions = map (closed (n + 1) (removes c t.schema)) t.versions ++ made (n + 1)
+          (numbered (length t.versions) ds);
+    })
+    (same.new (current t.versions) ∙ ap (drafts_of c t.schema) (sym (shown-current n t.versions well.times)))
 
 -- how many they are that a change adds and closes
-pub added-current : (n : ℕ) (c : Change) (t : StoredTable) (o : Option StoredTable) → IsWellKept n t → o ≡ Some t
-    → length (drafts_of c t.schema (current t.versions)) ≡ added_in n c o
-added-current n c t o well e =
-    ap (λ rows. length (drafts_of c t.schema rows)) (sym (shown-current n t.versions well.times))
+pub added-current : (n : ℕ) (c : Change) (r : RowsChange) (t : StoredTable) (o : Option StoredTable)
+    → DoesTheSame c t.schema r → IsWellKept n t → o ≡ Some t
+    → length (by_place.drafts_of r (current t.versions)) ≡ added_in n c o
+added-current n c r t o same well e =
+    ap length (same.new (current t.versions))
+    ∙ ap (λ rows. length (drafts_of c t.schema rows)) (sym (shown-current n t.versions well.times))
     ∙ ap (added_in n c) (sym e)
 
-pub taken-current : (n : ℕ) (c : Change) (t : StoredTable) (o : Option StoredTable) → IsWellKept n t → o ≡ Some t
-    → count_by (removes c t.schema) (current t.versions) ≡ closed_in n c o
-taken-current n c t o well e =
-    ap (count_by (removes c t.schema)) (sym (shown-current n t.versions well.times)) ∙ ap (closed_in n c) (sym e)
+pub taken-current : (n : ℕ) (c : Change) (r : RowsChange) (t : StoredTable) (o : Option StoredTable)
+    → DoesTheSame c t.schema r → IsWellKept n t → o ≡ Some t
+    → count_by (by_place.removes r) (current t.versions) ≡ closed_in n c o
+taken-current n c r t o same well e =
+    count-same (by_place.removes r) (removes c t.schema) same.out (current t.versions)
+    ∙ ap (count_by (removes c t.schema)) (sym (shown-current n t.versions well.times)) ∙ ap (closed_in n c) (sym e)
 
 -- there is room for them where there is room in the table that is shown
-pub room-current : (n : ℕ) (c : Change) (t : StoredTable) → IsWellKept n t
-    → (changed c (table_at n t)).used ≤ version_limit
-    → length t.versions + length (drafts_of c t.schema (current t.versions)) ≤ version_limit
-room-current n c t well room = rw (sym (shown-current n t.versions well.times)) room
+pub room-current : (n : ℕ) (c : Change) (r : RowsChange) (o : Option StoredTable)
+    → IfSome o (λ t. DoesTheSame c t.schema r) → IfSome o (IsWellKept n)
+    → IfSome o (λ t. (changed c (table_at n t)).used ≤ version_limit)
+    → IfSome o (λ t. length t.versions + length (by_place.drafts_of r (current t.versions)) ≤ version_limit)
+room-current n c r None same well room = tt
+room-current n c r (Some t) same well room =
+    let count = ap length (same.new (current t.versions)
+    ∙ ap (drafts_of c t.schema) (sym (shown-current n t.versions well.times))) in
+    omega (arith, count, room)

@@ -10,12 +10,12 @@ use Rattle.list_core.proofs.MadeLemmas.{count-cons, count-append}
 use Rattle.row_core.specs.declared.draft.Draft.{Draft}
 use Rattle.row_core.specs.declared.row.Row.{Row}
 use Rattle.table_core.specs.Numbered.{numbered}
-use Rattle.version_core.specs.Rows.{drafts_of, removes}
+use Rattle.book_core.specs.Rows.{drafts_of, removes}
 use Rattle.version_core.specs.Shown.{shows, shown}
 use Rattle.version_core.specs.Made.{made}
 use Rattle.version_core.specs.OpenVersions.{closed}
-use Rattle.version_core.specs.declared.change.Change.{Change}
-use Rattle.version_core.specs.declared.change.Change.TheVariants.{Make, Load, Update, Delete}
+use Rattle.book_core.specs.declared.change.Change.{Change}
+use Rattle.book_core.specs.declared.change.Change.TheVariants.{Make, Load, Update, Delete}
 use Rattle.version_core.specs.declared.version.Version.{Version}
 use Rattle.table_core.proofs.NumberedLemmas.{length-numbered}
 use Rattle.version_core.proofs.FindingLemmas.{row_closed}

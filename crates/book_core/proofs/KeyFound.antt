@@ -1,53 +1,67 @@
 -- The test of keys of a table that is found.
-use Rattle.std.proofs.Common.{◌≡◌, ℕ, List, ◌++◌, length, map, Bool, false, Option, Some, None, ap, arith, sym, ◌∙◌}
-use Rattle.std.specs.Prelude.{IfSome, option_map}
+use Rattle.std.proofs.Common.{◌≡◌, ℕ, List, ◌++◌, length, map, Bool, false, not, Option, Some, None, ap, arith, sym, ◌∙◌}
+use Rattle.std.specs.Prelude.{IfSome, filter, option_map}
 use Rattle.std.specs.List.{AllByRecursion}
 use Rattle.std.proofs.lemmas.List.{take_all}
+use Rattle.std.proofs.lemmas.List.Elements.{filter_agree}
 use Rattle.row_core.specs.Schema.{key_of}
 use Rattle.row_core.specs.declared.row.Row.{Row}
-use Rattle.version_core.specs.Keys.{overlap_after, rows_left, break_key}
+use Rattle.row_core.specs.declared.schema.Column.{Column}
+use Rattle.version_core.specs.Keys.{overlap_after, break_key}
+use Rattle.version_core.specs.Rows as by_place
+use Rattle.version_core.specs.declared.change.RowsChange.{RowsChange}
 use Rattle.version_core.specs.OpenVersions.{current}
-use Rattle.version_core.specs.Rows.{drafts_of}
+use Rattle.book_core.specs.Bound.{DoesTheSame, IsOfRows}
+use Rattle.book_core.specs.Rows.{drafts_of, is_touched, removes}
 use Rattle.table_core.specs.Numbered.{unnumbered}
-use Rattle.version_core.specs.declared.change.Change.{Change}
-use Rattle.version_core.specs.declared.change.Change.TheVariants.{Make, Load, Update, Delete}
-use Rattle.version_core.proofs.Unbroken.{delete-unbroken, make-unbroken}
+use Rattle.book_core.specs.declared.change.Change.{Change}
+use Rattle.book_core.specs.declared.change.Change.TheVariants.{Make, Load, Update, Delete}
+use Rattle.version_core.proofs.Unbroken.{cut-unbroken}
 use Rattle.book_core.specs.StoredTables.{IsUnbroken, overlap_in, AreKept, IsWellKept, StoredTable, kept_table, table_at}
 use Rattle.book_core.specs.History.{History, IsLegal, state_after}
 use Rattle.book_core.specs.State.{Table, breaks_key, leaves_overlap, table_named, table_of}
 use Rattle.book_core.proofs.Applying.{found_in, newest_of}
-use Rattle.book_core.proofs.KeyLaw.{breaks-changed, found-unbroken, unbroken}
+use Rattle.book_core.proofs.KeyLaw.{breaks-changed, found-unbroken, rows_left, unbroken}
 use Rattle.book_core.proofs.Shown.{shown-current}
 use Rattle.book_core.proofs.Tables.{well_named}
 
 -- the rows that the change leaves and makes of a table, by the rows that are there
-tested : Change → StoredTable → List Row → Bool
-tested c t rows = break_key (key_of t.schema) (rows_left c t.schema rows ++ drafts_of c t.schema rows)
+tested : Change → List Column → List Row → Bool
+tested c schema rows = break_key (key_of schema) (rows_left c schema rows ++ drafts_of c schema rows)
 
--- those of the open versions are those of the table that the newest commit shows
-after-found : (n : ℕ) (c : Change) (t : StoredTable) → IsWellKept n t
-    → overlap_after c t.schema t.versions ≡ tested c t (table_at n t).rows
+left-same : (p q : Row → Bool) → ((row : Row) → p row ≡ q row) → (rows : List Row)
+    → filter (λ row. not (p row)) rows ≡ filter (λ row. not (q row)) rows
+left-same p q same rows = filter_agree (λ row. not (p row)) (λ row. not (q row)) (λ row. ap not (same row)) rows
+
+-- those of a change by places that does the same
+after-bound : (c : Change) (r : RowsChange) (t : StoredTable) → DoesTheSame c t.schema r
+    → overlap_after r (key_of t.schema) t.versions ≡ tested c t.schema (current t.versions)
 unfolding tested
-after-found n c t well =
-    ap (λ rows. break_key (key_of t.schema) (rows_left c t.schema rows ++ drafts_of c t.schema rows))
-    (sym (shown-current n t.versions well.times))
+after-bound c r t same =
+    let rows = current t.versions in
+    ap (λ l. break_key (key_of t.schema) (map unnumbered l ++ by_place.drafts_of r rows))
+    (left-same (by_place.removes r) (removes c t.schema) same.out rows)
+    ∙ ap (λ l. break_key (key_of t.schema) (rows_left c t.schema rows ++ l)) (same.new rows)
 
 -- what is tested shows whether the change leaves rows of one key that share an instant
-overlap-found : (n : ℕ) (c : Change) (t : StoredTable) → IsWellKept n t → IsUnbroken t
-    → overlap_after c t.schema t.versions ≡ leaves_overlap c (Some (table_at n t))
+overlap-found : (n : ℕ) (c : Change) (t : StoredTable) → IsOfRows c → IsWellKept n t → IsUnbroken t
+    → tested c t.schema (current t.versions) ≡ leaves_overlap c (Some (table_at n t))
 unfolding tested
-overlap-found n (Make name schema) t well none = make-unbroken name schema t.schema (current t.versions) none
-overlap-found n (Load name rows) t well none =
-    after-found n (Load name rows) t well ∙ sym (breaks-changed (Load name rows) (table_at n t))
-overlap-found n (Update name portion sets conds) t well none =
-    after-found n (Update name portion sets conds) t well
+overlap-found n (Make name schema) t of well none = absurd of
+overlap-found n (Load name rows) t of well none =
+    ap (tested (Load name rows) t.schema) (sym (shown-current n t.versions well.times))
+    ∙ sym (breaks-changed (Load name rows) (table_at n t))
+overlap-found n (Update name portion sets conds) t of well none =
+    ap (tested (Update name portion sets conds) t.schema) (sym (shown-current n t.versions well.times))
     ∙ sym (breaks-changed (Update name portion sets conds) (table_at n t))
-overlap-found n (Delete name portion conds) t well none =
-    delete-unbroken name portion conds t.schema (current t.versions) none
+overlap-found n (Delete name portion conds) t of well none =
+    cut-unbroken (is_touched t.schema portion conds) portion (key_of t.schema) (current t.versions) none
 
-pub overlap-in : (n : ℕ) (c : Change) (t : StoredTable) (o : Option StoredTable) → IsWellKept n t → IsUnbroken t
-    → o ≡ Some t → overlap_after c t.schema t.versions ≡ overlap_in n c o
-overlap-in n c t o well none e = overlap-found n c t well none ∙ ap (overlap_in n c) (sym e)
+pub overlap-in : (n : ℕ) (c : Change) (r : RowsChange) (t : StoredTable) (o : Option StoredTable) → IsOfRows c
+    → DoesTheSame c t.schema r → IsWellKept n t → IsUnbroken t → o ≡ Some t
+    → overlap_after r (key_of t.schema) t.versions ≡ overlap_in n c o
+overlap-in n c r t o of same well none e =
+    after-bound c r t same ∙ overlap-found n c t of well none ∙ ap (overlap_in n c) (sym e)
 
 -- ---- what a book keeps
 

@@ -11,11 +11,13 @@ use Rattle.key_core.specs.Keys.{have_collision}
 use Rattle.key_core.proofs.Meaning.{without_overlaps}
 use Rattle.key_core.proofs.Replaced.{append-all}
 use Rattle.table_core.specs.Numbered.{numbered, unnumbered}
-use Rattle.version_core.specs.Rows.{Pair, drafts_of, removes}
-use Rattle.version_core.specs.Keys.{break_key, rows_left}
-use Rattle.version_core.specs.declared.change.Change.{Change}
-use Rattle.version_core.specs.declared.change.Change.TheVariants.{Make, Load, Update, Delete}
-use Rattle.version_core.proofs.Unbroken.{delete-unbroken}
+use Rattle.row_core.specs.declared.row.Row.{Row}
+use Rattle.row_core.specs.declared.schema.Column.{Column}
+use Rattle.book_core.specs.Rows.{Pair, drafts_of, is_touched, removes}
+use Rattle.version_core.specs.Keys.{break_key}
+use Rattle.book_core.specs.declared.change.Change.{Change}
+use Rattle.book_core.specs.declared.change.Change.TheVariants.{Make, Load, Update, Delete}
+use Rattle.version_core.proofs.Unbroken.{cut-unbroken}
 use Rattle.book_core.specs.History.{History, IsLegal, state_after}
 use Rattle.book_core.specs.State.{State, Table, applied, at_table, KeyHolds, breaks_key, changed, leaves_overlap, refusal_of, table_of}
 use Rattle.book_core.proofs.Accepted.{overlap-none}
@@ -25,6 +27,10 @@ use Rattle.book_core.proofs.Sound.{LegalFrom, legal_from}
 unnumbered-numbered : (used : ℕ) (ds : List Draft) → map unnumbered (numbered used ds) ≡ ds
 unnumbered-numbered used [] = refl
 unnumbered-numbered used (d ∷ ds) = ap (λ l. d ∷ l) (unnumbered-numbered (used + 1) ds)
+
+-- the rows that the change leaves
+abbrev pub rows_left : Change → List Column → List Row → List Draft
+rows_left c schema rows = map unnumbered (filter (λ row. not (removes c schema row)) rows)
 
 -- a table breaks its key applied a change exactly where the rows do that are left and made
 pub breaks-changed : (c : Change) (t : Table)
@@ -77,7 +83,7 @@ delete-left : (name : List ℕ) (portion : Period) (conds : List Pair) (o : Opti
     → IfSome o (λ t. breaks_key t ≡ false) → IfSome o (λ t. breaks_key (changed (Delete name portion conds) t) ≡ false)
 delete-left name portion conds None h = tt
 delete-left name portion conds (Some t) h =
-    breaks-changed (Delete name portion conds) t ∙ delete-unbroken name portion conds t.schema t.rows h
+    breaks-changed (Delete name portion conds) t ∙ cut-unbroken (is_touched t.schema portion conds) portion (key_of t.schema) t.rows h
 
 no-rows : (key : List ℕ) → break_key key [] ≡ false
 no-rows [] = refl

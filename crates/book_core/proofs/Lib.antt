@@ -1,11 +1,13 @@
 pub mod Accepted
 pub mod Applying
+pub mod BoundLemmas
 pub mod ChangedTables
 pub mod IdLaw
 pub mod Ids
 pub mod KeyFound
 pub mod KeyLaw
 pub mod Logging
+pub mod Making
 pub mod Past
 pub mod Portions
 pub mod Reading

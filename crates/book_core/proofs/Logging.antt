@@ -5,10 +5,10 @@ use Rattle.std.proofs.lemmas.List.{take_all}
 use Rattle.std.proofs.lemmas.List.Sums.{fold-append}
 use Rattle.row_core.specs.declared.schema.Column.{Column}
 use Rattle.book_core.specs.Limits.{commit_limit, table_limit}
-use Rattle.version_core.specs.Rows.{removes, drafts_of}
+use Rattle.book_core.specs.Rows.{removes, drafts_of}
 use Rattle.version_core.specs.Shown.{shown}
-use Rattle.version_core.specs.declared.change.Change.{Change}
-use Rattle.version_core.specs.declared.change.Change.TheVariants.{Make, Load, Update, Delete}
+use Rattle.book_core.specs.declared.change.Change.{Change}
+use Rattle.book_core.specs.declared.change.Change.TheVariants.{Make, Load, Update, Delete}
 use Rattle.book_core.specs.State.{State, Table, table_named, table_of, rows_of, at_table, applied, changed, first_refusal, refusal_of}
 use Rattle.book_core.specs.History.{History, state_after, rows_at}
 use Rattle.book_core.specs.Versions.{new_ids, change_kind, entry_at, entries_from, log_of}

@@ -10,7 +10,7 @@ use Rattle.row_core.specs.declared.draft.Draft.{Draft}
 use Rattle.row_core.specs.declared.schema.Column.{Column}
 use Rattle.version_core.specs.Limits.{version_limit}
 use Rattle.book_core.specs.Limits.{commit_limit, table_limit}
-use Rattle.version_core.specs.declared.change.Change.TheVariants.{Make, Load}
+use Rattle.book_core.specs.declared.change.Change.TheVariants.{Make, Load}
 use Rattle.book_core.specs.State.{State, Table, table_of, first_refusal, tests_of}
 use Rattle.book_core.specs.History.{History, state_after}
 use Rattle.book_core.specs.StoredTables.{AreKept, StoredTable, table_at}

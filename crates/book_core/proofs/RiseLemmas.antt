@@ -5,9 +5,9 @@ use Rattle.std.specs.List.{AllByRecursion}
 use Rattle.row_core.specs.Rows.{RowsRise}
 use Rattle.row_core.specs.declared.row.Row.{Row}
 use Rattle.table_core.specs.Numbered.{numbered}
-use Rattle.version_core.specs.Rows.{drafts_of, removes}
-use Rattle.version_core.specs.declared.change.Change.{Change}
-use Rattle.version_core.specs.declared.change.Change.TheVariants.{Make, Load, Update, Delete}
+use Rattle.book_core.specs.Rows.{drafts_of, removes}
+use Rattle.book_core.specs.declared.change.Change.{Change}
+use Rattle.book_core.specs.declared.change.Change.TheVariants.{Make, Load, Update, Delete}
 use Rattle.book_core.specs.History.{History, rows_at, state_after}
 use Rattle.book_core.specs.State.{State, Table, applied, at_table, changed, rows_of, table_of}
 use Rattle.book_core.proofs.Ids.{RiseIn, RiseIn-filter, RiseIn-lower, numbered_rise}

@@ -9,12 +9,12 @@ use Rattle.row_core.specs.declared.row.Row.{Row}
 use Rattle.row_core.specs.declared.schema.Column.{Column}
 use Rattle.key_core.proofs.Replaced.{append-all}
 use Rattle.table_core.specs.Numbered.{numbered}
-use Rattle.version_core.specs.Rows.{drafts_of, removes}
+use Rattle.book_core.specs.Rows.{drafts_of, removes}
 use Rattle.version_core.specs.OpenVersions.{closed, current, is_open}
 use Rattle.version_core.specs.Made.{made}
 use Rattle.version_core.specs.Shown.{row_shown, shown, shows}
-use Rattle.version_core.specs.declared.change.Change.{Change}
-use Rattle.version_core.specs.declared.change.Change.TheVariants.{Make, Load, Update, Delete}
+use Rattle.book_core.specs.declared.change.Change.{Change}
+use Rattle.book_core.specs.declared.change.Change.TheVariants.{Make, Load, Update, Delete}
 use Rattle.version_core.specs.declared.version.Version.{Version}
 use Rattle.table_core.proofs.NumberedLemmas.{length-numbered}
 use Rattle.book_core.specs.StoredTables.{IsTimely, StoredTable, table_at, kept_table_after, at_kept, kept_tables_after, kept_tables_from}

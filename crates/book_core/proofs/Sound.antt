@@ -20,12 +20,13 @@ use Rattle.key_core.proofs.Replaced.{append-all, append-parts}
 use Rattle.version_core.specs.Limits.{version_limit}
 use Rattle.book_core.specs.Limits.{commit_limit}
 use Rattle.table_core.specs.Numbered.{numbered}
-use Rattle.version_core.specs.Rows.{Pair, drafts_of, is_touched, part, parts_of, removes, set_at}
+use Rattle.portion_core.specs.Portion.{part}
+use Rattle.book_core.specs.Rows.{Pair, drafts_of, is_touched, parts_of, removes, set_at}
 use Rattle.version_core.specs.OpenVersions.{closed}
 use Rattle.version_core.specs.Made.{made}
 use Rattle.version_core.specs.Shown.{shown, shows}
-use Rattle.version_core.specs.declared.change.Change.{Change}
-use Rattle.version_core.specs.declared.change.Change.TheVariants.{Make, Load, Update, Delete}
+use Rattle.book_core.specs.declared.change.Change.{Change}
+use Rattle.book_core.specs.declared.change.Change.TheVariants.{Make, Load, Update, Delete}
 use Rattle.version_core.specs.declared.version.Version.{Version}
 use Rattle.book_core.specs.State.{State, Table, applied, changed, full_tests, is_of_kind, pair_tests, first_refusal, refusal_of, table_of, tests_of, with_table}
 use Rattle.book_core.specs.History.{History, IsLegal, schema_in, state_after}

@@ -13,10 +13,10 @@ use Rattle.key_core.specs.Keys.{AreWithoutOverlaps}
 use Rattle.version_core.specs.Limits.{version_limit}
 use Rattle.book_core.specs.Limits.{commit_limit, table_limit}
 use Rattle.table_core.specs.Numbered.{numbered, unnumbered}
-use Rattle.version_core.specs.Rows.{Pair, removes, drafts_of}
+use Rattle.book_core.specs.Rows.{Pair, removes, drafts_of}
 use Rattle.version_core.specs.Keys.{break_key}
-use Rattle.version_core.specs.declared.change.Change.{Change}
-use Rattle.version_core.specs.declared.change.Change.TheVariants.{Make, Load, Update, Delete}
+use Rattle.book_core.specs.declared.change.Change.{Change}
+use Rattle.book_core.specs.declared.change.Change.TheVariants.{Make, Load, Update, Delete}
 use Rattle.version_core.specs.declared.keys.KeyOverlap as keys
 use Rattle.book_core.specs.declared.refusal.BookRefused.{BookRefused}
 use Rattle.book_core.specs.declared.refusal.BookRefused.TheVariants.{TableExists, TooMany, Full, NoTable, NoColumn, WrongKind, KeyOverlap}

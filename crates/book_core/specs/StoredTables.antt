@@ -5,13 +5,13 @@ use Rattle.row_core.specs.Schema.{fits, key_of}
 use Rattle.row_core.specs.declared.schema.Column.{Column}
 use Rattle.version_core.specs.Limits.{version_limit}
 use Rattle.table_core.specs.Numbered.{numbered, unnumbered}
-use Rattle.version_core.specs.Rows.{drafts_of, removes}
+use Rattle.book_core.specs.Rows.{drafts_of, removes}
 use Rattle.version_core.specs.Shown.{shown}
 use Rattle.version_core.specs.Made.{made}
 use Rattle.version_core.specs.OpenVersions.{closed, current}
 use Rattle.version_core.specs.Keys.{break_key}
-use Rattle.version_core.specs.declared.change.Change.{Change}
-use Rattle.version_core.specs.declared.change.Change.TheVariants.{Make, Load, Update, Delete}
+use Rattle.book_core.specs.declared.change.Change.{Change}
+use Rattle.book_core.specs.declared.change.Change.TheVariants.{Make, Load, Update, Delete}
 use Rattle.version_core.specs.declared.version.Version.{Version}
 use Rattle.book_core.specs.State.{Table, table_of, changed, table_named, leaves_overlap}
 use Rattle.book_core.specs.History.{History, IsLegal, state_after, rows_at}

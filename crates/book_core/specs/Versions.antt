@@ -3,8 +3,8 @@ use Rattle.std.specs.Prelude.{ℕ, ◌+◌, ◌≤◌, ◌<◌, List, [], ◌∷
 use Rattle.std.specs.List.{list_any}
 use Rattle.list_core.specs.Wanted.{IsListOf}
 use Rattle.row_core.specs.declared.row.Row.{Row}
-use Rattle.version_core.specs.declared.change.Change.{Change}
-use Rattle.version_core.specs.declared.change.Change.TheVariants.{Make, Load, Update, Delete}
+use Rattle.book_core.specs.declared.change.Change.{Change}
+use Rattle.book_core.specs.declared.change.Change.TheVariants.{Make, Load, Update, Delete}
 use Rattle.version_core.specs.declared.version.Version.{Version}
 use Rattle.book_core.specs.State.{table_named}
 use Rattle.book_core.specs.History.{History, rows_at}

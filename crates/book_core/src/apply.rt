@@ -1,104 +1,130 @@
 //! Tests a change of a table, and makes it.
 
 ghost use Rattle.std.specs.Arc.{arc_value};
-ghost use Rattle.std.specs.Prelude.{◌≡◌, ◌≢◌, ◌+◌, ◌≤◌, ◌<◌, [], ◌∷◌, ◌++◌, ◌||◌, true, false, length, map, count_by, flat_map, IfSome, IfOk, IfErr, OnErr, OnOk, nat_le, nat_lt};
+ghost use Rattle.std.specs.Option.{option_copied};
+ghost use Rattle.std.specs.Result.{result_err};
+ghost use Rattle.std.specs.Prelude.{◌≡◌, ◌≢◌, ℕ, ◌+◌, ◌≤◌, ◌<◌, List, None, Some, [], ◌∷◌, ◌++◌, ◌||◌, true, false, length, map, count_by, flat_map, unwrap_or, IfSome, IfOk, IfErr, OnErr, OnOk, nat_le, nat_lt};
 ghost use Rattle.std.specs.List.{AllByRecursion};
 ghost use Rattle.row_core.specs.Refusals.{first_of};
-ghost use Rattle.row_core.specs.Schema.{key_of};
 ghost use Rattle.row_core.specs.declared.failure.Failure.TheVariants.{NoMemory};
+ghost use Rattle.table_core.specs.Numbered.{unnumbered};
 ghost use Rattle.version_core.specs.Keys.{break_key, overlap_after};
 ghost use Rattle.version_core.specs.Limits.{version_limit};
 ghost use Rattle.version_core.specs.OpenVersions.{current, versions_after};
-ghost use Rattle.version_core.specs.Rows.{drafts_of, parts_of_all, removes};
-ghost use Rattle.table_core.specs.Numbered.{unnumbered};
+ghost use Rattle.version_core.specs.Rows as by_place;
 ghost use Rattle.version_core.specs.Shown.{shown};
+ghost use Rattle.book_core.specs.Bound.{Does, DoesTheSame, IsBound, IsMade, IsOfRows, portion_parts, portion_tests, rows_changed, rows_loaded};
 ghost use Rattle.book_core.specs.Limits.{commit_limit};
-ghost use Rattle.book_core.specs.State.{changed, tests_of, pair_tests, full_tests, table_named};
-ghost use Rattle.book_core.specs.StoredTables.{IsUnbroken, overlap_in, kept_table, table_at, at_kept, kept_tables_after, kept_table_after, added_in, closed_in, HasRoom, IsTimely, IsWellKept};
+ghost use Rattle.book_core.specs.Rows.{is_touched};
+ghost use Rattle.book_core.specs.State.{tests_of, pair_tests, table_named};
+ghost use Rattle.book_core.specs.StoredTables.{IsUnbroken, kept_table, table_at, HasRoom, IsTimely, IsWellKept};
+ghost use Rattle.book_core.specs.declared.change.Change.{Change as AnyChange};
+ghost use Rattle.book_core.specs.declared.change.Change.TheVariants.{Load};
 
+use crate::bind::{bind_conds, bind_sets};
+use crate::change::Change;
 use crate::log::table_of;
-use crate::pairs::pairs_refusal;
 use crate::refusal::BookRefused;
 use crate::table::{Table, place_of};
+use crate::table_columns::TableColumns;
+use draft_core::Drafts;
 use list_core::DeepCopy;
+use period_core::Period;
 use row_core::{Failure, Name, NoMemory, Schema, Value};
 use std::alloc::Global;
 use std::sync::Arc;
 use version_core::{
-    Change, CommitNumber, KeyOverlap, TableColumns, VERSION_LIMIT, VersionCounts, Versions,
+    CommitNumber, KeyOverlap, PortionChange, RowsChange, VERSION_LIMIT, VersionCounts, Versions,
 };
 
 /// The most commits of a book.
 pub(crate) const COMMIT_LIMIT: usize = 1_000_000;
 
-/// What refuses a change of a table's rows, after the first commits.
-pub(crate) fn refusal_in(table: &Table, commits: usize, change: &Change) -> Option<BookRefused>
-    requires { IsWellKept commits table.now }
-    ensures { result ≡ first_of (tests_of commits change.now (table_at commits table.now)) }
+/// What refuses a load, after the first commits.
+pub(crate) fn load_refusal(table: &Table, commits: usize, rows: &Drafts) -> Option<BookRefused>
+    ensures { (name : List ℕ) → result
+        ≡ first_of (tests_of commits (Load name rows.now) (table_at commits table.now)) }
 {
-    match change {
-        Change::Make { .. } => None,
-        Change::Load { rows, .. } => {
-            if !rows.all_fit(table.schema()) {
-                Some(BookRefused::WrongKind)
-            } else if is_full(commits, table.versions().len(), rows.len()) {
-                Some(BookRefused::Full)
-            } else {
-                None
-            }
-        }
-        Change::Update { sets, conds, .. } => {
-            portion_refusal(table, commits, change, sets.as_slice(), conds.as_slice())
-        }
-        Change::Delete { conds, .. } => {
-            portion_refusal(table, commits, change, &[], conds.as_slice())
-        }
-    }
-}
-
-/// What refuses a change of a portion with these settings and conditions.
-fn portion_refusal(
-    table: &Table,
-    commits: usize,
-    change: &Change,
-    sets: &[(Name, Value)],
-    conds: &[(Name, Value)],
-) -> Option<BookRefused>
-    requires { AllByRecursion (IsTimely commits) table.now.versions }
-    ensures { result ≡ first_of (flat_map (pair_tests table.now.schema) (sets.now ++ conds.now)
-        ++ full_tests commits (length table.now.versions + length
-        (parts_of_all change.now table.now.schema (shown commits table.now.versions)))) }
-{
-    let schema = table.schema();
-    if let Some(refused) = pairs_refusal(schema, sets) {
-        return Some(refused);
-    }
-    if let Some(refused) = pairs_refusal(schema, conds) {
-        return Some(refused);
-    }
-    if is_full_by_parts(schema, table.versions(), commits, change) {
+    if !rows.all_fit(table.schema()) {
+        Some(BookRefused::WrongKind)
+    } else if is_full(commits, table.versions().len(), rows.len()) {
         Some(BookRefused::Full)
     } else {
         None
     }
 }
 
+/// A change of a portion with these settings, if it has some, and conditions, after the first commits: what
+/// refuses it, or what it is bound to.
+pub(crate) fn bind_portion<'a>(
+    table: &Table,
+    commits: usize,
+    portion: Period,
+    sets: Option<&'a [(Name, Value)]>,
+    conds: &'a [(Name, Value)],
+) -> Result<Option<PortionChange<'a>>, BookRefused>
+    requires { AllByRecursion (IsTimely commits) table.now.versions }
+    ensures refused { result_err result ≡ first_of (portion_tests commits portion
+        (option_copied sets.entry) conds.entry.now (table_at commits table.now)) }
+    ensures bound { IfOk result (λ bound. Does (is_touched table.now.schema portion conds.entry.now)
+        (portion_parts table.now.schema portion (option_copied sets.entry) conds.entry.now)
+        (rows_changed bound)) }
+{
+    let bound = bind_pairs(table.schema(), portion, sets, conds)?;
+    if is_full_by_parts(table.versions(), commits, &bound) {
+        Err(BookRefused::Full)
+    } else {
+        Ok(bound)
+    }
+}
+
+/// The pairs of a change of a portion: what refuses them, or what it is bound to.
+fn bind_pairs<'a>(
+    schema: &Schema,
+    portion: Period,
+    sets: Option<&'a [(Name, Value)]>,
+    conds: &'a [(Name, Value)],
+) -> Result<Option<PortionChange<'a>>, BookRefused>
+    ensures refused { result_err result
+        ≡ first_of (flat_map (pair_tests schema.now)
+        (unwrap_or (option_copied sets.entry) [] ++ conds.entry.now)) }
+    ensures bound { IfOk result (λ bound. Does (is_touched schema.now portion conds.entry.now)
+        (portion_parts schema.now portion (option_copied sets.entry) conds.entry.now)
+        (rows_changed bound)) }
+{
+    let sets = bind_sets(schema, sets)?;
+    let conds = bind_conds(schema, conds)?;
+    match conds {
+        Some(conds) => Ok(Some(PortionChange {
+            portion,
+            sets,
+            conds,
+        })),
+        None => Ok(None),
+    }
+}
+
 /// Whether the parts of a change leave no room. They are counted only where that turns on them:
 /// not in a table without room, nor in one with room for all that there can be.
-fn is_full_by_parts(schema: &Schema, versions: &Versions, commits: usize, change: &Change) -> bool
+fn is_full_by_parts(versions: &Versions, commits: usize, change: &Option<PortionChange<'_>>) -> bool
     requires { AllByRecursion (IsTimely commits) versions.now }
     ensures { result ≡ (nat_le commit_limit commits || nat_lt version_limit (length versions.now
-        + length (parts_of_all change.now schema.now (shown commits versions.now)))) }
+        + length (by_place.drafts_of (rows_changed change.now) (shown commits versions.now)))) }
 {
     let used = versions.len();
     if commits >= COMMIT_LIMIT || used > VERSION_LIMIT {
         return true;
     }
-    if versions.most_parts() <= VERSION_LIMIT - used {
-        return false;
+    match change {
+        Some(change) => {
+            if versions.most_parts() <= VERSION_LIMIT - used {
+                false
+            } else {
+                is_full(commits, used, versions.count_parts(change))
+            }
+        }
+        None => false,
     }
-    let more = versions.count_parts(schema, change);
-    is_full(commits, used, more)
 }
 
 /// No commit may follow, or the versions would be too many.
@@ -108,8 +134,8 @@ fn is_full(commits: usize, versions: usize, more: usize) -> bool
     commits >= COMMIT_LIMIT || versions > VERSION_LIMIT || more > VERSION_LIMIT - versions
 }
 
-/// Makes the tables after one more commit, and answers how many versions it made and closed. Only the
-/// test of keys and want of memory are left to refuse it.
+/// Makes the tables after one more commit of a change that isn't bound to one of a portion, and answers how
+/// many versions it made and closed. Only the test of keys and want of memory are left to refuse it.
 pub(crate) fn change_tables(
     alloc: Global,
     tables: &mut Vec<Table>,
@@ -121,24 +147,15 @@ pub(crate) fn change_tables(
     requires well { IfSome (kept_table (table_named change) tables.old.items)
         (IsWellKept commits) }
     requires unbroken { IfSome (kept_table (table_named change) tables.old.items) IsUnbroken }
-    ensures ok { OnOk result (tables.new.items ≡ kept_tables_after commits tables.old.items change) }
-    ensures added { IfOk result (λ counts. counts.added
-        ≡ added_in commits change (kept_table (table_named change) tables.old.items)) }
-    ensures closed { IfOk result (λ counts. counts.closed
-        ≡ closed_in commits change (kept_table (table_named change) tables.old.items)) }
-    ensures apart { OnOk result (overlap_in commits change
-        (kept_table (table_named change) tables.old.items) ≡ false) }
-    ensures overlap { IfErr result (λ failure. failure ≢ NoMemory
-        → overlap_in commits change
-        (kept_table (table_named change) tables.old.items) ≡ true) }
-    ensures err { OnErr result (tables.new.items ≡ tables.old.items) }
+    requires bound { IfSome (kept_table (table_named change) tables.old.items)
+        (λ t. IsBound change t.schema None) }
+    ensures { IsMade commits change tables.old.items tables.new.items result }
 {
-    let name = table_of(&change);
     match &change {
-        Change::Make { schema, .. } => Ok(add_table(alloc, tables, name, schema)?),
-        Change::Load { .. } => change_table(alloc, tables, commits, name, change),
-        Change::Update { .. } => change_table(alloc, tables, commits, name, change),
-        Change::Delete { .. } => change_table(alloc, tables, commits, name, change),
+        Change::Make { table, schema } => Ok(add_table(alloc, tables, *table, schema)?),
+        Change::Load { .. } => load_rows(alloc, tables, commits, change),
+        Change::Update { .. } => load_rows(alloc, tables, commits, change),
+        Change::Delete { .. } => load_rows(alloc, tables, commits, change),
     }
 }
 
@@ -167,30 +184,58 @@ fn add_table(
     })
 }
 
+/// Adds the rows of a load to its table. A change of a portion has none.
+fn load_rows(
+    alloc: Global,
+    tables: &mut Vec<Table>,
+    commits: u64,
+    change: Change,
+) -> Result<VersionCounts, Failure<KeyOverlap>>
+    requires rows { IsOfRows change }
+    requires few { commits < commit_limit }
+    requires room { HasRoom commits change tables.old.items }
+    requires well { IfSome (kept_table (table_named change) tables.old.items)
+        (IsWellKept commits) }
+    requires unbroken { IfSome (kept_table (table_named change) tables.old.items) IsUnbroken }
+    requires bound { IfSome (kept_table (table_named change) tables.old.items)
+        (λ t. IsBound change t.schema None) }
+    ensures { IsMade commits change tables.old.items tables.new.items result }
+{
+    let name = table_of(&change);
+    let mut load = RowsChange::Load(rows_of(alloc, change));
+    change_table(alloc, tables, commits, name, &mut load)
+}
+
+/// The rows of a load, and none of another change.
+fn rows_of(alloc: Global, change: Change) -> Drafts
+    ensures { result ≡ rows_loaded change }
+{
+    match change {
+        Change::Load { table: _, rows } => rows,
+        Change::Make { .. } => Drafts::new(alloc),
+        Change::Update { .. } => Drafts::new(alloc),
+        Change::Delete { .. } => Drafts::new(alloc),
+    }
+}
+
 /// Changes the rows of the table of that name.
-fn change_table(
+pub(crate) fn change_table(
     alloc: Global,
     tables: &mut Vec<Table>,
     commits: u64,
     name: Name,
-    change: Change,
+    change: &mut RowsChange<'_>,
 ) -> Result<VersionCounts, Failure<KeyOverlap>>
     requires few { commits < commit_limit }
-    requires room { IfSome (kept_table name tables.old.items)
-        (λ t. (changed change (table_at commits t)).used ≤ version_limit) }
+    requires room { IfSome (kept_table name tables.old.items) (λ t. length t.versions
+        + length (by_place.drafts_of change.old (current t.versions)) ≤ version_limit) }
     requires well { IfSome (kept_table name tables.old.items) (IsWellKept commits) }
     requires unbroken { IfSome (kept_table name tables.old.items) IsUnbroken }
-    ensures ok { OnOk result (tables.new.items
-        ≡ at_kept name (kept_table_after commits change) tables.old.items) }
-    ensures added { IfOk result (λ counts. counts.added
-        ≡ added_in commits change (kept_table name tables.old.items)) }
-    ensures closed { IfOk result (λ counts. counts.closed
-        ≡ closed_in commits change (kept_table name tables.old.items)) }
-    ensures apart { OnOk result
-        (overlap_in commits change (kept_table name tables.old.items) ≡ false) }
-    ensures overlap { IfErr result (λ failure. failure ≢ NoMemory
-        → overlap_in commits change (kept_table name tables.old.items) ≡ true) }
-    ensures err { OnErr result (tables.new.items ≡ tables.old.items) }
+
+    // It makes each change by names that does the same.
+    ensures { (c : AnyChange) → table_named c ≡ name → IsOfRows c
+        → IfSome (kept_table name tables.old.items) (λ t. DoesTheSame c t.schema change.old)
+        → IsMade commits c tables.old.items tables.new.items result }
 {
     let Some(at) = place_of(tables, name) else {
         return Ok(VersionCounts {
@@ -200,7 +245,8 @@ fn change_table(
     };
     let table = &mut tables[at];
     let commit = next_commit(commits);
-    change_versions(alloc, &mut table.versions, &table.columns, commit, change)
+    let key = table.columns.key();
+    change_versions(alloc, &mut table.versions, key, commit, change)
 }
 
 /// The number of the commit that follows so many.
@@ -219,30 +265,31 @@ fn next_commit(commits: u64) -> CommitNumber
 fn change_versions(
     alloc: Global,
     shared: &mut Arc<Versions>,
-    schema: &TableColumns,
+    key: &[u32],
     commit: CommitNumber,
-    change: Change,
+    change: &mut RowsChange<'_>,
 ) -> Result<VersionCounts, Failure<KeyOverlap>>
     requires room { length (arc_value shared.old)
-        + length (drafts_of change schema.now (current (arc_value shared.old))) ≤ version_limit }
-    requires unbroken { break_key (key_of schema.now)
+        + length (by_place.drafts_of change.old (current (arc_value shared.old))) ≤ version_limit }
+    requires unbroken { break_key key.now
         (map unnumbered (current (arc_value shared.old))) ≡ false }
     ensures ok { OnOk result (arc_value shared.new
-        ≡ versions_after commit change schema.now (arc_value shared.old)) }
+        ≡ versions_after commit change.old (arc_value shared.old)) }
     ensures counts { IfOk result (λ counts.
-        (counts.added ≡ length (drafts_of change schema.now (current (arc_value shared.old))))
+        (counts.added ≡ length (by_place.drafts_of change.old (current (arc_value shared.old))))
         × (counts.closed
-        ≡ count_by (removes change schema.now) (current (arc_value shared.old)))) }
-    ensures apart { OnOk result (overlap_after change schema.now (arc_value shared.old) ≡ false) }
+        ≡ count_by (by_place.removes change.old) (current (arc_value shared.old)))) }
+    ensures apart { OnOk result
+        (overlap_after change.old key.now (arc_value shared.old) ≡ false) }
     ensures overlap { IfErr result (λ failure. failure ≢ NoMemory
-        → overlap_after change schema.now (arc_value shared.old) ≡ true) }
+        → overlap_after change.old key.now (arc_value shared.old) ≡ true) }
     ensures err { OnErr result (arc_value shared.new ≡ arc_value shared.old) }
 {
     match Arc::get_mut(shared) {
-        Some(versions) => versions.apply(alloc, schema, commit, change),
+        Some(versions) => versions.apply(alloc, key, commit, change),
         None => {
             let mut versions = shared.copy(alloc)?;
-            let counts = versions.apply(alloc, schema, commit, change)?;
+            let counts = versions.apply(alloc, key, commit, change)?;
             *shared = Arc::new(alloc, versions)?;
             Ok(counts)
         }

@@ -1,32 +1,40 @@
 //! Books: the history of accepted changes, what refuses one more, and what each commit shows.
 
-ghost use Rattle.std.specs.Prelude.{◌≡◌, ◌+◌, ◌≤◌, ℕ, List, [], ◌∷◌, ◌++◌, filter, length, map, take, All, IfErr, IfOk, IsTrue, IfSome, IfNone, OnOk, OnErr, IsOkUnless, nat_lt, nat_le};
+ghost use Rattle.std.specs.Prelude.{◌≡◌, ◌+◌, ◌≤◌, ℕ, List, [], ◌∷◌, ◌++◌, filter, length, map, take, All, IfErr, IfOk, IsTrue, IfSome, IfNone, MatchOption, None, OnOk, OnErr, Some, IsOkUnless, nat_lt, nat_le};
+ghost use Rattle.std.specs.Option.{option_copied};
+ghost use Rattle.std.specs.Result.{result_err};
+ghost use Rattle.book_core.specs.Rows.{is_touched};
 ghost use Rattle.period_core.specs.Period.{holds_at};
-ghost use Rattle.row_core.specs.Refusals.{IsAnswer, map_ok};
+ghost use Rattle.row_core.specs.Refusals.{IsAnswer, first_of, map_ok};
 ghost use Rattle.row_core.specs.Rows.{RowsRise};
 ghost use Rattle.row_core.specs.Schema.{fits};
 ghost use Rattle.row_core.specs.declared.failure.Failure.TheVariants.{NoMemory, Refused};
 ghost use Rattle.row_core.specs.declared.row.Row.{Row};
 ghost use Rattle.version_core.specs.Limits.{version_limit};
 ghost use Rattle.version_core.specs.Shown.{shown};
+ghost use Rattle.book_core.specs.Bound.{Does, IsBound, portion_parts, portion_tests, rows_changed};
 ghost use Rattle.book_core.specs.History.{History, IsLegal, state_after, rows_at, rows_given, between_refusal, schema_in};
 ghost use Rattle.book_core.specs.Limits.{commit_limit};
-ghost use Rattle.book_core.specs.State.{KeyHolds, first_refusal, refusal_of, table_of, IsRefusedAs};
+ghost use Rattle.book_core.specs.State.{KeyHolds, first_refusal, refusal_of, table_named, table_of, with_table, IsRefusedAs};
 ghost use Rattle.book_core.specs.StoredTables.{IsTableOf};
+ghost use Rattle.book_core.specs.declared.change.Change.TheVariants.{Load, Make};
+ghost use Rattle.row_core.specs.declared.schema.Column.{Column as AnyColumn};
 ghost use Rattle.book_core.specs.Versions.{AreBetween, AreFromTo, log_of};
 
-use crate::apply::{COMMIT_LIMIT, change_tables, refusal_in};
+use crate::apply::{COMMIT_LIMIT, bind_portion, change_table, change_tables, load_refusal};
+use crate::change::Change;
 use crate::commit::{Commit, Commits};
 use crate::log::{Entry, Log, change_kind, entry_of, table_of};
 use crate::refusal::{BookRefused, NoTable, RowsRefused, VersionsRefused, overlap_failure};
 use crate::table::{Table, find_table};
+use draft_core::Drafts;
 use list_core::copy_each;
-use period_core::Point;
-use row_core::{Failure, Name, NoMemory, Schema};
+use period_core::{Period, Point};
+use row_core::{Failure, Name, NoMemory, Schema, Value};
 use std::alloc::Global;
 use std::fmt;
 use std::marker::Model;
-use version_core::{Change, SharedRows, SharedVersions};
+use version_core::{PortionChange, RowsChange, SharedRows, SharedVersions};
 
 /// The most tables of a book.
 const TABLE_LIMIT: usize = 64;
@@ -116,16 +124,24 @@ impl Book {
         ensures ok { OnOk result (self.new ≡ self.old ++ record { by = by; change = change } ∷ []) }
         ensures err { OnErr result (self.new ≡ self.old) }
     {
-        if let Some(refused) = self.refusal(&change) {
-            return Err(Failure::Refused(refused));
-        }
         let commits = self.commits();
-        self.log.reserve(1)?;
         let kind = change_kind(&change);
         let table = table_of(&change);
         let commit = Commit { by, change };
+        let bound = match self.bind(&commit.change) {
+            Ok(bound) => bound,
+            Err(refused) => return Err(Failure::Refused(refused)),
+        };
+        self.log.reserve(1)?;
         let history = self.history.followed_by(&commit);
-        let counts = match change_tables(self.alloc, &mut self.tables, commits, commit.change) {
+        let made = match bound {
+            Some(portion) => {
+                let mut change = RowsChange::Portion(portion);
+                change_table(self.alloc, &mut self.tables, commits, table, &mut change)
+            }
+            None => change_tables(self.alloc, &mut self.tables, commits, commit.change),
+        };
+        let counts = match made {
             Ok(counts) => counts,
             Err(why) => return Err(overlap_failure(why)),
         };
@@ -141,31 +157,89 @@ impl Book {
     pub fn refusal(&self, change: &Change) -> Option<BookRefused>
         ensures { result ≡ first_refusal (length self.now) (state_after self.now) change.now }
     {
-        let commits = self.commits() as usize;
+        self.bind(change).err()
+    }
+
+    /// A change: what refuses it before its rows' keys are tested, or what one of a portion is bound to.
+    fn bind<'a>(&self, change: &'a Change) -> Result<Option<PortionChange<'a>>, BookRefused>
+        ensures refused { result_err result
+            ≡ first_refusal (length self.now) (state_after self.now) change.entry.now }
+        ensures bound { IfOk result (λ bound. MatchOption
+            (table_of (state_after self.now) (table_named change.entry.now)) (bound ≡ None)
+            (λ t. IsBound change.entry.now t.schema bound)) }
+    {
         match change {
-            Change::Make { table, .. } => {
-                if self.table(*table).is_some() {
-                    Some(BookRefused::TableExists)
-                } else if self.tables.len() >= TABLE_LIMIT {
-                    Some(BookRefused::TooMany)
-                } else if commits >= COMMIT_LIMIT {
-                    Some(BookRefused::Full)
-                } else {
-                    None
-                }
-            }
-            Change::Load { table, .. } => match self.table(*table) {
-                None => Some(BookRefused::NoTable),
-                Some(table) => refusal_in(table, commits, change),
+            Change::Make { table, .. } => match self.table_refusal(*table) {
+                Some(refused) => Err(refused),
+                None => Ok(None),
             },
-            Change::Update { table, .. } => match self.table(*table) {
-                None => Some(BookRefused::NoTable),
-                Some(table) => refusal_in(table, commits, change),
+            Change::Load { table, rows } => match self.load_refusal(*table, rows) {
+                Some(refused) => Err(refused),
+                None => Ok(None),
             },
-            Change::Delete { table, .. } => match self.table(*table) {
-                None => Some(BookRefused::NoTable),
-                Some(table) => refusal_in(table, commits, change),
-            },
+            Change::Update {
+                table,
+                portion,
+                sets,
+                conds,
+            } => self.bind_portion(*table, *portion, Some(sets.as_slice()), conds.as_slice()),
+            Change::Delete {
+                table,
+                portion,
+                conds,
+            } => self.bind_portion(*table, *portion, None, conds.as_slice()),
+        }
+    }
+
+    /// What refuses a new table of that name.
+    fn table_refusal(&self, name: Name) -> Option<BookRefused>
+        ensures { (schema : List AnyColumn) → result
+            ≡ first_refusal (length self.now) (state_after self.now) (Make name schema) }
+    {
+        if self.table(name).is_some() {
+            Some(BookRefused::TableExists)
+        } else if self.tables.len() >= TABLE_LIMIT {
+            Some(BookRefused::TooMany)
+        } else if self.commits() as usize >= COMMIT_LIMIT {
+            Some(BookRefused::Full)
+        } else {
+            None
+        }
+    }
+
+    /// What refuses a load into the table of that name.
+    fn load_refusal(&self, name: Name, rows: &Drafts) -> Option<BookRefused>
+        ensures { result
+            ≡ first_refusal (length self.now) (state_after self.now) (Load name rows.now) }
+    {
+        let commits = self.commits() as usize;
+        match self.table(name) {
+            None => Some(BookRefused::NoTable),
+            Some(table) => load_refusal(table, commits, rows),
+        }
+    }
+
+    /// A change of a portion of that table: what refuses it, or what it is bound to.
+    fn bind_portion<'a>(
+        &self,
+        name: Name,
+        portion: Period,
+        sets: Option<&'a [(Name, Value)]>,
+        conds: &'a [(Name, Value)],
+    ) -> Result<Option<PortionChange<'a>>, BookRefused>
+        ensures refused { result_err result ≡ with_table (table_of (state_after self.now) name)
+            (λ t. first_of (portion_tests (length self.now) portion
+            (option_copied sets.entry) conds.entry.now t)) }
+        ensures bound { IfOk result (λ bound. MatchOption
+            (table_of (state_after self.now) name) (bound ≡ None)
+            (λ t. Does (is_touched t.schema portion conds.entry.now)
+            (portion_parts t.schema portion (option_copied sets.entry) conds.entry.now)
+            (rows_changed bound))) }
+    {
+        let commits = self.commits() as usize;
+        match self.table(name) {
+            None => Err(BookRefused::NoTable),
+            Some(table) => bind_portion(table, commits, portion, sets, conds),
         }
     }
 
@@ -222,7 +296,8 @@ impl Book {
     ) -> Result<SharedRows, Failure<RowsRefused>>
         // Of the rows that `rows_at` gives, those that hold.
         ensures given { IsAnswer
-            (map_ok (filter (λ (row : Row). holds_at point row.period)) (rows_given self.now n name)) result }
+            (map_ok (filter (λ (row : Row). holds_at point row.period))
+            (rows_given self.now n name)) result }
 
         ensures few { IfOk result (λ rows. length rows ≤ version_limit) }
         ensures rise { IfOk result RowsRise }
@@ -238,7 +313,8 @@ impl Book {
     /// The table of that name, where commit n can be read.
     fn table_at(&self, n: u64, name: Name) -> Result<&Table, RowsRefused>
         ensures found { IfOk result (λ table. IsTableOf self.now name table.now) }
-        ensures given { IfOk result (λ table. rows_given self.now n name ≡ Ok (shown n table.now.versions)) }
+        ensures given { IfOk result (λ table.
+            rows_given self.now n name ≡ Ok (shown n table.now.versions)) }
         ensures refused { IfErr result (λ refused. rows_given self.now n name ≡ Err refused) }
     {
         if n > self.commits() {

@@ -4,8 +4,8 @@ ghost use Rattle.std.specs.Prelude.{◌≡◌, [], ◌∷◌, ◌++◌};
 ghost use Rattle.std.specs.Borrow.{ftrue};
 ghost use Rattle.book_core.specs.History.{History};
 
+use crate::change::Change;
 use std::marker::Model;
-use version_core::Change;
 
 /// A change that was accepted, and by whom.
 #[derive(Drop)]

@@ -6,10 +6,11 @@ ghost use Rattle.book_core.specs.State.{table_named};
 ghost use Rattle.book_core.specs.Versions.{change_kind};
 ghost use Rattle.book_core.specs.Words.{word_of};
 
+use crate::change::Change;
 use list_core::List;
 use row_core::Name;
 use std::fmt;
-use version_core::{Change, VersionCounts};
+use version_core::VersionCounts;
 
 /// The kinds of change.
 #[derive(Clone, Copy, Debug, PartialEq, Eq)]

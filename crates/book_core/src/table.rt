@@ -4,12 +4,13 @@ ghost use Rattle.std.specs.Prelude.{◌≡◌, position, bytes_eq};
 ghost use Rattle.std.specs.Option.{option_copied};
 ghost use Rattle.book_core.specs.StoredTables.{kept_table};
 
+use crate::table_columns::TableColumns;
 use list_core::DeepCopy;
 use row_core::{Name, NoMemory, Schema};
 use std::alloc::Global;
 use std::marker::Model;
 use std::sync::Arc;
-use version_core::{TableColumns, Versions};
+use version_core::Versions;
 
 /// A table with all versions of its rows, which copies share until one of them is changed.
 #[derive(Drop)]
@@ -25,7 +26,11 @@ impl Model for Table {
 
     ghost Value = { StoredTable };
 
-    ghost view = { λ t. record { name = t.name; schema = t.columns; versions = arc_value t.versions } };
+    ghost view = { λ t. record {
+      name = t.name;
+      schema = t.columns;
+      versions = arc_value t.versions;
+    } };
 }
 
 impl Table {

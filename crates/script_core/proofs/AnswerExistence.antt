@@ -7,9 +7,9 @@ use Rattle.book_core.specs.History as history
 use Rattle.book_core.specs.State.{refusal_of}
 use Rattle.book_core.specs.Versions.{AreBetween, AreFromTo, log_of}
 use Rattle.book_core.specs.declared.refusal.BookRefused.{BookRefused}
-use Rattle.version_core.specs.declared.change.Change.{Change}
+use Rattle.book_core.specs.declared.change.Change.{Change}
 use Rattle.version_core.specs.declared.version.Version.{Version}
-use Rattle.version_core.specs.declared.change.Change.TheVariants as change
+use Rattle.book_core.specs.declared.change.Change.TheVariants as change
 use Rattle.book_core.proofs.Applying.{IsLegal-push}
 use Rattle.book_core.proofs.VersionsExistence.{some_between, some_from_to}
 use Rattle.row_core.specs.declared.row.Row.{Row}

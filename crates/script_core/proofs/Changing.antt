@@ -4,7 +4,7 @@ use Rattle.std.specs.Prelude.{option_map}
 use Rattle.row_core.specs.Refusals.{refused_or}
 use Rattle.row_core.specs.declared.failure.Failure as row
 use Rattle.row_core.specs.declared.failure.Failure.TheVariants.{Refused, NoMemory}
-use Rattle.version_core.specs.declared.change.Change.{Change}
+use Rattle.book_core.specs.declared.change.Change.{Change}
 use Rattle.book_core.specs.History.{History}
 use Rattle.book_core.specs.declared.refusal.BookRefused.{BookRefused}
 use Rattle.store_core.specs.Histories.{RefusesCommit, refusal_after}

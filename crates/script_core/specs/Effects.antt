@@ -13,10 +13,10 @@ use Rattle.row_core.specs.declared.schema.Column.{Column}
 use Rattle.row_core.specs.declared.value.Kind.{Kind}
 use Rattle.book_core.specs.History.{History, rows_given, schema_in, state_after}
 use Rattle.book_core.specs.History as history
-use Rattle.version_core.specs.Rows.{Pair}
+use Rattle.book_core.specs.Rows.{Pair}
 use Rattle.book_core.specs.State.{refusal_of}
-use Rattle.version_core.specs.declared.change.Change.{Change}
-use Rattle.version_core.specs.declared.change.Change.TheVariants as change
+use Rattle.book_core.specs.declared.change.Change.{Change}
+use Rattle.book_core.specs.declared.change.Change.TheVariants as change
 use Rattle.command_core.specs.Fields.{natural_in}
 use Rattle.match_core.specs.Columns.{columns_refusal}
 use Rattle.command_core.specs.Pairs.{Compared, TextPair}

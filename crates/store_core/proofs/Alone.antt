@@ -2,7 +2,7 @@
 use Rattle.std.proofs.Common.{◌≡◌, ℕ, suc, [], ◌∷◌, ◌++◌, Bool, cond, Ok, Err, None, Some, refl, sym, ap, subst, ◌∙◌, append-nil, arith, eq-eqb}
 use Rattle.std.proofs.lemmas.List.{same_from_push}
 use Rattle.row_core.specs.declared.failure.Failure.TheVariants.{NoMemory, Refused}
-use Rattle.version_core.specs.declared.change.Change.{Change}
+use Rattle.book_core.specs.declared.change.Change.{Change}
 use Rattle.book_core.specs.History.{History}
 use Rattle.book_core.specs.declared.refusal.BookRefused.{BookRefused}
 use Rattle.turn_core.specs.Entries.{own, AreOfCallers}

@@ -2,7 +2,7 @@
 use Rattle.std.proofs.Common.{◌≡◌, ℕ, inl, inr, Option, Some, None, Result, Ok, Err, IfErr, IfSome, IfNone, IsOkUnless, refl, ap, ◌∙◌, sym, subst}
 use Rattle.row_core.specs.declared.failure.Failure.{Failure}
 use Rattle.row_core.specs.declared.failure.Failure.TheVariants.{Refused, NoMemory}
-use Rattle.version_core.specs.declared.change.Change.{Change}
+use Rattle.book_core.specs.declared.change.Change.{Change}
 use Rattle.book_core.specs.History.{History}
 use Rattle.book_core.specs.State.{IsRefusedAs}
 use Rattle.book_core.specs.declared.refusal.BookRefused.{BookRefused}

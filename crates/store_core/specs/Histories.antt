@@ -5,7 +5,7 @@ use mathlib.Core.Path.{path_j'}
 use Rattle.std.specs.Coded.{Π_prop, →_prop, Unit-prop}
 use Rattle.row_core.specs.declared.failure.Failure.{Failure}
 use Rattle.row_core.specs.declared.failure.Failure.TheVariants.{Refused, NoMemory}
-use Rattle.version_core.specs.declared.change.Change.{Change}
+use Rattle.book_core.specs.declared.change.Change.{Change}
 use Rattle.book_core.specs.History.{History, IsLegal, state_after}
 use Rattle.book_core.specs.State.{refusal_of}
 use Rattle.book_core.specs.declared.refusal.BookRefused.{BookRefused}

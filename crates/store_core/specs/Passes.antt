@@ -3,7 +3,7 @@ use Rattle.std.specs.Prelude.{◌≡◌, ◌⊎◌, ℕ, ◌+◌, List, [], ◌�
 use mathlib.Core.List.{IsPrefix}
 use Rattle.row_core.specs.declared.failure.Failure.{Failure}
 use Rattle.row_core.specs.declared.failure.Failure.TheVariants.{Refused, NoMemory}
-use Rattle.version_core.specs.declared.change.Change.{Change}
+use Rattle.book_core.specs.declared.change.Change.{Change}
 use Rattle.book_core.specs.History.{History, IsLegal}
 use Rattle.book_core.specs.Versions.{log_of}
 use Rattle.book_core.specs.declared.commit.Commit.{Commit}

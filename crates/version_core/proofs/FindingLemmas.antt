@@ -1,7 +1,7 @@
 -- Lists of places stay true as versions are closed and added.
 use Rattle.std.proofs.Common.{◌≡◌, ℕ, ◌+◌, ◌<◌, ◌≤◌, List, [], ◌∷◌, ◌++◌, Bool, true, false, ◌&&◌, not, cond, Option, Some, None, length, map, take, ◌*◌, zero, suc, refl, ap, sym, subst, ◌∙◌, arith, append_assoc, length-append}
 use Rattle.std.specs.Prelude.{slice_get, filter, unwrap_or, option_map, is_none, is_some, All}
-use Rattle.std.specs.List.{AllByRecursion, list_all, list_any, range_with_len}
+use Rattle.std.specs.List.{AllByRecursion, list_any, range_with_len}
 use Rattle.std.proofs.lemmas.List.{append-nil, length-map, take_at}
 use Rattle.std.proofs.lemmas.List.Elements.{filter-append, filter_agree, All-append, All-filter, All-from_recursion, All-weaker, recursion_from_All}
 use Rattle.std.proofs.lemmas.List.Sums.{count_by-le-length, length-filter}
@@ -11,22 +11,22 @@ use Rattle.std.proofs.lemmas.Bool.{and_parts, or_parts}
 use Rattle.list_core.proofs.PlaceLemmas.{slice_get-before, slice_get-seam}
 use Rattle.key_core.proofs.Replaced.{append-parts}
 use Rattle.row_core.specs.declared.row.Row.{Row}
-use Rattle.row_core.specs.declared.schema.Column.{Column}
 use Rattle.draft_core.specs.Reached.{is_reached}
-use Rattle.version_core.specs.Finding.{AreCandidates, ListsOpen, any_row, passes, portion_of}
+use Rattle.version_core.specs.Finding.{AreCandidates, ListsOpen, any_row, passes}
 use Rattle.version_core.specs.OpenVersions.{closed, current, is_open, is_taken, places_from, versions_after}
 use Rattle.version_core.specs.Made.{made}
 use Rattle.table_core.specs.Numbered.{numbered, row_of}
-use Rattle.version_core.specs.Rows.{drafts_of, is_equal_at, parts_of_all, removes}
+use Rattle.portion_core.specs.Wanted.{are_wanted}
+use Rattle.portion_core.specs.declared.portion_change.PortionChange.{PortionChange}
+use Rattle.version_core.specs.Rows.{drafts_of, parts_of_all, removes}
 use Rattle.version_core.specs.Stored.{SystemPeriod, version_of, versions_of}
-use Rattle.version_core.specs.declared.change.Change.TheVariants.{Make, Load, Update, Delete}
+use Rattle.version_core.specs.declared.change.RowsChange.TheVariants.{Portion}
 use Rattle.period_core.specs.Period.{meet}
-use Rattle.period_core.specs.declared.period.Period.{Period}
 use Rattle.row_core.specs.declared.draft.Draft.{Draft}
 use Rattle.version_core.specs.Limits.{version_limit}
-use Rattle.version_core.specs.declared.change.Change.{Change}
+use Rattle.version_core.specs.declared.change.RowsChange.{RowsChange}
 use Rattle.version_core.specs.declared.version.Version.{Version}
-use Rattle.version_core.proofs.OpenLemmas.{bounded, filter-behind, filter-places_from, length-fresh, length-open, none-taken, parts-few, places_from-append}
+use Rattle.version_core.proofs.OpenLemmas.{bounded, filter-behind, filter-places_from, length-fresh, length-open, parts-few, places_from-append}
 
 -- filters of filters
 
@@ -121,15 +121,15 @@ narrowed o false true h = absurd (let e = h refl in cc)
 narrowed true false false h = refl
 narrowed false false false h = refl
 
-pub candidates-listed : (c : Change) (schema : List Column) (vs : List Version) (test : Row → Bool) (places : List ℕ)
-    → ListsOpen vs test places → ((row : Row) → removes c schema row ≡ true → test row ≡ true)
-    → AreCandidates c schema vs places
-candidates-listed c schema vs test places h covers = record {
+pub candidates-listed : (c : RowsChange) (vs : List Version) (test : Row → Bool) (places : List ℕ)
+    → ListsOpen vs test places → ((row : Row) → removes c row ≡ true → test row ≡ true)
+    → AreCandidates c vs places
+candidates-listed c vs test places h covers = record {
   inside = h.inside;
   few = h.few;
-  taken = filter-listed vs test (λ v. removes c schema v.row) places h
-      ∙ places_from-agree (λ v. (is_open v && test v.row) && removes c schema v.row) (is_taken c schema)
-      (λ v. narrowed (is_open v) (test v.row) (removes c schema v.row) (covers v.row)) 0 vs;
+  taken = filter-listed vs test (λ v. removes c v.row) places h
+      ∙ places_from-agree (λ v. (is_open v && test v.row) && removes c v.row) (is_taken c)
+      (λ v. narrowed (is_open v) (test v.row) (removes c v.row) (covers v.row)) 0 vs;
 }
 
 -- versions are closed
@@ -275,108 +275,88 @@ ListsOpen-none test = record { inside = All-from_recursion (λ place. place < 0)
 -- what a change makes of them
 
 -- at most three parts for each place
-pub parts-listed : (c : Change) (schema : List Column) (vs : List Version) (places : List ℕ)
-    → ListsOpen vs any_row places → length (parts_of_all c schema (current vs)) ≤ 3 * length places
-parts-listed c schema vs places h =
+pub parts-listed : (c : RowsChange) (vs : List Version) (places : List ℕ)
+    → ListsOpen vs any_row places → length (parts_of_all c (current vs)) ≤ 3 * length places
+parts-listed c vs places h =
     let same = ap length
     (h.exact ∙ places_from-agree (λ v. is_open v && true) is_open (λ v. and-true (is_open v)) 0 vs) in
-    omega (arith, same, length-open 0 vs, parts-few c schema (current vs), length-filter-le (passes vs is_open) places)
+    omega (arith, same, length-open 0 vs, parts-few c (current vs), length-filter-le (passes vs is_open) places)
 
 -- they are as many as there is room for
-pub versions_after-few : (n : ℕ) (c : Change) (schema : List Column) (vs now : List Version)
-    → now ≡ versions_after n c schema vs
-    → length vs + length (drafts_of c schema (current vs)) ≤ version_limit → length now ≤ version_limit
-versions_after-few n c schema vs now e room =
-    let fresh = made n (numbered (length vs) (drafts_of c schema (current vs))) in
-    let closing = map (closed n (removes c schema)) vs in
+pub versions_after-few : (n : ℕ) (c : RowsChange) (vs now : List Version)
+    → now ≡ versions_after n c vs
+    → length vs + length (drafts_of c (current vs)) ≤ version_limit → length now ≤ version_limit
+versions_after-few n c vs now e room =
+    let fresh = made n (numbered (length vs) (drafts_of c (current vs))) in
+    let closing = map (closed n (removes c)) vs in
     omega (
       arith,
       ap length e,
       length-append closing fresh,
       length-map vs
-          (closed n (removes c schema)),
-      length-fresh n (length vs) (drafts_of c schema (current vs)),
+          (closed n (removes c)),
+      length-fresh n (length vs) (drafts_of c (current vs)),
       room,
     )
 
 -- and found by the places of those before and the new ones
-pub all-versions_after : (n before count : ℕ) (c : Change) (schema : List Column) (vs fresh now : List Version)
-    (places grown : List ℕ) → now ≡ versions_after n c schema vs
-    → fresh ≡ made n (numbered (length vs) (drafts_of c schema (current vs))) → before ≡ length vs
+pub all-versions_after : (n before count : ℕ) (c : RowsChange) (vs fresh now : List Version)
+    (places grown : List ℕ) → now ≡ versions_after n c vs
+    → fresh ≡ made n (numbered (length vs) (drafts_of c (current vs))) → before ≡ length vs
     → count ≡ length fresh
     → grown ≡ places ++ range_with_len before count → ListsOpen vs any_row places → ListsOpen now any_row grown
-all-versions_after n before count c schema vs fresh now places grown e f b k g h =
+all-versions_after n before count c vs fresh now places grown e f b k g h =
     rw (e, ← f, g)
-    (ListsOpen-grown (map (closed n (removes c schema)) vs) fresh places before count
-    (b ∙ sym (length-map vs (closed n (removes c schema)))) k
-    (ListsOpen-closed n (removes c schema) vs any_row places h))
+    (ListsOpen-grown (map (closed n (removes c)) vs) fresh places before count
+    (b ∙ sym (length-map vs (closed n (removes c)))) k
+    (ListsOpen-closed n (removes c) vs any_row places h))
 
 -- without the new ones
-pub versions_after-front : (n before : ℕ) (c : Change) (schema : List Column) (vs now : List Version)
-    → now ≡ versions_after n c schema vs → before ≡ length vs → take before now ≡ map (closed n (removes c schema)) vs
-versions_after-front n before c schema vs now e b =
+pub versions_after-front : (n before : ℕ) (c : RowsChange) (vs now : List Version)
+    → now ≡ versions_after n c vs → before ≡ length vs → take before now ≡ map (closed n (removes c)) vs
+versions_after-front n before c vs now e b =
     ap (take before) e
-    ∙ take_at (map (closed n (removes c schema)) vs)
-    (made n (numbered (length vs) (drafts_of c schema (current vs)))) before
-    (length-map vs (closed n (removes c schema)) ∙ sym b)
+    ∙ take_at (map (closed n (removes c)) vs)
+    (made n (numbered (length vs) (drafts_of c (current vs)))) before
+    (length-map vs (closed n (removes c)) ∙ sym b)
 
 -- ---- places at which a change reaches a row
 
--- a change without a portion takes out no row
-pub no-portion : (c : Change) (schema : List Column) (vs : List Version) → portion_of c ≡ None
-    → places_from (is_taken c schema) 0 vs ≡ []
-no-portion (Make t s) schema vs e = none-taken 0 vs
-no-portion (Load t rows) schema vs e = none-taken 0 vs
-no-portion (Update t portion sets conds) schema vs e = absurd (cc)
-no-portion (Delete t portion conds) schema vs e = absurd (cc)
-
 -- what one takes out its portion reaches
-taken-reached : (c : Change) (schema : List Column) (portion : Period) (v : Version) → portion_of c ≡ Some portion
-    → is_taken c schema v ≡ true → is_some (meet v.row.period portion) ≡ true
-taken-reached (Make t s) schema portion v e taken = absurd (cc)
-taken-reached (Load t rows) schema portion v e taken = absurd (cc)
-taken-reached (Update t p sets conds) schema portion v e taken =
-    let touched = (and_parts (is_open v) (removes (Update t p sets conds) schema v.row) taken).1 in
-    let same : p ≡ portion = cc in
-    ap (λ q. is_some (meet v.row.period q)) (sym same)
-    ∙ (and_parts (list_all (is_equal_at schema v.row.values) conds) (is_some (meet v.row.period p)) touched).1
-taken-reached (Delete t p conds) schema portion v e taken =
-    let touched = (and_parts (is_open v) (removes (Delete t p conds) schema v.row) taken).1 in
-    let same : p ≡ portion = cc in
-    ap (λ q. is_some (meet v.row.period q)) (sym same)
-    ∙ (and_parts (list_all (is_equal_at schema v.row.values) conds) (is_some (meet v.row.period p)) touched).1
+taken-reached : (change : PortionChange) (v : Version) → is_taken (Portion change) v ≡ true
+    → is_some (meet v.row.period change.portion) ≡ true
+taken-reached change v taken =
+    let touched = (and_parts (is_open v) (removes (Portion change) v.row) taken).1 in
+    (and_parts (are_wanted change.conds v.row.values) (is_some (meet v.row.period change.portion)) touched).1
 
-reached-at : (c : Change) (schema : List Column) (portion : Period) (used : ℕ) (rows : List Draft)
-    (system_periods : List SystemPeriod)
-    (place : ℕ) → portion_of c ≡ Some portion
-    → passes (versions_of (numbered used rows) system_periods) (is_taken c schema) place ≡ true
-    → is_reached portion rows place ≡ true
-reached-at c schema portion used [] system_periods place of taken = absurd (cc)
-reached-at c schema portion used (d ∷ ds) [] place of taken = absurd (cc)
-reached-at c schema portion used (d ∷ ds) (s ∷ ss) zero of taken =
-    taken-reached c schema portion (version_of (row_of (used + 1) d) s) of taken
-reached-at c schema portion used (d ∷ ds) (s ∷ ss) (suc place) of taken =
-    reached-at c schema portion (used + 1) ds ss place of taken
+reached-at : (change : PortionChange) (used : ℕ) (rows : List Draft) (system_periods : List SystemPeriod)
+    (place : ℕ) → passes (versions_of (numbered used rows) system_periods) (is_taken (Portion change)) place ≡ true
+    → is_reached change.portion rows place ≡ true
+reached-at change used [] system_periods place taken = absurd (cc)
+reached-at change used (d ∷ ds) [] place taken = absurd (cc)
+reached-at change used (d ∷ ds) (s ∷ ss) zero taken =
+    taken-reached change (version_of (row_of (used + 1) d) s) taken
+reached-at change used (d ∷ ds) (s ∷ ss) (suc place) taken = reached-at change (used + 1) ds ss place taken
 
 -- so where the portion reaches none of some rows, the change takes out none of them
-pub none-reached : (c : Change) (schema : List Column) (portion : Period) (rows : List Draft)
-    (system_periods : List SystemPeriod)
-    (vs : List Version) (places : List ℕ) → portion_of c ≡ Some portion
-    → versions_of (numbered 0 rows) system_periods ≡ vs
-    → list_any (is_reached portion rows) places ≡ false → filter (passes vs (is_taken c schema)) places ≡ []
-none-reached c schema portion rows system_periods vs [] of is none = refl
-none-reached c schema portion rows system_periods vs (place ∷ places) of is none =
-    let taken = passes vs (is_taken c schema) in
-    let both = or_parts (is_reached portion rows place) (list_any (is_reached portion rows) places) none in
+pub none-reached : (change : PortionChange) (rows : List Draft) (system_periods : List SystemPeriod)
+    (vs : List Version) (places : List ℕ) → versions_of (numbered 0 rows) system_periods ≡ vs
+    → list_any (is_reached change.portion rows) places ≡ false
+    → filter (passes vs (is_taken (Portion change))) places ≡ []
+none-reached change rows system_periods vs [] is none = refl
+none-reached change rows system_periods vs (place ∷ places) is none =
+    let taken = passes vs (is_taken (Portion change)) in
+    let both = or_parts (is_reached change.portion rows place) (list_any (is_reached change.portion rows) places)
+    none in
     ap (λ b. cond b (place ∷ filter taken places) (filter taken places)) (by_test (taken place) refl both.0)
-    ∙ none-reached c schema portion rows system_periods vs places of is both.1
+    ∙ none-reached change rows system_periods vs places is both.1
   where
-    by_test : (b : Bool) → passes vs (is_taken c schema) place ≡ b → is_reached portion rows place ≡ false
-        → passes vs (is_taken c schema) place ≡ false
+    by_test : (b : Bool) → passes vs (is_taken (Portion change)) place ≡ b
+        → is_reached change.portion rows place ≡ false → passes vs (is_taken (Portion change)) place ≡ false
     by_test false e out = e
     by_test true e out =
-        let there = reached-at c schema portion 0 rows system_periods place of
-        (ap (λ l. passes l (is_taken c schema) place) is ∙ e) in
+        let there = reached-at change 0 rows system_periods place
+        (ap (λ l. passes l (is_taken (Portion change)) place) is ∙ e) in
         absurd (cc)
 
 -- ---- places block by block

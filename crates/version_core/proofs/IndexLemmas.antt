@@ -1,24 +1,21 @@
 -- Indexes by the values of a column.
 use Rattle.std.proofs.Common.{◌≡◌, ℕ, ℤ, ◌+◌, ◌*◌, ◌%◌, ◌<◌, ◌==◌, List, [], ◌∷◌, ◌++◌, Bool, true, false, ◌&&◌, cond, Option, Some, None, ◌⊎◌, length, map, take, get_or, set, refl, ap, sym, subst, ◌∙◌, arith, inl, inr}
-use Rattle.std.specs.Prelude.{slice_get, filter, find, unwrap_or, option_map, option_and_then, fold, unsigned_abs, All, IfSome, IsSome}
-use Rattle.std.specs.List.{list_all}
-use Rattle.std.proofs.lemmas.Bool.{cases_eq, and_right, eq-eqb, eqb-true, ne_eqb}
+use Rattle.std.specs.Prelude.{slice_get, filter, find, unwrap_or, option_map, fold, unsigned_abs, All, IfSome, IsSome, is_some}
+use Rattle.std.proofs.lemmas.Bool.{cases_eq, cases_lt, and_right, eq-eqb, eqb-true, ne_eqb}
 use Rattle.std.proofs.lemmas.List.{get_or_default, get_or-set_other, get_or-set_same, length-set, length-take-le, take_more}
-use Rattle.std.proofs.lemmas.List.Elements.{All-get_or, All-head, All-push, All-tail, All-weaker}
-use Rattle.std.proofs.lemmas.List.Recursion.{and_at}
+use Rattle.std.proofs.lemmas.List.Elements.{All-get_or, All-head, All-tail, All-weaker}
 use Rattle.std.proofs.lemmas.List.Sums.{fold-append}
-use Rattle.row_core.specs.Schema.{column_of}
 use Rattle.row_core.specs.ValueOrder.{same_value}
 use Rattle.row_core.specs.declared.row.Row.{Row}
-use Rattle.row_core.specs.declared.schema.Column.{Column}
 use Rattle.row_core.specs.declared.value.Value.{Value}
 use Rattle.row_core.specs.declared.value.Value.TheVariants.{Int, Text}
 use Rattle.row_core.proofs.ValueLemmas.{same_value_is}
-use Rattle.version_core.specs.Finding.{AreCandidates, AreFound, AreNoMore, IsIndex, IsLookupOf, ListsOpen, any_row, bucket_at, bucket_in, bucket_of, bucket_of_bytes, falls_into, led_to, lookup_in, lookup_of, passes}
+use Rattle.version_core.specs.Finding.{AreCandidates, AreFound, AreNoMore, IsIndex, IsLookupOf, ListsOpen, any_row, bucket_at, bucket_in, bucket_of, bucket_of_bytes, falls_into, led_to, lookup_at, lookup_in, passes}
 use Rattle.version_core.specs.OpenVersions.{closed, is_open}
-use Rattle.version_core.specs.Rows.{Pair, is_equal_at}
+use Rattle.portion_core.proofs.WantedLemmas.{each-wanted}
+use Rattle.portion_core.specs.Wanted.{are_wanted}
 use Rattle.version_core.specs.Limits.{bucket_count}
-use Rattle.version_core.specs.declared.change.Change.{Change}
+use Rattle.version_core.specs.declared.change.RowsChange.{RowsChange}
 use Rattle.version_core.specs.declared.index.Index.{Index}
 use Rattle.version_core.specs.declared.index.Lookup.{Lookup}
 use Rattle.version_core.specs.declared.version.Version.{Version}
@@ -151,45 +148,20 @@ falls_where_equal : (x : Value) (o : Option Value) → unwrap_or (option_map (sa
 falls_where_equal x None e = absurd (cc)
 falls_where_equal x (Some y) e = eq-eqb (bucket_of y) (bucket_of x) (ap bucket_of (sym (same_value_is x y e)))
 
--- rows that meet a condition fall into its bucket
-pub lookup-covers : (schema : List Column) (pair : Pair) (column bucket : ℕ) (row : Row)
-    → column_of schema pair.0 ≡ Some column → bucket ≡ bucket_of pair.1 → is_equal_at schema row.values pair ≡ true
-    → falls_into column bucket row ≡ true
-lookup-covers schema pair column bucket row at b h =
-    let found : unwrap_or (option_map (same_value pair.1) (slice_get row.values column)) false ≡ true =
-    ap (λ o. unwrap_or (option_map (same_value pair.1) (option_and_then (slice_get row.values) o)) false) (sym at)
-    ∙ h in
-    ap (λ k. falls_into column k row) b ∙ falls_where_equal pair.1 (slice_get row.values column) found
-
--- rows that meet all conditions meet each
-pub lookup-of_all : (schema : List Column) (conds : List Pair) (i : ℕ) (pair : Pair) (lookup : Option Lookup)
-    → i < length conds → pair ≡ get_or conds i pair
-    → IfSome lookup
-    (λ lookup. (row : Row) → is_equal_at schema row.values pair ≡ true
+-- rows that have all wanted values fall into the bucket of each
+pub lookup_at-covers : (wanted : List (Option Value)) (column : ℕ)
+    → IfSome (lookup_at wanted column)
+    (λ lookup. (row : Row) → are_wanted wanted row.values ≡ true
     → falls_into lookup.column lookup.bucket row ≡ true)
-    → IfSome lookup
-    (λ lookup. (row : Row) → list_all (is_equal_at schema row.values) conds ≡ true
-    → falls_into lookup.column lookup.bucket row ≡ true)
-lookup-of_all schema conds i pair None inside e h = tt
-lookup-of_all schema conds i pair (Some lookup) inside e h =
-    λ row all. h row
-    (ap (is_equal_at schema row.values) e
-    ∙ and_at (list_all (is_equal_at schema row.values)) (is_equal_at schema row.values) refl
-    (λ x xs. refl) conds i pair inside all)
-
--- and those of its lookup fall into its bucket
-pub lookup_of-covers : (schema : List Column) (pair : Pair)
-    → IfSome (lookup_of schema pair)
-    (λ lookup. (row : Row) → is_equal_at schema row.values pair ≡ true
-    → falls_into lookup.column lookup.bucket row ≡ true)
-lookup_of-covers schema pair = at (column_of schema pair.0) refl
+lookup_at-covers wanted column = at (get_or wanted column None) refl
   where
-    at : (o : Option ℕ) → column_of schema pair.0 ≡ o
-        → IfSome (option_map (lookup_in pair.1) o)
-        (λ lookup. (row : Row) → is_equal_at schema row.values pair ≡ true
+    at : (o : Option Value) → get_or wanted column None ≡ o
+        → IfSome (option_map (λ value. lookup_in value column) o)
+        (λ lookup. (row : Row) → are_wanted wanted row.values ≡ true
         → falls_into lookup.column lookup.bucket row ≡ true)
     at None e = tt
-    at (Some column) e = λ row equal. lookup-covers schema pair column (bucket_of pair.1) row e refl equal
+    at (Some one) e = λ row all.
+        falls_where_equal one (slice_get row.values column) (each-wanted wanted row.values column one e all)
 
 -- what holds of both lookups holds of the better one
 pub lookup-better : (P : Lookup → Type 0) (Q : Type 0) (one other best : Option Lookup)
@@ -212,23 +184,29 @@ AreNoMore-chain a None (Some c) h k = absurd k
 AreNoMore-chain None (Some b) (Some c) h k = absurd h
 AreNoMore-chain (Some a) (Some b) (Some c) h k = omega (arith, h, k)
 
--- a lookup that leads to no more than another, and than one condition more
-pub lookup-shortest : (indexes : List Index) (schema : List Column) (conds : List Pair) (i : ℕ) (pair : Pair)
-    (one best : Option Lookup) → i < length conds → pair ≡ get_or conds i pair
+pub AreNoMore-itself : (places : Option (List ℕ)) → AreNoMore places places
+AreNoMore-itself None = tt
+AreNoMore-itself (Some places) = omega arith
+
+-- what isn't there leads nowhere
+pub nowhere-less : (indexes : List Index) (one other : Option Lookup) → is_some other ≡ false
+    → AreNoMore (led_to indexes one) (led_to indexes other)
+nowhere-less indexes one None e = tt
+nowhere-less indexes one (Some lookup) e = absurd (cc)
+
+-- a lookup that leads to no more than another, and than one column more
+pub lookup-shortest : (indexes : List Index) (wanted : List (Option Value)) (i : ℕ) (one best : Option Lookup)
     → AreNoMore (led_to indexes best) (led_to indexes one)
-    → AreNoMore (led_to indexes best) (led_to indexes (lookup_of schema pair))
-    → All (λ p. AreNoMore (led_to indexes one) (led_to indexes (lookup_of schema p))) (take i conds)
-    → All (λ p. AreNoMore (led_to indexes best) (led_to indexes (lookup_of schema p))) (take (i + 1) conds)
-lookup-shortest indexes schema conds i pair one best inside e no_more there before =
-    let Shortest : Option Lookup → Pair → Type 0 =
-    λ lookup p. AreNoMore (led_to indexes lookup) (led_to indexes (lookup_of schema p)) in
-    let grown : take (i + 1) conds ≡ take i conds ++ pair ∷ [] =
-    take_more conds i pair inside ∙ ap (λ u. take i conds ++ u ∷ []) (sym e) in
-    rw grown (All-push (Shortest best) (take i conds) pair
-    (All-weaker (Shortest one) (Shortest best)
-    (λ p h. AreNoMore-chain (led_to indexes best) (led_to indexes one)
-    (led_to indexes (lookup_of schema p)) no_more h)
-    (take i conds) before) there)
+    → AreNoMore (led_to indexes best) (led_to indexes (lookup_at wanted i))
+    → ((k : ℕ) → k < i → AreNoMore (led_to indexes one) (led_to indexes (lookup_at wanted k)))
+    → (k : ℕ) → k < i + 1 → AreNoMore (led_to indexes best) (led_to indexes (lookup_at wanted k))
+lookup-shortest indexes wanted i one best no_more there before k below = elim (cases_lt k i) [
+  | inl lt ↦ AreNoMore-chain (led_to indexes best) (led_to indexes one) (led_to indexes (lookup_at wanted k)) no_more
+      (before k lt)
+  | inr ge ↦
+      let same : k ≡ i = omega arith in
+      subst (λ j. AreNoMore (led_to indexes best) (led_to indexes (lookup_at wanted j))) (sym same) there
+]
 
 -- the index that is found
 pub found-index : (P : Index → Type 0) (test : Index → Bool) (indexes : List Index) → All P indexes
@@ -251,26 +229,26 @@ found-whole indexes column index all found =
     let test = λ (index : Index). index.column == column in
     (subst (λ o. IfSome o (λ index. Whole index × (test index ≡ true))) found (found-index Whole test indexes all)).0
 
-candidates-all : (c : Change) (schema : List Column) (vs : List Version) (places : List ℕ) (indexes : List Index)
-    → AreFound vs places indexes → AreCandidates c schema vs places
-candidates-all c schema vs places indexes h = candidates-listed c schema vs any_row places h.all (λ row e. refl)
+candidates-all : (c : RowsChange) (vs : List Version) (places : List ℕ) (indexes : List Index)
+    → AreFound vs places indexes → AreCandidates c vs places
+candidates-all c vs places indexes h = candidates-listed c vs any_row places h.all (λ row e. refl)
 
 -- the places to which a lookup leads suffice
-pub candidates-led : (c : Change) (schema : List Column) (vs : List Version) (places : List ℕ) (indexes : List Index)
+pub candidates-led : (c : RowsChange) (vs : List Version) (places : List ℕ) (indexes : List Index)
     (lookup : Option Lookup) → AreFound vs places indexes → IfSome lookup (λ lookup. lookup.bucket < bucket_count)
-    → IfSome lookup (IsLookupOf c schema) → AreCandidates c schema vs (unwrap_or (led_to indexes lookup) places)
-candidates-led c schema vs places indexes None found few covers = candidates-all c schema vs places indexes found
-candidates-led c schema vs places indexes (Some lookup) found few covers =
+    → IfSome lookup (IsLookupOf c) → AreCandidates c vs (unwrap_or (led_to indexes lookup) places)
+candidates-led c vs places indexes None found few covers = candidates-all c vs places indexes found
+candidates-led c vs places indexes (Some lookup) found few covers =
     at (find (λ (index : Index). index.column == lookup.column) indexes)
     (found-index (IsIndex vs) (λ (index : Index). index.column == lookup.column) indexes found.by_value)
   where
     at : (o : Option Index)
         → IfSome o (λ (index : Index). IsIndex vs index × ((index.column == lookup.column) ≡ true))
-        → AreCandidates c schema vs
+        → AreCandidates c vs
         (unwrap_or (option_map (λ (index : Index). get_or index.buckets.items lookup.bucket []) o) places)
-    at None h = candidates-all c schema vs places indexes found
+    at None h = candidates-all c vs places indexes found
     at (Some index) h =
-        candidates-listed c schema vs (falls_into index.column lookup.bucket)
+        candidates-listed c vs (falls_into index.column lookup.bucket)
         (get_or index.buckets.items lookup.bucket [])
         (h.0.each lookup.bucket few)
         (λ row goes. ap (λ column. falls_into column lookup.bucket row) (eqb-true index.column lookup.column h.1)

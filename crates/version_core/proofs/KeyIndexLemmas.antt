@@ -21,7 +21,6 @@ use Rattle.period_core.specs.Period.{meet}
 use Rattle.period_core.specs.declared.period.Period.{Period}
 use Rattle.row_core.specs.declared.draft.Draft.{Draft}
 use Rattle.row_core.specs.declared.row.Row.{Row}
-use Rattle.row_core.specs.declared.schema.Column.{Column}
 use Rattle.row_core.specs.declared.value.Value.{Value}
 use Rattle.row_core.specs.declared.value.Value.TheVariants.{Int, Text}
 use Rattle.row_core.proofs.ValueLemmas.{maybe_decides}
@@ -35,10 +34,11 @@ use Rattle.version_core.specs.Made.{draft_of}
 use Rattle.version_core.specs.OpenVersions.{closed, current, is_open}
 use Rattle.version_core.specs.Rows.{removes}
 use Rattle.table_core.specs.Numbered.{unnumbered}
-use Rattle.version_core.specs.declared.change.Change.{Change}
+use Rattle.version_core.specs.declared.change.RowsChange.{RowsChange}
 use Rattle.version_core.specs.declared.key_index.Entry.{Entry}
 use Rattle.version_core.specs.declared.key_index.KeyIndex.{KeyIndex}
 use Rattle.version_core.specs.declared.version.Version.{Version}
+use Rattle.version_core.proofs.ListLemmas.{any-true}
 use Rattle.version_core.proofs.FindingLemmas.{open_closed, row_closed}
 
 -- numbers of keys
@@ -355,10 +355,6 @@ left-fewer test all left fewer entry last miss h = record {
   none = ap (λ b. b || list_any test h.gone) miss ∙ h.none;
 }
 
-any-true : (a b : Bool) → (a || b) ≡ true → (a ≡ true) ⊎ (b ≡ true)
-any-true true b e = inl refl
-any-true false b e = inr e
-
 any-narrowed : (test p : Entry → Bool) (xs : List Entry) → ((x : Entry) → test x ≡ true → p x ≡ true)
     → list_any test xs ≡ true → list_any test (filter p xs) ≡ true
 any-narrowed test p [] h e = absurd (cc)
@@ -414,12 +410,12 @@ some-passes test [] place e = absurd (cc)
 some-passes test (v ∷ vs) zero e = ap (λ b. b || list_any test vs) e
 some-passes test (v ∷ vs) (suc place) e = ap (λ b. test v || b) (some-passes test vs place e) ∙ or-true (test v)
 
-module _ (c : Change) (schema : List Column) (other : Draft) (vs : List Version) (index : KeyIndex) (end : Entry)
+module _ (c : RowsChange) (other : Draft) (vs : List Version) (index : KeyIndex) (end : Entry)
     (near : List Entry) (is : IsKeyIndex vs index) (number : end.number ≡ key_number index.columns.items other.values)
     (ends : end.from ≡ other.period.to)
     (between : near ≡ filter (range_contains entry_cmp Unbounded (Excluded end)) index.entries.keys) where
   abbrev pub hits : Version → Bool
-  hits = collides_left c schema index.columns.items other
+  hits = collides_left c index.columns.items other
 
   abbrev pub entry : ℕ → Version → Entry
   entry place v = entry_of index.columns.items place v
@@ -458,8 +454,8 @@ module _ (c : Change) (schema : List Column) (other : Draft) (vs : List Version)
   hit-near : (q : ℕ) (v : Version) → slice_get vs q ≡ Some v → hits v ≡ true
       → list_any (is_at (entry_cmp (entry q v))) near ≡ true
   hit-near q v at hit =
-      let both = and_parts (is_left c schema v) (collide index.columns.items (draft_of v) other) hit in
-      near-hit q v at (and_parts (is_open v) (not (removes c schema v.row)) both.0).0 both.1
+      let both = and_parts (is_left c v) (collide index.columns.items (draft_of v) other) hit in
+      near-hit q v at (and_parts (is_open v) (not (removes c v.row)) both.0).0 both.1
 
   -- no version collides where none is left in the walk
   pub walked-out : (left : List Entry) → left ≡ [] → AreLeft (λ e. passes vs hits e.place) near left
@@ -487,8 +483,8 @@ module _ (c : Change) (schema : List Column) (other : Draft) (vs : List Version)
       sym (list_any-append same fewer gone) ∙ ap (list_any same) (sym parts) ∙ hit-near q v at hit in
       elim (any-true (list_any same fewer) (list_any same gone) there) [
         | inl front ↦
-            let both = and_parts (is_left c schema v) (collide index.columns.items (draft_of v) other) hit in
-            far q v at (and_parts (is_open v) (not (removes c schema v.row)) both.0).0 both.1
+            let both = and_parts (is_left c v) (collide index.columns.items (draft_of v) other) hit in
+            far q v at (and_parts (is_open v) (not (removes c v.row)) both.0).0 both.1
             (front-less fewer h.gone e (entry q v) (rw parts at up) front)
         | inr behind ↦
             let never : true ≡ false = sym (any-weaker same hits_at gone (hit-at q v at hit) behind) ∙ none in

@@ -10,7 +10,6 @@ use Rattle.draft_core.specs.Lent.{lent_draft}
 use Rattle.row_core.specs.declared.draft.Draft.{Draft}
 use Rattle.draft_core.specs.declared.draft_ref.DraftRef.{DraftRef}
 use Rattle.row_core.specs.declared.row.Row.{Row}
-use Rattle.row_core.specs.declared.schema.Column.{Column}
 use Rattle.key_core.specs.Keys.{collide, have_collision}
 use Rattle.key_core.proofs.Added.{pairs-filtered}
 use Rattle.key_core.proofs.Pairs.{have_pair-map}
@@ -20,7 +19,7 @@ use Rattle.version_core.specs.Made.{draft_of}
 use Rattle.version_core.specs.OpenVersions.{current, is_open}
 use Rattle.table_core.specs.Numbered.{numbered, unnumbered}
 use Rattle.version_core.specs.Rows.{removes}
-use Rattle.version_core.specs.declared.change.Change.{Change}
+use Rattle.version_core.specs.declared.change.RowsChange.{RowsChange}
 use Rattle.version_core.specs.declared.version.Version.{Version}
 use Rattle.version_core.proofs.FindingLemmas.{filter-listed, places_from-agree}
 use Rattle.version_core.specs.Plans.{picked}
@@ -31,61 +30,61 @@ drafts-numbered used [] = refl
 drafts-numbered used (d ∷ ds) = ap (λ l. d ∷ l) (drafts-numbered (used + 1) ds)
 
 -- the rows that are left, found among the versions
-left-current : (c : Change) (schema : List Column) (vs : List Version)
-    → map draft_of (filter (is_left c schema) vs) ≡ rows_left c schema (current vs)
-left-current c schema [] = refl
-left-current c schema (v ∷ vs) = by_open (left-current c schema vs) (is_none v.systo) where
-  by_test : (map draft_of (filter (is_left c schema) vs) ≡ rows_left c schema (current vs)) → (b : Bool)
-      → map draft_of (cond b (v ∷ filter (is_left c schema) vs) (filter (is_left c schema) vs)) ≡ map unnumbered
-      (cond b (v.row ∷ filter (λ row. not (removes c schema row)) (current vs))
-      (filter (λ row. not (removes c schema row)) (current vs)))
+left-current : (c : RowsChange) (vs : List Version)
+    → map draft_of (filter (is_left c) vs) ≡ rows_left c (current vs)
+left-current c [] = refl
+left-current c (v ∷ vs) = by_open (left-current c vs) (is_none v.systo) where
+  by_test : (map draft_of (filter (is_left c) vs) ≡ rows_left c (current vs)) → (b : Bool)
+      → map draft_of (cond b (v ∷ filter (is_left c) vs) (filter (is_left c) vs)) ≡ map unnumbered
+      (cond b (v.row ∷ filter (λ row. not (removes c row)) (current vs))
+      (filter (λ row. not (removes c row)) (current vs)))
   by_test rest true = ap (λ l. draft_of v ∷ l) rest
   by_test rest false = rest
 
-  by_open : (map draft_of (filter (is_left c schema) vs) ≡ rows_left c schema (current vs)) → (b : Bool)
+  by_open : (map draft_of (filter (is_left c) vs) ≡ rows_left c (current vs)) → (b : Bool)
       → map draft_of
-      (cond (b && not (removes c schema v.row)) (v ∷ filter (is_left c schema) vs) (filter (is_left c schema) vs))
+      (cond (b && not (removes c v.row)) (v ∷ filter (is_left c) vs) (filter (is_left c) vs))
       ≡ map unnumbered
-      (filter (λ row. not (removes c schema row))
+      (filter (λ row. not (removes c row))
       (map (λ (v : Version). v.row) (cond b (v ∷ filter is_open vs) (filter is_open vs))))
   by_open rest false = rest
-  by_open rest true = by_test rest (not (removes c schema v.row))
+  by_open rest true = by_test rest (not (removes c v.row))
 
 -- one of them collides with another row exactly where a version says so
-pub any-left : (c : Change) (schema : List Column) (key : List ℕ) (other : Draft) (vs : List Version)
-    → list_any (collides_left c schema key other) vs ≡ list_any (λ left. collide key left other)
-    (rows_left c schema (current vs))
-any-left c schema key other [] = refl
-any-left c schema key other (v ∷ vs) = by_open (any-left c schema key other vs) (is_none v.systo) where
+pub any-left : (c : RowsChange) (key : List ℕ) (other : Draft) (vs : List Version)
+    → list_any (collides_left c key other) vs ≡ list_any (λ left. collide key left other)
+    (rows_left c (current vs))
+any-left c key other [] = refl
+any-left c key other (v ∷ vs) = by_open (any-left c key other vs) (is_none v.systo) where
   by_test :
-      (list_any (collides_left c schema key other) vs ≡ list_any (λ left. collide key left other)
-      (rows_left c schema (current vs))) → (b : Bool)
-      → ((b && collide key (draft_of v) other) || list_any (collides_left c schema key other) vs)
+      (list_any (collides_left c key other) vs ≡ list_any (λ left. collide key left other)
+      (rows_left c (current vs))) → (b : Bool)
+      → ((b && collide key (draft_of v) other) || list_any (collides_left c key other) vs)
       ≡ list_any (λ left. collide key left other)
       (map unnumbered
-      (cond b (v.row ∷ filter (λ row. not (removes c schema row)) (current vs))
-      (filter (λ row. not (removes c schema row)) (current vs))))
+      (cond b (v.row ∷ filter (λ row. not (removes c row)) (current vs))
+      (filter (λ row. not (removes c row)) (current vs))))
   by_test rest true = ap (λ t. collide key (draft_of v) other || t) rest
   by_test rest false = rest
 
   by_open :
-      (list_any (collides_left c schema key other) vs ≡ list_any (λ left. collide key left other)
-      (rows_left c schema (current vs))) → (b : Bool)
-      → (((b && not (removes c schema v.row)) && collide key (draft_of v) other) || list_any
-      (collides_left c schema key other) vs)
+      (list_any (collides_left c key other) vs ≡ list_any (λ left. collide key left other)
+      (rows_left c (current vs))) → (b : Bool)
+      → (((b && not (removes c v.row)) && collide key (draft_of v) other) || list_any
+      (collides_left c key other) vs)
       ≡ list_any (λ left. collide key left other)
       (map unnumbered
-      (filter (λ row. not (removes c schema row))
+      (filter (λ row. not (removes c row))
       (map (λ (v : Version). v.row) (cond b (v ∷ filter is_open vs) (filter is_open vs)))))
   by_open rest false = rest
-  by_open rest true = by_test rest (not (removes c schema v.row))
+  by_open rest true = by_test rest (not (removes c v.row))
 
 -- none of them collide where none did before
-pub left-apart : (c : Change) (schema : List Column) (key : List ℕ) (rows : List Row)
-    → have_collision key (map unnumbered rows) ≡ false → have_collision key (rows_left c schema rows) ≡ false
-left-apart c schema key rows none =
-    have_pair-map (collide key) unnumbered (filter (λ row. not (removes c schema row)) rows)
-    ∙ pairs-filtered (λ a b. collide key (unnumbered a) (unnumbered b)) (λ row. not (removes c schema row)) rows
+pub left-apart : (c : RowsChange) (key : List ℕ) (rows : List Row)
+    → have_collision key (map unnumbered rows) ≡ false → have_collision key (rows_left c rows) ≡ false
+left-apart c key rows none =
+    have_pair-map (collide key) unnumbered (filter (λ row. not (removes c row)) rows)
+    ∙ pairs-filtered (λ a b. collide key (unnumbered a) (unnumbered b)) (λ row. not (removes c row)) rows
     (sym (have_pair-map (collide key) unnumbered rows) ∙ none)
 
 -- the rows of the versions at places
@@ -93,15 +92,15 @@ abbrev pub drafts_at : List Version → List ℕ → List Draft
 drafts_at vs places = map draft_of (picked vs places)
 
 -- those at the places of all open versions
-pub left-listed : (c : Change) (schema : List Column) (vs : List Version) (places : List ℕ)
+pub left-listed : (c : RowsChange) (vs : List Version) (places : List ℕ)
     → ListsOpen vs any_row places
-    → drafts_at vs (filter (passes vs (is_left c schema)) places) ≡ rows_left c schema (current vs)
-left-listed c schema vs places h =
-    ap (drafts_at vs) (filter-listed vs any_row (λ v. not (removes c schema v.row)) places h
-    ∙ places_from-agree (λ v. (is_open v && true) && not (removes c schema v.row)) (is_left c schema)
-    (λ v. ap (λ b. b && not (removes c schema v.row)) (and-true (is_open v))) 0 vs)
-    ∙ ap (map draft_of) (picked-places_from (is_left c schema) vs)
-    ∙ left-current c schema vs
+    → drafts_at vs (filter (passes vs (is_left c)) places) ≡ rows_left c (current vs)
+left-listed c vs places h =
+    ap (drafts_at vs) (filter-listed vs any_row (λ v. not (removes c v.row)) places h
+    ∙ places_from-agree (λ v. (is_open v && true) && not (removes c v.row)) (is_left c)
+    (λ v. ap (λ b. b && not (removes c v.row)) (and-true (is_open v))) 0 vs)
+    ∙ ap (map draft_of) (picked-places_from (is_left c) vs)
+    ∙ left-current c vs
 
 -- one place more, left or not
 

@@ -4,9 +4,6 @@ pub mod KeyIndexLemmas
 pub mod KeyLemmas
 pub mod ListLemmas
 pub mod OpenLemmas
-pub mod PartLemmas
-pub mod PortionLemmas
 pub mod Seen
-pub mod SoughtLemmas
 pub mod StoredLemmas
 pub mod Unbroken

@@ -1,6 +1,6 @@
 -- The places of open versions, and what a change does at them.
-use Rattle.std.proofs.Common.{◌≡◌, ℕ, ◌+◌, ◌*◌, ◌<◌, ◌≤◌, List, [], ◌∷◌, ◌++◌, Bool, true, false, ◌&&◌, cond, Option, Some, None, length, map, take, get_or, zero, suc, add-one, refl, ap, sym, ◌∙◌, arith, append_assoc, length-append}
-use Rattle.std.specs.Prelude.{slice_get, slice_set, filter, fold, count_by, unwrap_or, option_map, is_some, flat_map, All}
+use Rattle.std.proofs.Common.{◌≡◌, ℕ, ◌+◌, ◌*◌, ◌<◌, ◌≤◌, List, [], ◌∷◌, ◌++◌, Bool, true, false, ◌&&◌, cond, Some, length, map, take, get_or, zero, suc, add-one, refl, ap, sym, ◌∙◌, arith, append_assoc, length-append}
+use Rattle.std.specs.Prelude.{slice_get, slice_set, filter, fold, count_by, unwrap_or, option_map, flat_map, All}
 use Rattle.std.specs.List.{cons_option, AllByRecursion, range_with_len}
 use Rattle.std.proofs.lemmas.List.{append-nil, length-map, take_more, length_push}
 use Rattle.std.proofs.lemmas.List.Elements.{filter_map-append, filter-append, All-from_recursion}
@@ -11,20 +11,17 @@ use Rattle.std.proofs.lemmas.Option.{slice_get-get_or}
 use Rattle.std.proofs.Math.Seq.{set-append_seam}
 use Rattle.list_core.proofs.PlaceLemmas.{slice_get-seam}
 use Rattle.list_core.proofs.MadeLemmas.{count-cons}
-use Rattle.period_core.specs.Period.{before, meet, after as later}
-use Rattle.period_core.specs.declared.period.Period.{Period}
-use Rattle.row_core.specs.declared.value.Value.{Value}
 use Rattle.row_core.specs.declared.row.Row.{Row}
 use Rattle.row_core.specs.declared.draft.Draft.{Draft}
-use Rattle.row_core.specs.declared.schema.Column.{Column}
 use Rattle.table_core.specs.Numbered.{numbered}
-use Rattle.version_core.specs.Rows.{drafts_of, part, parts_of_all, parts_of, removes, set_at, with_parts}
+use Rattle.portion_core.proofs.PartLemmas.{parts_of-few}
+use Rattle.version_core.specs.Rows.{drafts_of, parts_of_all, parts_of, removes, with_parts}
 use Rattle.version_core.specs.Finding.{passes}
 use Rattle.version_core.specs.OpenVersions.{closed, closed_at, current, is_open, is_taken, places_from, versions_after}
 use Rattle.version_core.specs.Plans.{parts_at, picked}
 use Rattle.version_core.specs.Made.{made}
-use Rattle.version_core.specs.declared.change.Change.{Change}
-use Rattle.version_core.specs.declared.change.Change.TheVariants.{Make, Load, Update, Delete}
+use Rattle.version_core.specs.declared.change.RowsChange.{RowsChange}
+use Rattle.version_core.specs.declared.change.RowsChange.TheVariants.{Load, Portion}
 use Rattle.version_core.specs.declared.version.Version.{Version}
 use Rattle.table_core.proofs.NumberedLemmas.{length-numbered}
 
@@ -140,9 +137,9 @@ closed-behind n test done (v ∷ vs) us =
     ]
 
 -- closing what a change takes, with others behind
-closed-taken : (n : ℕ) (c : Change) (schema : List Column) (vs us : List Version)
-    → fold (closed_at n) (vs ++ us) (places_from (is_taken c schema) 0 vs) ≡ map (closed n (removes c schema)) vs ++ us
-closed-taken n c schema vs us = closed-behind n (is_taken c schema) [] vs us
+closed-taken : (n : ℕ) (c : RowsChange) (vs us : List Version)
+    → fold (closed_at n) (vs ++ us) (places_from (is_taken c) 0 vs) ≡ map (closed n (removes c)) vs ++ us
+closed-taken n c vs us = closed-behind n (is_taken c) [] vs us
 
 -- one place more
 pub closed-more : (n : ℕ) (vs ws new : List Version) (places : List ℕ) (i : ℕ) → i < length places
@@ -172,23 +169,23 @@ places_from-append test at (v ∷ vs) us =
 
 -- how many are taken
 
-count_taken : (c : Change) (schema : List Column) (at : ℕ) (vs : List Version)
-    → length (places_from (is_taken c schema) at vs) ≡ count_by (removes c schema) (current vs)
-count_taken c schema at [] = refl
-count_taken c schema at (v ∷ vs) =
-    let rest = count_taken c schema (at + 1) vs in
+count_taken : (c : RowsChange) (at : ℕ) (vs : List Version)
+    → length (places_from (is_taken c) at vs) ≡ count_by (removes c) (current vs)
+count_taken c at [] = refl
+count_taken c at (v ∷ vs) =
+    let rest = count_taken c (at + 1) vs in
     elim (is_open v) as
     (λ b. length
-    (cond (b && removes c schema v.row) (at ∷ places_from (is_taken c schema) (at + 1) vs)
-    (places_from (is_taken c schema) (at + 1) vs)) ≡ count_by (removes c schema)
+    (cond (b && removes c v.row) (at ∷ places_from (is_taken c) (at + 1) vs)
+    (places_from (is_taken c) (at + 1) vs)) ≡ count_by (removes c)
     (map (λ (v : Version). v.row) (cond b (v ∷ filter is_open vs) (filter is_open vs)))) [
-      | true ↦ elim (removes c schema v.row) as
+      | true ↦ elim (removes c v.row) as
           (λ t. length
-          (cond t (at ∷ places_from (is_taken c schema) (at + 1) vs)
-          (places_from (is_taken c schema) (at + 1) vs)) ≡ cond t 1 0 + count_by (removes c schema) (current vs)) [
+          (cond t (at ∷ places_from (is_taken c) (at + 1) vs)
+          (places_from (is_taken c) (at + 1) vs)) ≡ cond t 1 0 + count_by (removes c) (current vs)) [
             | true ↦ omega (arith, rest)
             | false ↦ omega (arith, rest)
-          ] ∙ sym (count-cons (removes c schema) v.row (current vs))
+          ] ∙ sym (count-cons (removes c) v.row (current vs))
       | false ↦ rest
     ]
 
@@ -203,89 +200,37 @@ none-taken at (v ∷ vs) =
       | false ↦ none-taken (at + 1) vs
     ]
 
--- where no row is taken out there are no parts
-abbrev nothing_of : Row → List Draft
-nothing_of row = []
+-- a load puts nothing in the place of rows
+pub no-parts : (drafts : List Draft) (rows : List Row) → parts_of_all (Load drafts) rows ≡ []
+no-parts drafts [] = refl
+no-parts drafts (row ∷ rows) = no-parts drafts rows
 
-pub no-parts : (rows : List Row) → flat_map nothing_of (filter (λ (row : Row). false) rows) ≡ []
-no-parts [] = refl
-no-parts (row ∷ rows) = no-parts rows
-
-pub length-taken : (c : Change) (schema : List Column) (vs : List Version)
-    → length (places_from (is_taken c schema) 0 vs) ≡ count_by (removes c schema) (current vs)
-length-taken c schema vs = count_taken c schema 0 vs
+pub length-taken : (c : RowsChange) (vs : List Version)
+    → length (places_from (is_taken c) 0 vs) ≡ count_by (removes c) (current vs)
+length-taken c vs = count_taken c 0 vs
 
 -- a change takes at most three parts of a row
 
-one_or_none : (period : Option Period) (values : List Value) → length (part period values) ≡ cond (is_some period) 1 0
-one_or_none None values = refl
-one_or_none (Some p) values = refl
+few-parts : (c : RowsChange) (row : Row) → length (parts_of c row) ≤ 3
+few-parts (Load drafts) row = omega arith
+few-parts (Portion change) row = parts_of-few change row
 
-pub length-two_parts : (a b : Option Period) (u v : List Value) (i j : ℕ) → i ≡ cond (is_some a) 1 0
-    → j ≡ cond (is_some b) 1 0 → i + j ≡ length (part a u ++ part b v)
-length-two_parts a b u v i j e f = omega (arith, length-append (part a u) (part b v), one_or_none a u, one_or_none b v)
-
-pub length-three_parts : (a b c : Option Period) (u v w : List Value) (i j k : ℕ) → i ≡ cond (is_some a) 1 0
-    → j ≡ cond (is_some b) 1 0 → k ≡ cond (is_some c) 1 0 → i + j + k ≡ length (part a u ++ (part b v ++ part c w))
-length-three_parts a b c u v w i j k e f g =
-    omega (
-      arith,
-      length-append (part a u) (part b v ++ part c w),
-      length-append (part b v)
-          (part c w),
-      one_or_none a u,
-      one_or_none b v,
-      one_or_none c w,
-    )
-
-part-few : (period : Option Period) (values : List Value) → length (part period values) ≤ 1
-part-few None values = omega arith
-part-few (Some p) values = omega arith
-
-parts_of-few : (c : Change) (schema : List Column) (row : Row) → length (parts_of c schema row) ≤ 3
-parts_of-few (Make name columns) schema row = omega arith
-parts_of-few (Load name drafts) schema row = omega arith
-parts_of-few (Update name portion sets conds) schema row =
-    let first = part (before row.period portion) row.values in
-    let inner = part (meet row.period portion) (fold (set_at schema) row.values sets) in
-    let last = part (later row.period portion) row.values in
-    omega (
-      arith,
-      length-append first (inner ++ last),
-      length-append inner last,
-      part-few
-          (before row.period portion) row.values,
-      part-few (meet row.period portion)
-          (fold (set_at schema) row.values sets),
-      part-few (later row.period portion) row.values,
-    )
-parts_of-few (Delete name portion conds) schema row =
-    let first = part (before row.period portion) row.values in
-    let last = part (later row.period portion) row.values in
-    omega (
-      arith,
-      length-append first last,
-      part-few (before row.period portion) row.values,
-      part-few
-          (later row.period portion) row.values,
-    )
-
-pub parts-few : (c : Change) (schema : List Column) (rows : List Row)
-    → length (parts_of_all c schema rows) ≤ 3 * length rows
-parts-few c schema [] = omega arith
-parts-few c schema (row ∷ rows) =
-    let rest = parts-few c schema rows in
-    elim (removes c schema row) as
+pub parts-few : (c : RowsChange) (rows : List Row)
+    → length (parts_of_all c rows) ≤ 3 * length rows
+parts-few c [] = omega arith
+parts-few c (row ∷ rows) =
+    let rest = parts-few c rows in
+    elim (removes c row) as
     (λ b. length
-    (flat_map (parts_of c schema)
-    (cond b (row ∷ filter (removes c schema) rows) (filter (removes c schema) rows))) ≤ 3 * length (row ∷ rows)) [
-      | true ↦ rw (flat_map-cons (parts_of c schema) row (filter (removes c schema) rows))
+    (flat_map (parts_of c)
+    (cond b (row ∷ filter (removes c) rows) (filter (removes c) rows))) ≤ 3 * length (row ∷ rows)) [
+      | true ↦ rw (flat_map-cons (parts_of c) row (filter (removes c) rows))
           (omega (
             arith,
             rest,
-            length-append (parts_of c schema row)
-                (parts_of_all c schema rows),
-            parts_of-few c schema row,
+            length-append (parts_of c row)
+                (parts_of_all c rows),
+            few-parts c row,
           ))
       | false ↦ omega (arith, rest)
     ]
@@ -302,44 +247,44 @@ length-open at (v ∷ vs) =
     ]
 
 -- one place more
-pub parts_at-push : (c : Change) (schema : List Column) (vs : List Version) (places : List ℕ) (place : ℕ) (v : Version)
+pub parts_at-push : (c : RowsChange) (vs : List Version) (places : List ℕ) (place : ℕ) (v : Version)
     → place < length vs → v ≡ get_or vs place v
-    → parts_at c schema vs (places ++ place ∷ []) ≡ parts_at c schema vs places ++ parts_of c schema v.row
-parts_at-push c schema vs places place v inside e =
-    ap (flat_map (λ (v : Version). parts_of c schema v.row))
+    → parts_at c vs (places ++ place ∷ []) ≡ parts_at c vs places ++ parts_of c v.row
+parts_at-push c vs places place v inside e =
+    ap (flat_map (λ (v : Version). parts_of c v.row))
     (filter_map-append (slice_get vs) places (place ∷ [])
     ∙ ap (λ o. picked vs places ++ cons_option o []) (slice_get-get_or vs place v inside ∙ ap Some (sym e)))
-    ∙ flat_map-append (λ (v : Version). parts_of c schema v.row) (picked vs places) (v ∷ [])
-    ∙ ap (λ l. parts_at c schema vs places ++ l) (append-nil (parts_of c schema v.row))
+    ∙ flat_map-append (λ (v : Version). parts_of c v.row) (picked vs places) (v ∷ [])
+    ∙ ap (λ l. parts_at c vs places ++ l) (append-nil (parts_of c v.row))
 
-parts-taken : (c : Change) (schema : List Column) (vs : List Version)
-    → flat_map (λ (v : Version). parts_of c schema v.row) (filter (is_taken c schema) vs) ≡ parts_of_all c schema
+parts-taken : (c : RowsChange) (vs : List Version)
+    → flat_map (λ (v : Version). parts_of c v.row) (filter (is_taken c) vs) ≡ parts_of_all c
     (current vs)
-parts-taken c schema [] = refl
-parts-taken c schema (v ∷ vs) =
-    let rest = parts-taken c schema vs in
+parts-taken c [] = refl
+parts-taken c (v ∷ vs) =
+    let rest = parts-taken c vs in
     elim (is_open v) as
-    (λ b. flat_map (λ (v : Version). parts_of c schema v.row)
-    (cond (b && removes c schema v.row) (v ∷ filter (is_taken c schema) vs)
-    (filter (is_taken c schema) vs)) ≡ parts_of_all c schema
+    (λ b. flat_map (λ (v : Version). parts_of c v.row)
+    (cond (b && removes c v.row) (v ∷ filter (is_taken c) vs)
+    (filter (is_taken c) vs)) ≡ parts_of_all c
     (map (λ (v : Version). v.row) (cond b (v ∷ filter is_open vs) (filter is_open vs)))) [
-      | true ↦ elim (removes c schema v.row) as
-          (λ t. flat_map (λ (v : Version). parts_of c schema v.row)
-          (cond t (v ∷ filter (is_taken c schema) vs) (filter (is_taken c schema) vs)) ≡ flat_map (parts_of c schema)
-          (cond t (v.row ∷ filter (removes c schema) (current vs)) (filter (removes c schema) (current vs)))) [
-            | true ↦ ap (λ l. parts_of c schema v.row ++ l) rest
+      | true ↦ elim (removes c v.row) as
+          (λ t. flat_map (λ (v : Version). parts_of c v.row)
+          (cond t (v ∷ filter (is_taken c) vs) (filter (is_taken c) vs)) ≡ flat_map (parts_of c)
+          (cond t (v.row ∷ filter (removes c) (current vs)) (filter (removes c) (current vs)))) [
+            | true ↦ ap (λ l. parts_of c v.row ++ l) rest
             | false ↦ rest
           ]
       | false ↦ rest
     ]
 
 -- what comes in the place of all that a change takes
-pub parts_at-taken : (c : Change) (schema : List Column) (vs : List Version) (taken : List ℕ)
-    → taken ≡ places_from (is_taken c schema) 0 vs → parts_at c schema vs taken ≡ parts_of_all c schema (current vs)
-parts_at-taken c schema vs taken e =
-    ap (parts_at c schema vs) e
-    ∙ ap (flat_map (λ (v : Version). parts_of c schema v.row)) (picked-places_from (is_taken c schema) vs)
-    ∙ parts-taken c schema vs
+pub parts_at-taken : (c : RowsChange) (vs : List Version) (taken : List ℕ)
+    → taken ≡ places_from (is_taken c) 0 vs → parts_at c vs taken ≡ parts_of_all c (current vs)
+parts_at-taken c vs taken e =
+    ap (parts_at c vs) e
+    ∙ ap (flat_map (λ (v : Version). parts_of c v.row)) (picked-places_from (is_taken c) vs)
+    ∙ parts-taken c vs
 
 pub range_with_len-push : (a n : ℕ) → range_with_len a (n + 1) ≡ range_with_len a n ++ (a + n) ∷ []
 range_with_len-push a zero = ap (λ k. k ∷ []) (omega arith)
@@ -370,36 +315,33 @@ place-no vs p places i v old new h inside e test was now =
     ∙ append-nil (filter (passes vs p) (take i places)))
 
 -- what is made for the places that are taken
-pub made-push : (c : Change) (schema : List Column) (vs : List Version) (taken more : List ℕ) (place : ℕ)
+pub made-push : (c : RowsChange) (vs : List Version) (taken more : List ℕ) (place : ℕ)
     (v : Version) (old new : List Draft) → place < length vs → v ≡ get_or vs place v
-    → old ≡ parts_at c schema vs taken → new ≡ old ++ parts_of c schema v.row
-    → more ≡ taken ++ place ∷ [] → new ≡ parts_at c schema vs more
-made-push c schema vs taken more place v old new inside e was now grown =
-    now ∙ ap (λ ds. ds ++ parts_of c schema v.row) was
-    ∙ sym (ap (parts_at c schema vs) grown ∙ parts_at-push c schema vs taken place v inside e)
+    → old ≡ parts_at c vs taken → new ≡ old ++ parts_of c v.row
+    → more ≡ taken ++ place ∷ [] → new ≡ parts_at c vs more
+made-push c vs taken more place v old new inside e was now grown =
+    now ∙ ap (λ ds. ds ++ parts_of c v.row) was
+    ∙ sym (ap (parts_at c vs) grown ∙ parts_at-push c vs taken place v inside e)
 
 -- all new rows of a change are its parts of rows, or those of a load
-pub with_parts-all : (c : Change) (schema : List Column) (rows : List Row)
-    → with_parts c (parts_of_all c schema rows) ≡ drafts_of c schema rows
-with_parts-all (Make table columns) schema rows = no-parts rows
-with_parts-all (Load table drafts) schema rows = refl
-with_parts-all (Update table portion sets conds) schema rows = refl
-with_parts-all (Delete table portion conds) schema rows = refl
+pub with_parts-all : (c : RowsChange) (rows : List Row) → with_parts c (parts_of_all c rows) ≡ drafts_of c rows
+with_parts-all (Load drafts) rows = refl
+with_parts-all (Portion change) rows = refl
 
-pub newly : (c : Change) (schema : List Column) (vs : List Version) (parts new : List Draft)
-    → new ≡ with_parts c parts → parts ≡ parts_of_all c schema (current vs) → new ≡ drafts_of c schema (current vs)
-newly c schema vs parts new made e = made ∙ ap (with_parts c) e ∙ with_parts-all c schema (current vs)
+pub newly : (c : RowsChange) (vs : List Version) (parts new : List Draft)
+    → new ≡ with_parts c parts → parts ≡ parts_of_all c (current vs) → new ≡ drafts_of c (current vs)
+newly c vs parts new made e = made ∙ ap (with_parts c) e ∙ with_parts-all c (current vs)
 
 -- the versions that a change leaves
 
-pub versions_after-by : (n : ℕ) (c : Change) (schema : List Column) (vs fresh grown new : List Version)
-    (taken : List ℕ) → taken ≡ places_from (is_taken c schema) 0 vs
-    → fresh ≡ made n (numbered (length vs) (drafts_of c schema (current vs)))
-    → grown ≡ vs ++ fresh → new ≡ fold (closed_at n) grown taken → new ≡ versions_after n c schema vs
-versions_after-by n c schema vs fresh grown new taken t f g e =
+pub versions_after-by : (n : ℕ) (c : RowsChange) (vs fresh grown new : List Version)
+    (taken : List ℕ) → taken ≡ places_from (is_taken c) 0 vs
+    → fresh ≡ made n (numbered (length vs) (drafts_of c (current vs)))
+    → grown ≡ vs ++ fresh → new ≡ fold (closed_at n) grown taken → new ≡ versions_after n c vs
+versions_after-by n c vs fresh grown new taken t f g e =
     e ∙ ap (λ l. fold (closed_at n) l taken) g ∙ ap (fold (closed_at n) (vs ++ fresh)) t
-    ∙ closed-taken n c schema vs fresh
-    ∙ ap (λ l. map (closed n (removes c schema)) vs ++ l) f
+    ∙ closed-taken n c vs fresh
+    ∙ ap (λ l. map (closed n (removes c)) vs ++ l) f
 
 pub length-fresh : (n before : ℕ) (ds : List Draft) → length (made n (numbered before ds)) ≡ length ds
 length-fresh n before ds = length-map (numbered before ds) _ ∙ length-numbered before ds

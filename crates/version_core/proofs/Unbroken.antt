@@ -1,28 +1,28 @@
 -- Changes after which no two rows of one key share an instant, where none did before: what they leave of
 -- a row holds where the row did, and has its values in the key's columns.
-use Rattle.std.proofs.Common.{◌≡◌, ℕ, ℤ, ◌<ℤ◌, ◌≤ℤ◌, ◌==◌, List, [], ◌∷◌, ◌++◌, map, set, suc, zero, Bool, true, false, ◌&&◌, ◌||◌, Option, Some, None, refl, sym, ap, ◌∙◌, append-nil, arith}
-use Rattle.std.proofs.lemmas.Bool.{and_parts, or_parts, eq-eqb, or_right}
-use Rattle.std.specs.Prelude.{fold, is_some, option_map, slice_get, unwrap_or}
+use Rattle.std.proofs.Common.{◌≡◌, ℕ, ℤ, ◌<ℤ◌, ◌≤ℤ◌, ◌==◌, List, [], ◌∷◌, ◌++◌, map, get_or, suc, zero, Bool, true, false, ◌&&◌, ◌||◌, not, Option, Some, None, refl, sym, ap, ◌∙◌, inl, inr, arith}
+use Rattle.std.proofs.lemmas.Bool.{and_parts, or_parts, eq-eqb, eqb-true, or_right}
+use Rattle.std.specs.Prelude.{filter, flat_map, is_some, slice_get, unwrap_or}
 use Rattle.std.specs.List.{AllByRecursion, list_any}
-use Rattle.std.specs.Option.{option_map_or}
 use Rattle.std.proofs.lemmas.Int.{ints}
 use Rattle.period_core.specs.Period.{Holds, HoldsIn, before, meet, after as later}
 use Rattle.period_core.specs.declared.period.Period.{Period}
 use Rattle.period_core.proofs.PeriodLemmas.{before-holds, meet-holds, after-holds}
-use Rattle.row_core.specs.Schema.{column_of, key_of}
 use Rattle.row_core.specs.ValueOrder.{same_maybe}
 use Rattle.row_core.specs.declared.draft.Draft.{Draft}
 use Rattle.row_core.specs.declared.row.Row.{Row}
-use Rattle.row_core.specs.declared.schema.Column.{Column}
 use Rattle.row_core.specs.declared.value.Value.{Value}
 use Rattle.key_core.specs.Keys.{collide, have_collision, same_key}
 use Rattle.key_core.proofs.Collisions.{collide-flips, shared, shares}
 use Rattle.key_core.proofs.Replaced.{AreApart, IsPartOf, Misses, append-all, apart-from_none, apart-replaced, none-from_apart}
-use Rattle.version_core.specs.Keys.{is_column_of, rows_left, sets_key, break_key}
-use Rattle.version_core.specs.Rows.{Pair, drafts_of, part, parts_of_all, parts_of, removes, set_at}
+use Rattle.version_core.specs.Keys.{is_set, rows_left, break_key}
+use Rattle.portion_core.specs.Portion.{part}
+use Rattle.portion_core.specs.Wanted.{with_set}
+use Rattle.portion_core.specs.declared.portion_change.PortionChange.{PortionChange}
+use Rattle.version_core.specs.Rows.{drafts_of, parts_of, removes}
 use Rattle.table_core.specs.Numbered.{unnumbered}
-use Rattle.version_core.specs.declared.change.Change.{Change}
-use Rattle.version_core.specs.declared.change.Change.TheVariants.{Make, Update, Delete}
+use Rattle.version_core.specs.declared.change.RowsChange.TheVariants.{Portion}
+use Rattle.version_core.proofs.ListLemmas.{any-true}
 
 -- what is shown of each key with a column holds of each key
 lift : (key : List ℕ) (xs ys : List Draft) → (have_collision key xs ≡ false → have_collision key ys ≡ false)
@@ -106,32 +106,32 @@ not-inner_and_late portion t inside above = let to = inside.1 in absurd (omega (
 
 -- ---- values that are set beside the key
 
-slice_get-set_other : (xs : List Value) (i k : ℕ) (x : Value) → (i ≡ k → ⊥) → slice_get (set xs i x) k ≡ slice_get xs k
-slice_get-set_other [] i k x h = refl
-slice_get-set_other (y ∷ ys) zero zero x h = absurd (h refl)
-slice_get-set_other (y ∷ ys) zero (suc k) x h = refl
-slice_get-set_other (y ∷ ys) (suc i) zero x h = refl
-slice_get-set_other (y ∷ ys) (suc i) (suc k) x h = slice_get-set_other ys i k x (λ e. h (ap suc e))
+-- the column is one of the key
+abbrev is_column_of : List ℕ → ℕ → Bool
+is_column_of key column = list_any (λ other. other == column) key
 
-not-both : (key : List ℕ) (i column : ℕ) → is_column_of key i ≡ false → is_column_of key column ≡ true → i ≡ column → ⊥
-not-both key i column out in_key same =
-    absurd (let there : is_column_of key i ≡ true = ap (is_column_of key) same ∙ in_key in cc)
+slice_get-with_set : (sets : List (Option Value)) (values : List Value) (column : ℕ) → get_or sets column None ≡ None
+    → slice_get (with_set sets values) column ≡ slice_get values column
+slice_get-with_set [] values column out = refl
+slice_get-with_set (s ∷ sets) [] column out = refl
+slice_get-with_set (s ∷ sets) (value ∷ values) zero out = ap (λ o. Some (unwrap_or o value)) out
+slice_get-with_set (s ∷ sets) (value ∷ values) (suc column) out = slice_get-with_set sets values column out
 
-set-beside : (key : List ℕ) (o : Option ℕ) (value : Value) (values : List Value) (column : ℕ)
-    → option_map_or (is_column_of key) o false ≡ false → is_column_of key column ≡ true
-    → slice_get (unwrap_or (option_map (λ i. set values i value) o) values) column ≡ slice_get values column
-set-beside key None value values column out in_key = refl
-set-beside key (Some i) value values column out in_key =
-    slice_get-set_other values i column value (not-both key i column out in_key)
+unset : (o : Option Value) → is_some o ≡ false → o ≡ None
+unset None e = refl
+unset (Some value) e = absurd (cc)
 
-all-set_beside : (schema : List Column) (key : List ℕ) (sets : List Pair) (values : List Value) (column : ℕ)
-    → list_any (sets_key schema key) sets ≡ false → is_column_of key column ≡ true
-    → slice_get (fold (set_at schema) values sets) column ≡ slice_get values column
-all-set_beside schema key [] values column none in_key = refl
-all-set_beside schema key (pair ∷ pairs) values column none in_key =
-    let both = or_parts (sets_key schema key pair) (list_any (sets_key schema key) pairs) none in
-    all-set_beside schema key pairs (set_at schema values pair) column both.1 in_key
-    ∙ set-beside key (column_of schema pair.0) pair.1 values column both.0 in_key
+-- none is set in a column of the key
+not-set : (sets : List (Option Value)) (key : List ℕ) (column : ℕ) → list_any (is_set sets) key ≡ false
+    → is_column_of key column ≡ true → get_or sets column None ≡ None
+not-set sets [] column none in_key = absurd (cc)
+not-set sets (other ∷ others) column none in_key =
+    let both = or_parts (is_set sets other) (list_any (is_set sets) others) none in
+    elim (any-true (other == column) (is_column_of others column) in_key) [
+      | inl here ↦ unset (get_or sets column None)
+          (ap (is_set sets) (sym (eqb-true other column here)) ∙ both.0)
+      | inr there ↦ not-set sets others column both.1 there
+    ]
 
 -- the values are equal in the columns
 same-in : (columns : List ℕ) (u v e : List Value)
@@ -148,68 +148,81 @@ same-in (column ∷ columns) u v e same =
 -- ---- changes
 
 -- rows are replaced by parts of them that are apart
-replaced : (key : List ℕ) (c : Change) (schema : List Column) (rows : List Row)
-    → ((row : Row)
-    → AllByRecursion (IsPartOf (collide key) (collide-flips key) (unnumbered row)) (parts_of c schema row))
-    → ((row : Row) → AreApart (collide key) (parts_of c schema row))
+replaced : (key : List ℕ) (goes : Row → Bool) (parts : Row → List Draft) (rows : List Row)
+    → ((row : Row) → AllByRecursion (IsPartOf (collide key) (collide-flips key) (unnumbered row)) (parts row))
+    → ((row : Row) → AreApart (collide key) (parts row))
     → have_collision key (map unnumbered rows) ≡ false
-    → have_collision key (rows_left c schema rows ++ parts_of_all c schema rows) ≡ false
-replaced key c schema rows inside apart none =
-    none-from_apart (collide key) (rows_left c schema rows ++ parts_of_all c schema rows)
-    (apart-replaced (collide key) (collide-flips key) unnumbered (removes c schema)
-    (parts_of c schema) inside apart rows (apart-from_none (collide key) (map unnumbered rows) none))
+    → have_collision key (map unnumbered (filter (λ row. not (goes row)) rows) ++ flat_map parts (filter goes rows))
+    ≡ false
+replaced key goes parts rows inside apart none =
+    none-from_apart (collide key)
+    (map unnumbered (filter (λ row. not (goes row)) rows) ++ flat_map parts (filter goes rows))
+    (apart-replaced (collide key) (collide-flips key) unnumbered goes
+    parts inside apart rows (apart-from_none (collide key) (map unnumbered rows) none))
 
-all-left : (name : List ℕ) (made schema : List Column) (rows : List Row)
-    → rows_left (Make name made) schema rows ≡ map unnumbered rows
-all-left name made schema [] = refl
-all-left name made schema (row ∷ rows) = ap (λ l. unnumbered row ∷ l) (all-left name made schema rows)
+-- a part before and one after
+outside : Period → Row → List Draft
+outside portion row = part (before row.period portion) row.values ++ part (later row.period portion) row.values
 
-pub make-unbroken : (name : List ℕ) (made schema : List Column) (rows : List Row)
-    → break_key (key_of schema) (map unnumbered rows) ≡ false
-    → break_key (key_of schema)
-    (rows_left (Make name made) schema rows ++ drafts_of (Make name made) schema rows) ≡ false
-make-unbroken name made schema rows none =
-    ap (break_key (key_of schema))
-    (append-nil (rows_left (Make name made) schema rows) ∙ all-left name made schema rows) ∙ none
-
-pub delete-unbroken : (name : List ℕ) (portion : Period) (conds : List Pair) (schema : List Column) (rows : List Row)
-    → break_key (key_of schema) (map unnumbered rows) ≡ false
-    → break_key (key_of schema)
-    (rows_left (Delete name portion conds) schema rows ++ drafts_of (Delete name portion conds) schema rows) ≡ false
-delete-unbroken name portion conds schema rows =
-    let key = key_of schema in
-    lift key (map unnumbered rows)
-    (rows_left (Delete name portion conds) schema rows ++ drafts_of (Delete name portion conds) schema rows)
-    (replaced key (Delete name portion conds) schema rows
-    (λ row. append-all (IsPartOf (collide key) (collide-flips key) (unnumbered row))
+outside-inside : (key : List ℕ) (portion : Period) (row : Row)
+    → AllByRecursion (IsPartOf (collide key) (collide-flips key) (unnumbered row)) (outside portion row)
+unfolding outside
+outside-inside key portion row =
+    append-all (IsPartOf (collide key) (collide-flips key) (unnumbered row))
     (part (before row.period portion) row.values) (part (later row.period portion) row.values)
     (part-inside key row row.values (before row.period portion) (λ e. refl)
     (λ t h. ((before-holds row.period portion t).0 h).0))
     (part-inside key row row.values (later row.period portion) (λ e. refl)
-    (λ t h. ((after-holds row.period portion t).0 h).0)))
-    (λ row. two-apart key (before row.period portion) (later row.period portion) row.values row.values
-    (λ t h k. not-early_and_late portion t (early row.period portion t h) (late row.period portion t k))))
+    (λ t h. ((after-holds row.period portion t).0 h).0))
 
-pub update-unbroken : (name : List ℕ) (portion : Period) (sets conds : List Pair) (schema : List Column)
-    (rows : List Row) → list_any (sets_key schema (key_of schema)) sets ≡ false
-    → break_key (key_of schema) (map unnumbered rows) ≡ false
-    → break_key (key_of schema)
-    (rows_left (Update name portion sets conds) schema rows ++ drafts_of
-    (Update name portion sets conds) schema rows) ≡ false
-update-unbroken name portion sets conds schema rows beside =
-    let key = key_of schema in
-    let now : Row → List Value = λ row. fold (set_at schema) row.values sets in
-    let kept : (row : Row) (e : List Value)
-    → same_key key (now row) e ≡ same_key key row.values e =
-    λ row e. same-in key (now row) row.values e
-    (λ column in_key. all-set_beside schema key sets row.values column beside in_key) in
+outside-apart : (key : List ℕ) (portion : Period) (row : Row) → AreApart (collide key) (outside portion row)
+unfolding outside
+outside-apart key portion row =
+    two-apart key (before row.period portion) (later row.period portion) row.values row.values
+    (λ t h k. not-early_and_late portion t (early row.period portion t h) (late row.period portion t k))
+
+-- rows leave what lies outside a portion
+pub cut-unbroken : (goes : Row → Bool) (portion : Period) (key : List ℕ) (rows : List Row)
+    → break_key key (map unnumbered rows) ≡ false
+    → break_key key
+    (map unnumbered (filter (λ row. not (goes row)) rows)
+    ++ flat_map (λ row. part (before row.period portion) row.values ++ part (later row.period portion) row.values)
+    (filter goes rows)) ≡ false
+unfolding outside
+cut-unbroken goes portion key rows =
     lift key (map unnumbered rows)
-    (rows_left (Update name portion sets conds) schema rows ++ drafts_of
-    (Update name portion sets conds) schema rows)
-    (replaced key (Update name portion sets conds) schema rows
+    (map unnumbered (filter (λ row. not (goes row)) rows) ++ flat_map (outside portion) (filter goes rows))
+    (replaced key goes (outside portion) rows (outside-inside key portion) (outside-apart key portion))
+
+-- nothing is set
+pub delete-unbroken : (change : PortionChange) (key : List ℕ) (rows : List Row) → change.sets ≡ None
+    → break_key key (map unnumbered rows) ≡ false
+    → break_key key (rows_left (Portion change) rows ++ drafts_of (Portion change) rows) ≡ false
+unfolding outside
+delete-unbroken change key rows none =
+    let c = Portion change in
+    lift key (map unnumbered rows) (rows_left c rows ++ drafts_of c rows)
+    (replaced key (removes c) (parts_of c) rows
+    (λ row. rw none (outside-inside key change.portion row))
+    (λ row. rw none (outside-apart key change.portion row)))
+
+-- no column of the key is set
+pub update-unbroken : (change : PortionChange) (sets : List (Option Value)) (key : List ℕ) (rows : List Row)
+    → change.sets ≡ Some sets → list_any (is_set sets) key ≡ false
+    → break_key key (map unnumbered rows) ≡ false
+    → break_key key (rows_left (Portion change) rows ++ drafts_of (Portion change) rows) ≡ false
+update-unbroken change sets key rows some beside =
+    let portion = change.portion in
+    let c = Portion change in
+    let now : Row → List Value = λ row. with_set sets row.values in
+    let kept : (row : Row) (e : List Value) → same_key key (now row) e ≡ same_key key row.values e =
+    λ row e. same-in key (now row) row.values e
+    (λ column in_key. slice_get-with_set sets row.values column (not-set sets key column beside in_key)) in
+    lift key (map unnumbered rows) (rows_left c rows ++ drafts_of c rows)
+    (replaced key (removes c) (parts_of c) rows
     (λ row. (
     let P = IsPartOf (collide key) (collide-flips key) (unnumbered row) in
-    append-all P (part (before row.period portion) row.values)
+    rw some (append-all P (part (before row.period portion) row.values)
     (part (meet row.period portion) (now row) ++ part (later row.period portion) row.values)
     (part-inside key row row.values (before row.period portion) (λ e. refl)
     (λ t h. ((before-holds row.period portion t).0 h).0))
@@ -217,9 +230,9 @@ update-unbroken name portion sets conds schema rows beside =
     (part-inside key row (now row) (meet row.period portion) (kept row)
     (λ t h. ((meet-holds row.period portion t).0 h).0))
     (part-inside key row row.values (later row.period portion) (λ e. refl)
-    (λ t h. ((after-holds row.period portion t).0 h).0)))))
-    (λ row. three-apart key (before row.period portion) (meet row.period portion) (later row.period portion) row.values
-    (now row) row.values
+    (λ t h. ((after-holds row.period portion t).0 h).0))))))
+    (λ row. rw some (three-apart key (before row.period portion) (meet row.period portion) (later row.period portion)
+    row.values (now row) row.values
     (λ t h k. not-early_and_inner portion t (early row.period portion t h) (inner row.period portion t k))
     (λ t h k. not-early_and_late portion t (early row.period portion t h) (late row.period portion t k))
-    (λ t h k. not-inner_and_late portion t (inner row.period portion t h) (late row.period portion t k))))
+    (λ t h k. not-inner_and_late portion t (inner row.period portion t h) (late row.period portion t k)))))

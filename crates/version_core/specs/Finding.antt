@@ -1,18 +1,15 @@
 -- Lists of places, by which a change finds the versions that it closes.
-use Rattle.std.specs.Prelude.{◌≡◌, ℕ, ◌+◌, ◌<◌, List, [], length, filter, find, Bool, ◌&&◌, if◌then◌else◌, option_and_then, option_map, slice_get, unwrap_or, Option, ◌*◌, ◌%◌, ◌≤◌, get_or, fold, All, true, false, Some, None, ◌==◌, unsigned_abs, is_some, IfSome}
-use Rattle.period_core.specs.Period.{meet}
-use Rattle.period_core.specs.declared.period.Period.{Period}
-use Rattle.row_core.specs.Schema.{column_of}
+use Rattle.std.specs.Prelude.{◌≡◌, ℕ, ◌+◌, ◌<◌, List, [], length, filter, find, Bool, ◌&&◌, if◌then◌else◌, option_and_then, option_map, slice_get, unwrap_or, Option, ◌*◌, ◌%◌, ◌≤◌, get_or, fold, All, true, false, Some, None, ◌==◌, unsigned_abs, IfSome}
+use Rattle.portion_core.specs.declared.portion_change.PortionChange.{PortionChange}
 use Rattle.row_core.specs.declared.row.Row.{Row}
-use Rattle.row_core.specs.declared.schema.Column.{Column}
 use Rattle.row_core.specs.declared.value.Value.{Value}
 use Rattle.row_core.specs.declared.value.Value.TheVariants.{Int, Text}
-use Rattle.version_core.specs.Limits.{bucket_count, sought_limit}
+use Rattle.version_core.specs.Limits.{bucket_count}
 use Rattle.version_core.specs.KeyIndex.{IsKeyIndex}
-use Rattle.version_core.specs.Rows.{Pair, removes}
+use Rattle.version_core.specs.Rows.{removes}
 use Rattle.version_core.specs.OpenVersions.{is_open, places_from, is_taken}
-use Rattle.version_core.specs.declared.change.Change.{Change}
-use Rattle.version_core.specs.declared.change.Change.TheVariants.{Make, Load, Update, Delete}
+use Rattle.version_core.specs.declared.change.RowsChange.{RowsChange}
+use Rattle.version_core.specs.declared.change.RowsChange.TheVariants.{Load, Portion}
 use Rattle.version_core.specs.declared.version.Version.{Version}
 use Rattle.version_core.specs.declared.index.Index.{Index}
 use Rattle.version_core.specs.declared.index.Lookup.{Lookup}
@@ -32,12 +29,6 @@ pub record ListsOpen (vs : List Version) (test : Row → Bool) (places : List �
 -- any row
 abbrev pub any_row : Row → Bool
 any_row row = true
-
--- the places of the columns that the first conditions name, as many as are looked up at once
-abbrev pub AreSought : List Column → List Pair → List (Option ℕ) → Type 0
-AreSought schema conds columns =
-    (i : ℕ) → i < sought_limit → i < length conds
-    → slice_get columns i ≡ option_map (λ (pair : Pair). column_of schema pair.0) (slice_get conds i)
 
 -- the bucket of a text's bytes
 unfoldable pub bucket_of_bytes : List ℕ → ℕ
@@ -81,9 +72,9 @@ led_to indexes lookup = option_and_then (bucket_at indexes) lookup
 abbrev pub lookup_in : Value → ℕ → Lookup
 lookup_in value column = record { column = column; bucket = bucket_of value }
 
--- the lookup of a condition: that of its value in the column of its name
-abbrev pub lookup_of : List Column → Pair → Option Lookup
-lookup_of schema pair = option_map (lookup_in pair.1) (column_of schema pair.0)
+-- the lookup of the value that is wanted in a column, where one is
+abbrev pub lookup_at : List (Option Value) → ℕ → Option Lookup
+lookup_at wanted column = option_map (λ value. lookup_in value column) (get_or wanted column None)
 
 -- where other places are led to, so are these, and they are no more
 abbrev pub AreNoMore : Option (List ℕ) → Option (List ℕ) → Type 0
@@ -97,27 +88,18 @@ pub record AreBeside
   pub found : AreFound vs places indexes
   pub by_key : IfSome key_index (IsKeyIndex vs)
 
--- the change is one of a portion that shares an instant with the period
-abbrev pub reaches : Change → Period → Bool
-reaches (Make table schema) period = false
-reaches (Load table rows) period = false
-reaches (Update table portion sets conds) period = is_some (meet period portion)
-reaches (Delete table portion conds) period = is_some (meet period portion)
-
--- the portion of a change of one
-abbrev pub portion_of : Change → Option Period
-portion_of (Make table schema) = None
-portion_of (Load table rows) = None
-portion_of (Update table portion sets conds) = Some portion
-portion_of (Delete table portion conds) = Some portion
+-- the change of a portion, where it is one
+abbrev pub portion_of : RowsChange → Option PortionChange
+portion_of (Load rows) = None
+portion_of (Portion change) = Some change
 
 -- the values of all rows that the change takes out fall into the bucket
-abbrev pub IsLookupOf : Change → List Column → Lookup → Type 0
-IsLookupOf c schema lookup =
-    (row : Row) → removes c schema row ≡ true → falls_into lookup.column lookup.bucket row ≡ true
+abbrev pub IsLookupOf : RowsChange → Lookup → Type 0
+IsLookupOf c lookup =
+    (row : Row) → removes c row ≡ true → falls_into lookup.column lookup.bucket row ≡ true
 
 -- among the places are those of all versions that the change closes, in their order
-pub record AreCandidates (c : Change) (schema : List Column) (vs : List Version) (places : List ℕ) : Type 0 where
+pub record AreCandidates (c : RowsChange) (vs : List Version) (places : List ℕ) : Type 0 where
   pub inside : All (λ place. place < length vs) places
   pub few : length places ≤ length vs
-  pub taken : filter (passes vs (is_taken c schema)) places ≡ places_from (is_taken c schema) 0 vs
+  pub taken : filter (passes vs (is_taken c)) places ≡ places_from (is_taken c) 0 vs

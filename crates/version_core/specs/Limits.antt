@@ -8,7 +8,3 @@ version_limit = 1000000
 -- the buckets of an index
 abbrev pub bucket_count : ℕ
 bucket_count = 8191
-
--- the most conditions whose columns are looked up at once
-abbrev pub sought_limit : ℕ
-sought_limit = 16

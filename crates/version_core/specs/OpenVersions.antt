@@ -1,11 +1,10 @@
 -- The versions that are open, and a change of them.
 use Rattle.std.specs.Prelude.{ℕ, ◌+◌, List, [], ◌∷◌, ◌++◌, length, map, Bool, ◌&&◌, if◌then◌else◌, Some, is_none, filter, option_map, slice_get, slice_set, unwrap_or}
 use Rattle.row_core.specs.declared.row.Row.{Row}
-use Rattle.row_core.specs.declared.schema.Column.{Column}
 use Rattle.table_core.specs.Numbered.{numbered}
 use Rattle.version_core.specs.Rows.{drafts_of, removes}
 use Rattle.version_core.specs.Made.{made}
-use Rattle.version_core.specs.declared.change.Change.{Change}
+use Rattle.version_core.specs.declared.change.RowsChange.{RowsChange}
 use Rattle.version_core.specs.declared.version.Version.{Version}
 
 -- no commit has closed the version
@@ -22,8 +21,8 @@ places_from test at [] = []
 places_from test at (v ∷ vs) = if test v then at ∷ places_from test (at + 1) vs else places_from test (at + 1) vs
 
 -- the version is open, and the change takes out its row
-abbrev pub is_taken : Change → List Column → Version → Bool
-is_taken c schema v = is_open v && removes c schema v.row
+abbrev pub is_taken : RowsChange → Version → Bool
+is_taken c v = is_open v && removes c v.row
 
 -- a version after commit n, which closes it where it is open and its row goes
 abbrev pub closed : ℕ → (Row → Bool) → Version → Version
@@ -36,6 +35,6 @@ closed_at commit versions place =
     (option_map (λ v. slice_set versions place (record v { systo = Some commit })) (slice_get versions place)) versions
 
 -- the versions after a change of their table's rows, made by that commit
-abbrev pub versions_after : ℕ → Change → List Column → List Version → List Version
-versions_after commit c schema versions = map (closed commit (removes c schema)) versions
-    ++ made commit (numbered (length versions) (drafts_of c schema (current versions)))
+abbrev pub versions_after : ℕ → RowsChange → List Version → List Version
+versions_after commit c versions = map (closed commit (removes c)) versions
+    ++ made commit (numbered (length versions) (drafts_of c (current versions)))

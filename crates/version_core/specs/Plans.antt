@@ -2,10 +2,9 @@
 use Rattle.std.specs.Prelude.{◌≡◌, ℕ, List, flat_map, slice_get}
 use Rattle.std.specs.List.{filter_map}
 use Rattle.row_core.specs.declared.draft.Draft.{Draft}
-use Rattle.row_core.specs.declared.schema.Column.{Column}
 use Rattle.version_core.specs.OpenVersions.{current, is_taken, places_from}
 use Rattle.version_core.specs.Rows.{parts_of, parts_of_all}
-use Rattle.version_core.specs.declared.change.Change.{Change}
+use Rattle.version_core.specs.declared.change.RowsChange.{RowsChange}
 use Rattle.version_core.specs.declared.version.Version.{Version}
 use Rattle.version_core.specs.declared.planning.Plan.{Plan}
 
@@ -14,10 +13,10 @@ abbrev pub picked : List Version → List ℕ → List Version
 picked vs places = filter_map (slice_get vs) places
 
 -- what comes in the place of the rows at places
-abbrev pub parts_at : Change → List Column → List Version → List ℕ → List Draft
-parts_at c schema vs places = flat_map (λ v. parts_of c schema v.row) (picked vs places)
+abbrev pub parts_at : RowsChange → List Version → List ℕ → List Draft
+parts_at c vs places = flat_map (λ v. parts_of c v.row) (picked vs places)
 
 -- the plan has what comes in the place of the rows that the change takes out, and the places of their versions
-pub record IsPlanOf (c : Change) (schema : List Column) (vs : List Version) (plan : Plan) : Type 0 where
-  pub parts : plan.parts ≡ parts_of_all c schema (current vs)
-  pub taken : plan.taken.items ≡ places_from (is_taken c schema) 0 vs
+pub record IsPlanOf (c : RowsChange) (vs : List Version) (plan : Plan) : Type 0 where
+  pub parts : plan.parts ≡ parts_of_all c (current vs)
+  pub taken : plan.taken.items ≡ places_from (is_taken c) 0 vs

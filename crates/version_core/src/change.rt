@@ -1,73 +1,92 @@
-//! Changes of the tables of a book.
+//! Changes of a table's rows, by the places of columns.
 
+ghost use Rattle.std.specs.Prelude.{◌≡◌};
+ghost use Rattle.std.specs.Option.{option_copied};
+ghost use Rattle.table_core.specs.Lent.{lent_row};
+ghost use Rattle.version_core.specs.Finding.{portion_of};
+ghost use Rattle.version_core.specs.Keys.{is_left};
+ghost use Rattle.version_core.specs.Lent.{lent_version};
+ghost use Rattle.version_core.specs.OpenVersions.{is_taken};
+ghost use Rattle.version_core.specs.Rows.{removes, with_parts};
+ghost use Rattle.version_core.specs.Stored.{version_of};
+ghost use Rattle.version_core.specs.declared.change.RowsChange.TheVariants.{Portion};
+
+use crate::system_period::SystemPeriod;
+use crate::version_ref::VersionRef;
 use draft_core::Drafts;
-use list_core::{DeepCopy, List};
-use period_core::Period;
-use row_core::{Name, NoMemory, Schema, Value};
+use portion_core::PortionChange;
 use std::alloc::Global;
+use std::mem;
+use table_core::RowRef;
 
-/// Pairs of a column's name and a value.
-pub type Pairs = List<(Name, Value)>;
-
-/// A change of the tables of a book, or of the rows of one.
-#[derive(Debug, Drop)]
-pub enum Change {
-    /// A new table, without rows.
-    Make {
-        table: Name,
-        schema: Schema,
-    },
+/// A change of the rows of a table.
+#[derive(Drop)]
+pub enum RowsChange<'a> {
     /// More rows, with the ids that follow.
-    Load {
-        table: Name,
-        rows: Drafts,
-    },
-    /// Other values, within the portion, for the rows that meet all conditions.
-    Update {
-        table: Name,
-        portion: Period,
-        sets: Pairs,
-        conds: Pairs,
-    },
-    /// The rows that meet all conditions don't hold within the portion.
-    Delete {
-        table: Name,
-        portion: Period,
-        conds: Pairs,
-    },
+    Load(Drafts),
+    /// Other values within a portion, or none, for the rows that have the wanted ones.
+    Portion(PortionChange<'a>),
 }
 
-impl DeepCopy for Change {
-    fn copy(&self, alloc: Global) -> Result<Change, NoMemory> {
+impl<'a> RowsChange<'a> {
+    /// The change of a portion, where it is one.
+    pub(crate) fn portion(&self) -> Option<&PortionChange<'a>>
+        ensures { option_copied result ≡ portion_of self.now }
+    {
         match self {
-            Change::Make { table, schema } => Ok(Change::Make {
-                table: *table,
-                schema: schema.copy(alloc)?,
-            }),
-            Change::Load { table, rows } => Ok(Change::Load {
-                table: *table,
-                rows: rows.copy(alloc)?,
-            }),
-            Change::Update {
-                table,
-                portion,
-                sets,
-                conds,
-            } => Ok(Change::Update {
-                table: *table,
-                portion: *portion,
-                sets: sets.copy(alloc)?,
-                conds: conds.copy(alloc)?,
-            }),
-            Change::Delete {
-                table,
-                portion,
-                conds,
-            } => Ok(Change::Delete {
-                table: *table,
-                portion: *portion,
-                conds: conds.copy(alloc)?,
-            }),
+            RowsChange::Load(_) => None,
+            RowsChange::Portion(change) => Some(change),
         }
     }
+
+    /// Whether a version is open, and the change leaves its row.
+    pub(crate) fn leaves(&self, version: &VersionRef<'_>) -> bool
+        ensures { result ≡ is_left self.now (lent_version version.now) }
+    {
+        version.system_period.is_open() && !self.removes(version.row)
+    }
+
+    /// Whether the change takes out the row.
+    fn removes(&self, row: RowRef<'_>) -> bool
+        ensures { result ≡ removes self.now (lent_row row.entry) }
+    {
+        match self {
+            RowsChange::Load(_) => false,
+            RowsChange::Portion(change) => change.takes_out(row),
+        }
+    }
+
+    /// All new rows of a change whose parts of rows are these.
+    pub(crate) fn rows_made<'b>(&'b self, parts: &'b Drafts) -> &'b Drafts
+        ensures { result.now ≡ with_parts self.entry.now parts.entry.now }
+    {
+        match self {
+            RowsChange::Load(rows) => rows,
+            RowsChange::Portion(_) => parts,
+        }
+    }
+
+    /// The same; a load's rows are taken out of the change.
+    pub(crate) fn take_rows(&mut self, alloc: Global, parts: Drafts) -> Drafts
+        ensures { result ≡ with_parts self.old parts }
+    {
+        match self {
+            RowsChange::Load(new) => mem::replace(new, Drafts::new(alloc)),
+            RowsChange::Portion(_) => parts,
+        }
+    }
+}
+
+/// Whether a version is open, and the change takes out its row. The period is tested first: it shows of most
+/// versions that they stay, and of those no commits are read.
+#[inline(always)]
+pub(crate) fn takes(
+    change: &PortionChange<'_>,
+    row: RowRef<'_>,
+    system_period: &SystemPeriod,
+) -> bool
+    ensures { result ≡ is_taken (Portion change.now)
+        (version_of (lent_row row.entry) system_period.now) }
+{
+    change.reaches(&row.period()) && system_period.is_open() && change.takes_out(row)
 }

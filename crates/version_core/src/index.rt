@@ -1,21 +1,21 @@
 //! Indexes of open versions by the values of a column, and what a change of a portion looks at.
 
-ghost use Rattle.std.specs.Prelude.{◌≡◌, ◌==◌, ◌+◌, ◌<◌, ◌≤◌, [], true, false, find, length, option_map, position, take, unwrap_or, All, IfOk, IfSome, IsSome, OnOk, ◌⊎◌};
-ghost use Rattle.std.specs.List.{list_all};
+ghost use Rattle.std.specs.Prelude.{◌≡◌, ℕ, ◌==◌, ◌+◌, ◌<◌, ◌≤◌, [], true, false, find, length, option_map, position, take, unwrap_or, All, IfOk, IfSome, IsSome, OnOk, ◌⊎◌};
 ghost use Rattle.std.specs.Option.{option_copied};
 ghost use Rattle.row_core.specs.Lent.{lent_value};
 ghost use Rattle.row_core.specs.declared.row.Row.{Row};
 ghost use Rattle.table_core.specs.Lent.{lent_row};
-ghost use Rattle.version_core.specs.Finding.{AreNoMore, IsIndex, IsLookupOf, bucket_at, bucket_in, bucket_of, bucket_of_bytes, falls_into, led_to, lookup_in, lookup_of};
+ghost use Rattle.version_core.specs.Finding.{AreNoMore, IsIndex, IsLookupOf, bucket_at, bucket_in, bucket_of, bucket_of_bytes, falls_into, led_to, lookup_at};
 ghost use Rattle.version_core.specs.Limits.{bucket_count, version_limit};
-ghost use Rattle.version_core.specs.Rows.{conds_of, is_equal_at};
+ghost use Rattle.version_core.specs.declared.change.RowsChange.TheVariants.{Portion};
+ghost use Rattle.portion_core.specs.Wanted.{are_wanted};
 ghost use Rattle.version_core.specs.Stored.{version_of};
 
 use crate::places::Places;
-use crate::seeker::Seeker;
 use crate::stored::StoredVersions;
 use crate::system_period::SystemPeriod;
-use row_core::{NoMemory, Value, ValueRef};
+use portion_core::{ByColumn, PortionChange};
+use row_core::{NoMemory, ValueRef};
 use std::alloc::Global;
 use table_core::RowRef;
 
@@ -154,39 +154,54 @@ fn bucket_of_bytes(bytes: &[u8]) -> usize
     bucket
 }
 
-/// Where the rows are that the change takes out: the condition with the shortest bucket says so.
-pub(crate) fn lookup_of(indexes: &[Index], seeker: &Seeker<'_>) -> Option<Lookup>
+/// Where the rows are that the change takes out: the wanted value with the shortest bucket says so.
+pub(crate) fn lookup_of(indexes: &[Index], change: &PortionChange<'_>) -> Option<Lookup>
     requires { All (λ index. length index.buckets.items ≡ bucket_count) indexes.now }
     ensures few { IfSome result (λ lookup. lookup.bucket < bucket_count) }
-    ensures lookup { IfSome result (IsLookupOf seeker.now.change.now seeker.now.schema.now) }
+    ensures lookup { IfSome result (IsLookupOf (Portion change.now)) }
     ensures indexed { IfSome result (λ lookup. IsSome (bucket_at indexes.now lookup)) }
-    ensures shortest { All (λ pair. AreNoMore (led_to indexes.now result)
-        (led_to indexes.now (lookup_of seeker.now.schema.now pair)))
-        (conds_of seeker.now.change.now) }
+    ensures shortest { (column : ℕ) → column < length change.now.conds
+        → AreNoMore (led_to indexes.now result)
+        (led_to indexes.now (lookup_at change.now.conds column)) }
 {
-    best_lookup(indexes, seeker)
+    best_lookup(indexes, &change.conds)
 }
 
-/// Where the rows are that meet all conditions: of the buckets of conditions whose columns have indexes, the
+/// Where the rows are that have all wanted values: of the buckets of those whose columns have indexes, the
 /// shortest.
-fn best_lookup(indexes: &[Index], seeker: &Seeker<'_>) -> Option<Lookup>
+fn best_lookup(indexes: &[Index], wanted: &ByColumn<'_>) -> Option<Lookup>
     requires { All (λ index. length index.buckets.items ≡ bucket_count) indexes.now }
     ensures few { IfSome result (λ lookup. lookup.bucket < bucket_count) }
-    ensures lookup { IfSome result (λ lookup. (row : Row)
-        → list_all (is_equal_at seeker.now.schema.now row.values) (conds_of seeker.now.change.now) ≡ true
+    ensures lookup { IfSome result (λ lookup. (row : Row) → are_wanted wanted.now row.values ≡ true
         → falls_into lookup.column lookup.bucket row ≡ true) }
     ensures indexed { IfSome result (λ lookup. IsSome (bucket_at indexes.now lookup)) }
-    ensures shortest { All (λ pair. AreNoMore (led_to indexes.now result)
-        (led_to indexes.now (lookup_of seeker.now.schema.now pair)))
-        (conds_of seeker.now.change.now) }
+    ensures shortest { (column : ℕ) → column < length wanted.now
+        → AreNoMore (led_to indexes.now result) (led_to indexes.now (lookup_at wanted.now column)) }
 {
     let mut best = None;
-    let conds = seeker.conds();
-    for i in 0..conds.len() {
-        let lookup = lookup_in(seeker.column(i), &conds[i].1);
-        best = better_lookup(indexes, best, lookup);
+    for column in 0..wanted.width() {
+        let lookup = lookup_at(wanted, column);
+        if lookup.is_some() {
+            best = better_lookup(indexes, best, lookup);
+        }
     }
     best
+}
+
+/// The lookup of the value that is wanted in the column at that place, where one is.
+fn lookup_at(wanted: &ByColumn<'_>, column: usize) -> Option<Lookup>
+    requires { column < length wanted.now }
+    ensures lookup { result ≡ lookup_at wanted.now column }
+    ensures few { IfSome result (λ lookup. lookup.bucket < bucket_count) }
+{
+    let _ = wanted.width();
+    match wanted.get(column) {
+        Some(value) => Some(Lookup {
+            column: column as u32,
+            bucket: bucket_of(ValueRef::from(value)),
+        }),
+        None => None,
+    }
 }
 
 /// The lookup that leads to fewer places: the first, unless the other does.
@@ -209,7 +224,8 @@ fn better_lookup(indexes: &[Index], one: Option<Lookup>, other: Option<Lookup>) 
 fn are_fewer(places: Option<&[u32]>, others: Option<&[u32]>) -> bool
     ensures yes { result ≡ true → (IsSome (option_copied places.entry))
         × (AreNoMore (option_copied places.entry) (option_copied others.entry)) }
-    ensures no { result ≡ false → AreNoMore (option_copied others.entry) (option_copied places.entry) }
+    ensures no { result ≡ false
+        → AreNoMore (option_copied others.entry) (option_copied places.entry) }
 {
     match places {
         None => false,
@@ -244,20 +260,6 @@ fn bucket_at<'a>(indexes: &'a [Index], lookup: Lookup) -> Option<&'a [u32]>
     }
 }
 
-/// Where the rows are that have the value in a column, if one is given.
-fn lookup_in(column: Option<u32>, value: &Value) -> Option<Lookup>
-    ensures lookup { result ≡ option_map (lookup_in value.now) column }
-    ensures few { IfSome result (λ lookup. lookup.bucket < bucket_count) }
-{
-    match column {
-        Some(column) => Some(Lookup {
-            column,
-            bucket: bucket_of(ValueRef::from(value)),
-        }),
-        None => None,
-    }
-}
-
 /// The column's index.
 fn index_of(indexes: &[Index], column: u32) -> Option<&Index>
     ensures { option_copied result ≡ find (λ index. index.column == column) indexes.now }
@@ -288,12 +290,12 @@ pub(crate) fn candidates<'a>(
     }
 }
 
-/// Makes an index of each column that the change's conditions name, where memory is there.
+/// Makes an index of each column in which a value is wanted, where memory is there.
 pub(crate) fn make_indexes(
     alloc: Global,
     indexes: &mut Vec<Index>,
     versions: &StoredVersions,
-    seeker: &Seeker<'_>,
+    wanted: &ByColumn<'_>,
 )
     requires few { length versions.now ≤ version_limit }
     requires before { All (IsIndex versions.now) indexes.old.items }
@@ -302,9 +304,9 @@ pub(crate) fn make_indexes(
     if versions.len() < FEW {
         return;
     }
-    for i in 0..seeker.conds().len() {
-        if let Some(column) = seeker.column(i) {
-            make_index(alloc, indexes, versions, column);
+    for column in 0..wanted.width() {
+        if wanted.get(column).is_some() {
+            make_index(alloc, indexes, versions, column as u32);
         }
     }
 }

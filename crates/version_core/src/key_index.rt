@@ -13,8 +13,8 @@ ghost use Rattle.table_core.specs.Numbered.{unnumbered};
 ghost use Rattle.version_core.specs.Lent.{lent_version};
 ghost use Rattle.version_core.specs.declared.version.Version.{Version};
 
+use crate::change::RowsChange;
 use crate::keys::collides_at;
-use crate::seeker::Seeker;
 use crate::stored::StoredVersions;
 use crate::version_ref::VersionRef;
 use draft_core::DraftRef;
@@ -124,7 +124,7 @@ impl KeyIndex {
     /// from its end back, until no earlier one can.
     pub(crate) fn any_collides(
         &self,
-        seeker: &Seeker<'_>,
+        change: &RowsChange<'_>,
         versions: &StoredVersions,
         new: DraftRef<'_>,
     ) -> bool
@@ -133,14 +133,14 @@ impl KeyIndex {
             (map unnumbered (current versions.now)) ≡ false }
         ensures { result ≡ list_any
             (λ left. collide self.now.columns.items left (lent_draft new.entry))
-            (rows_left seeker.now.change.now seeker.now.schema.now (current versions.now)) }
+            (rows_left change.now (current versions.now)) }
     {
         let key = self.columns.as_slice();
         let end = end_of(key, new);
         let number = end.number;
         for entry in self.entries.range(..end).rev() {
             let place = entry.place;
-            if collides_at(seeker, key, versions, place, new) {
+            if collides_at(change, key, versions, place, new) {
                 return true;
             }
             if is_last_near(key, versions, entry, number, new) {

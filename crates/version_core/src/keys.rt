@@ -4,20 +4,20 @@ ghost use Rattle.std.specs.Prelude.{◌≡◌, ◌≢◌, ◌++◌, List, [], tr
 ghost use Rattle.std.specs.List.{list_any};
 ghost use Rattle.key_core.specs.Keys.{collide, have_collision};
 ghost use Rattle.draft_core.specs.Lent.{lent_draft};
-ghost use Rattle.row_core.specs.Schema.{key_of};
 ghost use Rattle.version_core.specs.Finding.{ListsOpen, any_row, passes};
-ghost use Rattle.version_core.specs.Keys.{collides_left, is_column_of, overlap_after, rows_left, sets_key, break_key};
+ghost use Rattle.version_core.specs.Keys.{collides_left, is_set, overlap_after, rows_left, break_key};
 ghost use Rattle.version_core.specs.OpenVersions.{current};
 ghost use Rattle.table_core.specs.Numbered.{unnumbered};
 ghost use Rattle.version_core.specs.Lent.{lent_version};
 ghost use Rattle.version_core.specs.declared.version.Version.{Version};
 
-use crate::seeker::Seeker;
+use crate::change::RowsChange;
 use crate::stored::StoredVersions;
 use crate::version_ref::VersionRef;
 use draft_core::{DraftRef, Drafts};
 use key_core::{collide, have_collision};
-use row_core::{Name, NoMemory, Schema, Value};
+use portion_core::ByColumn;
+use row_core::NoMemory;
 use std::alloc::{AllocError, Global};
 use thiserror::Error;
 
@@ -29,53 +29,42 @@ pub struct KeyOverlap;
 /// Whether the change can leave rows of one key that share an instant, where none do before it. A load
 /// can; an update only where it sets a column of the key, since what it leaves of a row holds where the
 /// row did.
-pub(crate) fn may_overlap(seeker: &Seeker<'_>, key: &[u32]) -> bool
-    requires { key.now ≡ key_of seeker.now.schema.now }
-    ensures keyed { result ≡ true → key_of seeker.now.schema.now ≢ [] }
+pub(crate) fn may_overlap(change: &RowsChange<'_>, key: &[u32]) -> bool
+    ensures keyed { result ≡ true → key.now ≢ [] }
     ensures never { result ≡ false → (versions : List Version)
-        → break_key (key_of seeker.now.schema.now) (map unnumbered (current versions)) ≡ false
-        → overlap_after seeker.now.change.now seeker.now.schema.now versions ≡ false }
+        → break_key key.now (map unnumbered (current versions)) ≡ false
+        → overlap_after change.now key.now versions ≡ false }
 {
     if key.is_empty() {
         return false;
     }
-    match seeker.portion {
-        None => true,
-        Some(_) => match seeker.sets {
-            Some(sets) => any_sets_key(seeker.schema, key, sets),
+    match change {
+        RowsChange::Load(_) => true,
+        RowsChange::Portion(change) => match &change.sets {
+            Some(sets) => any_set(sets, key),
             None => false,
         },
     }
 }
 
-/// Whether a setting is one of a column of the key.
-fn any_sets_key(schema: &Schema, key: &[u32], sets: &[(Name, Value)]) -> bool
-    ensures { result ≡ list_any (sets_key schema.now key.now) sets.now }
+/// Whether a value is set in a column of the key.
+fn any_set(sets: &ByColumn<'_>, key: &[u32]) -> bool
+    ensures { result ≡ list_any (is_set sets.now) key.now }
 {
-    sets.iter().any(|pair| sets_key(schema, key, pair))
+    key.iter().any(|column| is_set(sets, *column as usize))
 }
 
-/// Whether the setting is one of a column of the key.
-fn sets_key(schema: &Schema, key: &[u32], pair: &(Name, Value)) -> bool
-    ensures { result ≡ sets_key schema.now key.now pair.now }
+/// Whether a value is set in the column.
+fn is_set(sets: &ByColumn<'_>, column: usize) -> bool
+    ensures { result ≡ is_set sets.now column }
 {
-    match schema.column(pair.0) {
-        Some(column) => is_column_of(key, column),
-        None => false,
-    }
-}
-
-/// Whether the column is one of the key.
-fn is_column_of(key: &[u32], column: u32) -> bool
-    ensures { result ≡ is_column_of key.now column }
-{
-    key.iter().any(|other| *other == column)
+    column < sets.width() && sets.get(column).is_some()
 }
 
 /// Whether two of the rows that a change leaves and makes collide, where all open ones are gone through.
 pub(crate) fn collide_among_all(
     alloc: Global,
-    seeker: &Seeker<'_>,
+    change: &RowsChange<'_>,
     key: &[u32],
     versions: &StoredVersions,
     open_at: &[u32],
@@ -83,9 +72,9 @@ pub(crate) fn collide_among_all(
 ) -> Result<bool, NoMemory>
     requires { ListsOpen versions.now any_row open_at.now }
     ensures { IfOk result (λ overlap. overlap ≡ have_collision key.now
-        (rows_left seeker.now.change.now seeker.now.schema.now (current versions.now) ++ new.now)) }
+        (rows_left change.now (current versions.now) ++ new.now)) }
 {
-    let mut rows = rows_left(alloc, seeker, versions, open_at)?;
+    let mut rows = rows_left(alloc, change, versions, open_at)?;
     push_rows(&mut rows, new)?;
     Ok(have_collision(key, &mut rows))
 }
@@ -102,18 +91,18 @@ pub(crate) fn collide_among(alloc: Global, key: &[u32], new: &Drafts) -> Result<
 /// The rows of open versions that the change leaves.
 fn rows_left<'a>(
     alloc: Global,
-    seeker: &Seeker<'_>,
+    change: &RowsChange<'_>,
     versions: &'a StoredVersions,
     open_at: &[u32],
 ) -> Result<Vec<DraftRef<'a>>, NoMemory>
     requires { ListsOpen versions.now any_row open_at.now }
     ensures { IfOk result (λ rows. map lent_draft rows.items
-        ≡ rows_left seeker.now.change.now seeker.now.schema.now (current versions.now)) }
+        ≡ rows_left change.now (current versions.now)) }
 {
     let mut rows = Vec::new(alloc);
     for place in open_at {
         let version = versions.at(*place as usize);
-        if seeker.leaves(&version) {
+        if change.leaves(&version) {
             if let Err(_) = rows.push(version.row.draft()) {
                 return Err(AllocError);
             }
@@ -138,30 +127,30 @@ fn push_rows<'a>(rows: &mut Vec<DraftRef<'a>>, new: &'a Drafts) -> Result<(), No
 /// Whether an open version has that place, the change leaves its row, and that collides with the new
 /// one.
 pub(crate) fn collides_at(
-    seeker: &Seeker<'_>,
+    change: &RowsChange<'_>,
     key: &[u32],
     versions: &StoredVersions,
     place: usize,
     new: DraftRef<'_>,
 ) -> bool
-    ensures { result ≡ passes versions.now (collides_left seeker.now.change.now
-        seeker.now.schema.now key.now (lent_draft new.entry)) place }
+    ensures { result
+        ≡ passes versions.now (collides_left change.now key.now (lent_draft new.entry)) place }
 {
     match versions.get(place) {
-        Some(version) => collides_left(seeker, key, &version, new),
+        Some(version) => collides_left(change, key, &version, new),
         None => false,
     }
 }
 
 /// Whether the version is open, the change leaves its row, and that collides with the new one.
 fn collides_left(
-    seeker: &Seeker<'_>,
+    change: &RowsChange<'_>,
     key: &[u32],
     version: &VersionRef<'_>,
     new: DraftRef<'_>,
 ) -> bool
-    ensures { result ≡ collides_left seeker.now.change.now seeker.now.schema.now key.now
+    ensures { result ≡ collides_left change.now key.now
         (lent_draft new.entry) (lent_version version.now) }
 {
-    seeker.leaves(version) && collide(key, version.row.draft(), new)
+    change.leaves(version) && collide(key, version.row.draft(), new)
 }

@@ -5,12 +5,13 @@ ghost use Rattle.version_core.specs.Finding.{AreCandidates, passes};
 ghost use Rattle.version_core.specs.Limits.{version_limit};
 ghost use Rattle.version_core.specs.OpenVersions.{current, is_taken};
 ghost use Rattle.version_core.specs.Plans.{IsPlanOf, parts_at};
-ghost use Rattle.version_core.specs.Rows.{parts_of_all, with_parts};
+ghost use Rattle.version_core.specs.Rows.{parts_of_all};
+ghost use Rattle.version_core.specs.declared.change.RowsChange.TheVariants.{Portion};
 
-use crate::change::Change;
-use crate::seeker::Seeker;
+use crate::change::{RowsChange, takes};
 use crate::stored::StoredVersions;
 use draft_core::Drafts;
+use portion_core::PortionChange;
 use row_core::NoMemory;
 use std::alloc::Global;
 use table_core::RowRef;
@@ -34,30 +35,6 @@ pub(crate) fn is_small(new: &Drafts, taken: &[u32], versions: usize) -> bool {
     new.len().saturating_add(taken.len()) <= versions / VERSIONS_FOR_ONE
 }
 
-/// All new rows of a change whose parts of rows are these.
-pub(crate) fn rows_made<'a>(change: &'a Change, parts: &'a Drafts) -> &'a Drafts
-    ensures { result.now ≡ with_parts change.entry.now parts.entry.now }
-{
-    match change {
-        Change::Load { rows, .. } => rows,
-        Change::Make { .. } => parts,
-        Change::Update { .. } => parts,
-        Change::Delete { .. } => parts,
-    }
-}
-
-/// The same, taken out of the change.
-pub(crate) fn new_rows(change: Change, parts: Drafts) -> Drafts
-    ensures { result ≡ with_parts change parts }
-{
-    match change {
-        Change::Load { table: _, rows } => rows,
-        Change::Make { .. } => parts,
-        Change::Update { .. } => parts,
-        Change::Delete { .. } => parts,
-    }
-}
-
 /// How many places a change looks at before it branches. For most blocks of so many rows one branch shows
 /// that the change reaches none; of the few that it reaches, it goes over more rows the larger they are.
 const BLOCK: usize = 32;
@@ -66,21 +43,35 @@ const BLOCK: usize = 32;
 /// looked into where its portion reaches a row.
 pub(crate) fn plan_change(
     alloc: Global,
-    seeker: &Seeker<'_>,
+    change: &RowsChange<'_>,
     versions: &StoredVersions,
     places: &[u32],
 ) -> Result<Plan, NoMemory>
-    requires { AreCandidates seeker.now.change.now seeker.now.schema.now versions.now places.now }
-    ensures { IfOk result (IsPlanOf seeker.now.change.now seeker.now.schema.now versions.now) }
+    requires { AreCandidates change.now versions.now places.now }
+    ensures { IfOk result (IsPlanOf change.now versions.now) }
+{
+    match change {
+        RowsChange::Load(_) => Ok(Plan::empty(alloc)),
+        RowsChange::Portion(change) => plan_portion(alloc, change, versions, places),
+    }
+}
+
+/// Works out a change of a portion.
+fn plan_portion(
+    alloc: Global,
+    change: &PortionChange<'_>,
+    versions: &StoredVersions,
+    places: &[u32],
+) -> Result<Plan, NoMemory>
+    requires { AreCandidates (Portion change.now) versions.now places.now }
+    ensures { IfOk result (IsPlanOf (Portion change.now) versions.now) }
 {
     let mut plan = Plan::empty(alloc);
-    let Some(portion) = seeker.portion() else {
-        return Ok(plan);
-    };
+    let portion = change.portion;
     let (rows, _) = versions.rows_and_system_periods();
     for block in places.chunks(BLOCK) {
         if rows.any_reached(&portion, block) {
-            plan_block(alloc, &mut plan, seeker, versions, block)?;
+            plan_block(alloc, &mut plan, change, versions, block)?;
         }
     }
     Ok(plan)
@@ -103,23 +94,23 @@ impl Plan {
 fn plan_block(
     alloc: Global,
     plan: &mut Plan,
-    seeker: &Seeker<'_>,
+    change: &PortionChange<'_>,
     versions: &StoredVersions,
     places: &[u32],
 ) -> Result<(), NoMemory>
     requires inside { All (λ place. place < length versions.now) places.now }
     requires parts { plan.old.parts
-        ≡ parts_at seeker.now.change.now seeker.now.schema.now versions.now plan.old.taken.items }
+        ≡ parts_at (Portion change.now) versions.now plan.old.taken.items }
     ensures parts { OnOk result (plan.new.parts
-        ≡ parts_at seeker.now.change.now seeker.now.schema.now versions.now plan.new.taken.items) }
+        ≡ parts_at (Portion change.now) versions.now plan.new.taken.items) }
     ensures taken { OnOk result (plan.new.taken.items ≡ plan.old.taken.items ++ filter
-        (passes versions.now (is_taken seeker.now.change.now seeker.now.schema.now)) places.now) }
+        (passes versions.now (is_taken (Portion change.now))) places.now) }
 {
     let (drafts, system_periods) = versions.rows_and_system_periods();
     for place in places {
         let row = RowRef::of_draft(*place as usize, drafts.at(*place as usize));
-        if seeker.takes(row, &system_periods[*place as usize]) {
-            seeker.push_parts(alloc, &mut plan.parts, row)?;
+        if takes(change, row, &system_periods[*place as usize]) {
+            change.push_parts(alloc, &mut plan.parts, row)?;
             plan.taken.push(*place)?;
         }
     }
@@ -127,18 +118,21 @@ fn plan_block(
 }
 
 /// How many rows come in the place of those that the change takes out.
-pub(crate) fn count_parts(seeker: &Seeker<'_>, versions: &StoredVersions, places: &[u32]) -> usize
+pub(crate) fn count_parts(
+    change: &PortionChange<'_>,
+    versions: &StoredVersions,
+    places: &[u32],
+) -> usize
     requires few { length versions.now ≤ version_limit }
-    requires places { AreCandidates seeker.now.change.now seeker.now.schema.now versions.now places.now }
-    ensures { result ≡ length (parts_of_all seeker.now.change.now seeker.now.schema.now
-        (current versions.now)) }
+    requires places { AreCandidates (Portion change.now) versions.now places.now }
+    ensures { result ≡ length (parts_of_all (Portion change.now) (current versions.now)) }
 {
     let mut count = 0;
     let (drafts, system_periods) = versions.rows_and_system_periods();
     for place in places {
         let row = RowRef::of_draft(*place as usize, drafts.at(*place as usize));
-        if seeker.takes(row, &system_periods[*place as usize]) {
-            count += seeker.count_of(row);
+        if takes(change, row, &system_periods[*place as usize]) {
+            count += change.count_parts(row);
         }
     }
     count

@@ -68,7 +68,8 @@ pub(crate) fn rows_holding(
     n: u64,
     point: Point,
 ) -> Result<SharedRows, NoMemory>
-    ensures { IfOk result (λ rows. rows ≡ filter (λ row. holds_at point row.period) (shown n versions.now)) }
+    ensures { IfOk result (λ rows. rows
+        ≡ filter (λ row. holds_at point row.period) (shown n versions.now)) }
 {
     versions.at_places(places_shown(alloc, versions, n, Some(point), 0)?)
 }
@@ -82,7 +83,8 @@ fn places_shown(
     point: Option<Point>,
     room: usize,
 ) -> Result<Vec<u32>, NoMemory>
-    ensures within { IfOk result (λ places. All (λ place. place < length versions.now) places.items) }
+    ensures within { IfOk result (λ places.
+        All (λ place. place < length versions.now) places.items) }
     ensures shown { IfOk result (λ places. at_places places.items (map (λ v. v.row) versions.now)
         ≡ filter (holds_where point) (shown n versions.now)) }
 {

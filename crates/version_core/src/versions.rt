@@ -4,10 +4,8 @@ ghost use Rattle.std.specs.Prelude.{◌≡◌, ◌≢◌, ◌+◌, ◌≤◌, �
 ghost use Rattle.std.specs.List.{list_any, range_with_len};
 ghost use Rattle.key_core.specs.Keys.{collide, have_collision};
 ghost use Rattle.period_core.specs.Period.{holds_at};
-ghost use Rattle.row_core.specs.Schema.{key_of};
 ghost use Rattle.row_core.specs.declared.failure.Failure.TheVariants.{NoMemory};
 ghost use Rattle.row_core.specs.declared.row.Row.{Row as AnyRow};
-ghost use Rattle.row_core.specs.declared.schema.Column.{Column};
 ghost use Rattle.table_core.specs.Numbered.{numbered, unnumbered};
 ghost use Rattle.version_core.specs.Finding.{IsIndex, IsLookupOf};
 ghost use Rattle.version_core.specs.KeyIndex.{IsKeyIndex};
@@ -18,9 +16,10 @@ ghost use Rattle.version_core.specs.OpenVersions.{closed_at, current, versions_a
 ghost use Rattle.version_core.specs.Plans.{IsPlanOf};
 ghost use Rattle.version_core.specs.Rows.{drafts_of, parts_of_all, removes};
 ghost use Rattle.version_core.specs.Shown.{shown, versions_as_of};
-ghost use Rattle.version_core.specs.declared.change.Change.{Change};
+ghost use Rattle.version_core.specs.declared.change.RowsChange.TheVariants.{Portion};
+ghost use Rattle.portion_core.specs.declared.portion_change.PortionChange.{PortionChange as AnyPortionChange};
 
-use crate::change::Change;
+use crate::change::RowsChange;
 use crate::commit_number::CommitNumber;
 use crate::index::{
     Index, Lookup, candidates, drop_closed_at, extend_indexes, lookup_of, make_indexes,
@@ -29,16 +28,15 @@ use crate::index::{
 use crate::key_index::{KeyIndex, index_by};
 use crate::keys::{KeyOverlap, collide_among, collide_among_all, may_overlap};
 use crate::places::Places;
-use crate::planning::{Plan, count_parts, is_small, new_rows, plan_change, rows_made};
-use crate::seeker::Seeker;
+use crate::planning::{Plan, count_parts, is_small, plan_change};
 use crate::shared_versions::SharedVersions;
 use crate::stored::StoredVersions;
-use crate::table_columns::TableColumns;
 use crate::version::{rows_holding, rows_shown, versions_seen};
 use draft_core::Drafts;
 use list_core::DeepCopy;
 use period_core::Point;
-use row_core::{Failure, NoMemory, Schema};
+use portion_core::PortionChange;
+use row_core::{Failure, NoMemory};
 use std::alloc::Global;
 use std::marker::Model;
 use table_core::SharedRows;
@@ -145,74 +143,82 @@ impl Versions {
     /// How many rows a change can put in the place of those that it takes out: three of each.
     pub fn most_parts(&self) -> usize
         requires { length self.now ≤ version_limit }
-        ensures { (change : Change) (columns : List Column)
-            → length (parts_of_all change columns (current self.now)) ≤ result }
+        ensures { (change : AnyPortionChange)
+            → length (parts_of_all (Portion change) (current self.now)) ≤ result }
     {
         3 * self.open_at.len()
     }
 
     /// How many rows come in the place of those that the change takes out.
-    pub fn count_parts(&self, schema: &Schema, change: &Change) -> usize
+    pub fn count_parts(&self, change: &PortionChange<'_>) -> usize
         requires { length self.now ≤ version_limit }
-        ensures { result ≡ length (parts_of_all change.now schema.now (current self.now)) }
+        ensures { result ≡ length (parts_of_all (Portion change.now) (current self.now)) }
     {
-        let seeker = Seeker::of(schema, change);
-        let lookup = lookup_of(&self.indexes, &seeker);
+        let lookup = lookup_of(&self.indexes, change);
         let places = candidates(self.open_at.as_slice(), &self.indexes, lookup);
-        count_parts(&seeker, &self.items, places)
+        count_parts(change, &self.items, places)
     }
 
     /// Closes the versions whose rows the change takes out, and adds those that it makes, unless rows of
-    /// one key would share an instant. After a refusal they are as before.
+    /// one key would share an instant. After a refusal they are as before. A load's rows are taken out of it.
     pub fn apply(
         &mut self,
         alloc: Global,
-        schema: &TableColumns,
+        key: &[u32],
         commit: CommitNumber,
-        change: Change,
+        change: &mut RowsChange<'_>,
     ) -> Result<VersionCounts, Failure<KeyOverlap>>
         requires room { length self.old
-            + length (drafts_of change schema.now (current self.old)) ≤ version_limit }
-        requires unbroken { break_key (key_of schema.now) (map unnumbered (current self.old)) ≡ false }
-        ensures ok { OnOk result (self.new ≡ versions_after commit change schema.now self.old) }
+            + length (drafts_of change.old (current self.old)) ≤ version_limit }
+        requires unbroken { break_key key.now (map unnumbered (current self.old)) ≡ false }
+        ensures ok { OnOk result (self.new ≡ versions_after commit change.old self.old) }
         ensures counts { IfOk result (λ counts.
-            (counts.added ≡ length (drafts_of change schema.now (current self.old)))
-            × (counts.closed ≡ count_by (removes change schema.now) (current self.old))) }
-        ensures apart { OnOk result (overlap_after change schema.now self.old ≡ false) }
+            (counts.added ≡ length (drafts_of change.old (current self.old)))
+            × (counts.closed ≡ count_by (removes change.old) (current self.old))) }
+        ensures apart { OnOk result (overlap_after change.old key.now self.old ≡ false) }
         ensures overlap { IfErr result (λ failure. failure ≢ NoMemory
-            → overlap_after change schema.now self.old ≡ true) }
+            → overlap_after change.old key.now self.old ≡ true) }
         ensures err { OnErr result (self.new ≡ self.old) }
     {
-        let plan = self.plan(alloc, schema, &change)?;
-        Ok(self.carry_out(alloc, schema, commit, change, plan)?)
+        let plan = self.plan(alloc, key, change)?;
+        Ok(self.carry_out(alloc, commit, change, plan)?)
     }
 
     /// Works out the change, unless it would leave an overlap. Indexes are made that help to find rows.
     fn plan(
         &mut self,
         alloc: Global,
-        schema: &TableColumns,
-        change: &Change,
+        key: &[u32],
+        change: &RowsChange<'_>,
     ) -> Result<Plan, Failure<KeyOverlap>>
         requires few { length self.old ≤ version_limit }
-        requires unbroken { break_key (key_of schema.now) (map unnumbered (current self.old)) ≡ false }
+        requires unbroken { break_key key.now (map unnumbered (current self.old)) ≡ false }
         ensures same { self.new ≡ self.old }
-        ensures plan { IfOk result (IsPlanOf change.now schema.now self.old) }
-        ensures apart { OnOk result (overlap_after change.now schema.now self.old ≡ false) }
+        ensures plan { IfOk result (IsPlanOf change.now self.old) }
+        ensures apart { OnOk result (overlap_after change.now key.now self.old ≡ false) }
         ensures overlap { IfErr result (λ failure. failure ≢ NoMemory
-            → overlap_after change.now schema.now self.old ≡ true) }
+            → overlap_after change.now key.now self.old ≡ true) }
     {
-        let seeker = Seeker::of(schema.schema(), change);
-        let key = schema.key();
-        make_indexes(alloc, &mut self.indexes, &self.items, &seeker);
-        let lookup = lookup_of(&self.indexes, &seeker);
+        let lookup = self.look_up(alloc, change);
         self.drop_closed(lookup);
-        let plan = self.find_rows(alloc, &seeker, lookup)?;
-        self.prepare_key_index(alloc, &seeker, key, &plan);
-        if self.leaves_overlap(alloc, &seeker, key, &plan.parts)? {
+        let plan = self.find_rows(alloc, change, lookup)?;
+        self.prepare_key_index(alloc, change, key, &plan);
+        if self.leaves_overlap(alloc, change, key, &plan.parts)? {
             return Err(Failure::Refused(KeyOverlap));
         }
         Ok(plan)
+    }
+
+    /// Where the rows are that the change takes out. Indexes are made that help to find them.
+    fn look_up(&mut self, alloc: Global, change: &RowsChange<'_>) -> Option<Lookup>
+        requires { length self.old ≤ version_limit }
+        ensures same { self.new ≡ self.old }
+        ensures few { IfSome result (λ lookup. lookup.bucket < bucket_count) }
+        ensures lookup { IfSome result (IsLookupOf change.now) }
+    {
+        let change = change.portion()?;
+        make_indexes(alloc, &mut self.indexes, &self.items, &change.conds);
+        lookup_of(&self.indexes, change)
     }
 
     /// Drops places of closed versions where a change with that lookup looks: in its bucket, or, where many
@@ -237,26 +243,31 @@ impl Versions {
     fn find_rows(
         &self,
         alloc: Global,
-        seeker: &Seeker<'_>,
+        change: &RowsChange<'_>,
         lookup: Option<Lookup>,
     ) -> Result<Plan, NoMemory>
         requires bucket { IfSome lookup (λ lookup. lookup.bucket < bucket_count) }
-        requires lookup { IfSome lookup (IsLookupOf seeker.now.change.now seeker.now.schema.now) }
-        ensures { IfOk result (IsPlanOf seeker.now.change.now seeker.now.schema.now self.now) }
+        requires lookup { IfSome lookup (IsLookupOf change.now) }
+        ensures { IfOk result (IsPlanOf change.now self.now) }
     {
         let places = candidates(self.open_at.as_slice(), &self.indexes, lookup);
-        plan_change(alloc, seeker, &self.items, places)
+        plan_change(alloc, change, &self.items, places)
     }
 
     /// Makes the index of the key where it helps to test the plan, and drops it where that isn't small.
-    fn prepare_key_index(&mut self, alloc: Global, seeker: &Seeker<'_>, key: &[u32], plan: &Plan)
-        requires { key.now ≡ key_of seeker.now.schema.now }
+    fn prepare_key_index(
+        &mut self,
+        alloc: Global,
+        change: &RowsChange<'_>,
+        key: &[u32],
+        plan: &Plan,
+    )
         ensures { self.new ≡ self.old }
     {
-        let new = rows_made(seeker.change, &plan.parts);
+        let new = change.rows_made(&plan.parts);
         if !is_small(new, &plan.taken, self.items.len()) {
             self.key_index = None;
-        } else if index_by(&self.key_index, key).is_none() && may_overlap(seeker, key) {
+        } else if index_by(&self.key_index, key).is_none() && may_overlap(change, key) {
             self.key_index = KeyIndex::of(alloc, &self.items, key).ok();
         }
     }
@@ -265,23 +276,22 @@ impl Versions {
     fn carry_out(
         &mut self,
         alloc: Global,
-        schema: &TableColumns,
         commit: CommitNumber,
-        change: Change,
+        change: &mut RowsChange<'_>,
         plan: Plan,
     ) -> Result<VersionCounts, NoMemory>
         requires room { length self.old
-            + length (drafts_of change schema.now (current self.old)) ≤ version_limit }
-        requires plan { IsPlanOf change schema.now self.old plan }
-        ensures ok { OnOk result (self.new ≡ versions_after commit change schema.now self.old) }
+            + length (drafts_of change.old (current self.old)) ≤ version_limit }
+        requires plan { IsPlanOf change.old self.old plan }
+        ensures ok { OnOk result (self.new ≡ versions_after commit change.old self.old) }
         ensures counts { IfOk result (λ counts.
-            (counts.added ≡ length (drafts_of change schema.now (current self.old)))
-            × (counts.closed ≡ count_by (removes change schema.now) (current self.old))) }
+            (counts.added ≡ length (drafts_of change.old (current self.old)))
+            × (counts.closed ≡ count_by (removes change.old) (current self.old))) }
         ensures err { OnErr result (self.new ≡ self.old) }
     {
         let before = self.items.len();
         let Plan { parts, taken } = plan;
-        let new = new_rows(change, parts);
+        let new = change.take_rows(alloc, parts);
         let counts = VersionCounts {
             added: new.len() as u64,
             closed: taken.len() as u64,
@@ -303,20 +313,18 @@ impl Versions {
     fn leaves_overlap(
         &self,
         alloc: Global,
-        seeker: &Seeker<'_>,
+        change: &RowsChange<'_>,
         key: &[u32],
         parts: &Drafts,
     ) -> Result<bool, NoMemory>
-        requires key { key.now ≡ key_of seeker.now.schema.now }
-        requires unbroken { break_key (key_of seeker.now.schema.now)
-            (map unnumbered (current self.now)) ≡ false }
+        requires unbroken { break_key key.now (map unnumbered (current self.now)) ≡ false }
         requires parts { parts.now
-            ≡ parts_of_all seeker.now.change.now seeker.now.schema.now (current self.now) }
+            ≡ parts_of_all change.now (current self.now) }
         ensures { IfOk result (λ overlap. overlap
-            ≡ overlap_after seeker.now.change.now seeker.now.schema.now self.now) }
+            ≡ overlap_after change.now key.now self.now) }
     {
-        if may_overlap(seeker, key) {
-            self.find_overlap(alloc, seeker, key, rows_made(seeker.change, parts))
+        if may_overlap(change, key) {
+            self.find_overlap(alloc, change, key, change.rows_made(parts))
         } else {
             Ok(false)
         }
@@ -327,23 +335,23 @@ impl Versions {
     fn find_overlap(
         &self,
         alloc: Global,
-        seeker: &Seeker<'_>,
+        change: &RowsChange<'_>,
         key: &[u32],
         new: &Drafts,
     ) -> Result<bool, NoMemory>
         requires unbroken { have_collision key.now (map unnumbered (current self.now)) ≡ false }
         ensures { IfOk result (λ overlap. overlap ≡ have_collision key.now
-            (rows_left seeker.now.change.now seeker.now.schema.now (current self.now) ++ new.now)) }
+            (rows_left change.now (current self.now) ++ new.now)) }
     {
         match index_by(&self.key_index, key) {
             Some(index) => {
                 let among_new = collide_among(alloc, key, new)?;
-                Ok(among_new || self.any_meets(seeker, index, new))
+                Ok(among_new || self.any_meets(change, index, new))
             }
             None => {
                 collide_among_all(
                     alloc,
-                    seeker,
+                    change,
                     key,
                     &self.items,
                     self.open_at.as_slice(),
@@ -354,16 +362,16 @@ impl Versions {
     }
 
     /// Whether a new row collides with one that the change leaves.
-    fn any_meets(&self, seeker: &Seeker<'_>, index: &KeyIndex, new: &Drafts) -> bool
+    fn any_meets(&self, change: &RowsChange<'_>, index: &KeyIndex, new: &Drafts) -> bool
         requires index { IsKeyIndex self.now index.now }
         requires unbroken { have_collision index.now.columns.items
             (map unnumbered (current self.now)) ≡ false }
         ensures { result ≡ list_any (λ other. list_any
             (λ left. collide index.now.columns.items left other)
-            (rows_left seeker.now.change.now seeker.now.schema.now (current self.now))) new.now }
+            (rows_left change.now (current self.now))) new.now }
     {
         for i in 0..new.len() {
-            if index.any_collides(seeker, &self.items, new.at(i)) {
+            if index.any_collides(change, &self.items, new.at(i)) {
                 return true;
             }
         }

@@ -2,7 +2,7 @@ use Rattle.std.proofs.Common.{◌≡◌, ◌+◌, ◌++◌, ◌∷◌, ◌∙◌
 use Rattle.std.specs.List.{slice_get}
 use Rattle.row_core.specs.Refusals.{map_err}
 use Rattle.std.proofs.lemmas.Result.{err_from_is_err_and}
-use Rattle.version_core.specs.Rows.{Pair}
+use Rattle.book_core.specs.Rows.{Pair}
 use Rattle.command_core.specs.Pairs.{TextPair}
 use Rattle.command_core.specs.PairsIn.{pairs_in}
 use Rattle.command_core.specs.Refusal.{fault}

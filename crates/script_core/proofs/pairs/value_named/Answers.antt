@@ -11,7 +11,7 @@ use Rattle.row_core.specs.declared.failure.Failure.{Failure}
 use Rattle.row_core.specs.declared.failure.Failure.TheVariants.{Refused, NoMemory}
 use Rattle.row_core.specs.declared.value.Value.{Value}
 use Rattle.row_core.specs.declared.value.ValueRefused.{ValueRefused}
-use Rattle.version_core.specs.Rows.{Pair}
+use Rattle.book_core.specs.Rows.{Pair}
 use Rattle.command_core.specs.declared.refusal.Refusal.{Refusal}
 use Rattle.command_core.proofs.Cutting.{slice_get-there}
 use Rattle.script_core.specs.Failure.{IsRecordFailure, failure_at}

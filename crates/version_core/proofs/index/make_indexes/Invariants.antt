@@ -3,5 +3,5 @@ use Rattle.version_core.specs.Finding.{IsIndex}
 use Rattle.version_core.proofs.index.make_indexes.Given as goal
 
 -- all are indexes of the versions
-abbrev pub invariant-loop-i : goal.invariant-loop-i
-invariant-loop-i l = All (IsIndex l.versions) l.indexes.items
+abbrev pub invariant-loop-column : goal.invariant-loop-column
+invariant-loop-column l = All (IsIndex l.versions) l.indexes.items

@@ -19,7 +19,7 @@ loop-place-preserved c =
     let places = c.args.open_at.now in
     let i = c.loop-place.place-index in
     let version = (lent_version c.at-version.result) in
-    let left = is_left c.args.seeker.now.change.now c.args.seeker.now.schema.now in
+    let left = is_left c.args.change.now in
     let inside : get_or places i 0 < length vs = c.requires.inside i 0 c.loop-place-test.true in
     let here = sym (get_or_from_slice_get vs (get_or places i 0) version version c.at-version.ensures) in
     elim c.if-leaves.branch [
@@ -38,6 +38,6 @@ pub returns : goal.returns
 returns c =
     c.loop-place.invariant
     ∙ ap (λ places. drafts_at c.args.versions.now
-    (filter (passes c.args.versions.now (is_left c.args.seeker.now.change.now c.args.seeker.now.schema.now)) places))
+    (filter (passes c.args.versions.now (is_left c.args.change.now)) places))
     (take_all c.loop-place.place-index c.args.open_at.now c.loop-place-test.false)
-    ∙ left-listed c.args.seeker.now.change.now c.args.seeker.now.schema.now c.args.versions.now c.args.open_at.now c.requires
+    ∙ left-listed c.args.change.now c.args.versions.now c.args.open_at.now c.requires

@@ -10,4 +10,4 @@ use Rattle.version_core.proofs.keys.rows_left.Given as goal
 abbrev pub invariant-loop-place : goal.invariant-loop-place
 invariant-loop-place l =
     map lent_draft l.rows.items ≡ drafts_at l.versions
-    (filter (passes l.versions (is_left l.seeker.change.now l.seeker.schema.now)) (take l.place-index l.open_at))
+    (filter (passes l.versions (is_left l.change)) (take l.place-index l.open_at))

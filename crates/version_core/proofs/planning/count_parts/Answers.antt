@@ -9,6 +9,7 @@ use Rattle.table_core.specs.Lent.{lent_row}
 use Rattle.version_core.specs.Stored.{version_of}
 use Rattle.version_core.proofs.StoredLemmas.{version-at}
 use Rattle.version_core.specs.Plans.{parts_at}
+use Rattle.version_core.specs.declared.change.RowsChange.TheVariants.{Portion}
 use Rattle.version_core.proofs.OpenLemmas.{parts_at-push, parts_at-taken, place-no, place-yes}
 use Rattle.version_core.proofs.planning.count_parts.Goals as goal
 use Rattle.version_core.proofs.planning.count_parts.Goals.{then-takes, else-takes}
@@ -31,7 +32,7 @@ loop-place-preserved c =
     let system_period = c.index-system_periods-place.result in
     let row = lent_row c.of_draft-row.result in
     let version = version_of row system_period in
-    let taken = is_taken c.args.seeker.now.change.now c.args.seeker.now.schema.now in
+    let taken = is_taken (Portion c.args.change.now) in
     let so_far = filter (passes vs taken) (take i places) in
     let inside : get_or places i 0 < length vs = c.requires.places.inside i 0 c.loop-place-test.true in
     let beside : get_or places i 0 < length c.rows_and_system_periods.result.1.now =
@@ -51,11 +52,11 @@ loop-place-preserved c =
           (so_far ++ get_or places i 0 ∷ []) c.loop-place-test.true inside found test refl refl
           in
           let grown = ap length
-          (ap (parts_at c.args.seeker.now.change.now c.args.seeker.now.schema.now vs) (sym more)
-          ∙ parts_at-push c.args.seeker.now.change.now c.args.seeker.now.schema.now vs so_far
+          (ap (parts_at (Portion c.args.change.now) vs) (sym more)
+          ∙ parts_at-push (Portion c.args.change.now) vs so_far
           (get_or places i 0) version inside found) in
-          let parts = w.count_of-count.ensures.parts c.args.seeker.now.schema.now in
-          let three = w.count_of-count.ensures.few in
+          let parts = w.count_parts-count.ensures.parts in
+          let three = w.count_parts-count.ensures.few in
           let sum = w.count-is in
           record {
             counted = omega (
@@ -65,8 +66,8 @@ loop-place-preserved c =
               parts,
               sum,
               length-append
-                  (parts_at c.args.seeker.now.change.now c.args.seeker.now.schema.now vs so_far)
-                  (parts_of c.args.seeker.now.change.now c.args.seeker.now.schema.now version.row),
+                  (parts_at (Portion c.args.change.now) vs so_far)
+                  (parts_of (Portion c.args.change.now) version.row),
             );
             few = omega (arith, few, three, sum);
           }
@@ -78,7 +79,7 @@ loop-place-preserved c =
           let kept = w.count-is in
           record {
             counted = kept ∙ counted ∙ ap (λ l. length
-                (parts_at c.args.seeker.now.change.now c.args.seeker.now.schema.now vs l)) same;
+                (parts_at (Portion c.args.change.now) vs l)) same;
             few = omega (arith, few, kept);
           }
     ]
@@ -86,6 +87,6 @@ loop-place-preserved c =
 pub returns : goal.returns
 returns c =
     c.loop-place.invariant.counted
-    ∙ ap length (parts_at-taken c.args.seeker.now.change.now c.args.seeker.now.schema.now c.args.versions.now _
-    (ap (filter (passes c.args.versions.now (is_taken c.args.seeker.now.change.now c.args.seeker.now.schema.now)))
+    ∙ ap length (parts_at-taken (Portion c.args.change.now) c.args.versions.now _
+    (ap (filter (passes c.args.versions.now (is_taken (Portion c.args.change.now))))
     (take_all c.loop-place.place-index c.args.places.now (omega arith)) ∙ c.requires.places.taken))

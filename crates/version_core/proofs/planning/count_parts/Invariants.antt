@@ -3,13 +3,14 @@ use Rattle.std.specs.Prelude.{filter}
 use Rattle.version_core.specs.Finding.{passes}
 use Rattle.version_core.specs.OpenVersions.{is_taken}
 use Rattle.version_core.specs.Plans.{parts_at}
+use Rattle.version_core.specs.declared.change.RowsChange.TheVariants.{Portion}
 use Rattle.version_core.proofs.planning.count_parts.Given as goal
 
 -- the parts of the rows that are taken at the places so far, at most three of a row
 abbrev pub invariant-loop-place : goal.invariant-loop-place
 invariant-loop-place l = record {
   counted : l.count ≡ length
-      (parts_at l.seeker.change.now l.seeker.schema.now l.versions
-      (filter (passes l.versions (is_taken l.seeker.change.now l.seeker.schema.now)) (take l.place-index l.places)));
+      (parts_at (Portion l.change) l.versions
+      (filter (passes l.versions (is_taken (Portion l.change))) (take l.place-index l.places)));
   few : l.count ≤ 3 * l.place-index;
 }

@@ -7,6 +7,7 @@ use Rattle.draft_core.specs.Lent.{lent_draft}
 use Rattle.table_core.specs.Lent.{lent_row}
 use Rattle.version_core.specs.Stored.{version_of}
 use Rattle.version_core.specs.Plans.{parts_at}
+use Rattle.version_core.specs.declared.change.RowsChange.TheVariants.{Portion}
 use Rattle.version_core.proofs.StoredLemmas.{version-at}
 use Rattle.version_core.proofs.OpenLemmas.{made-push, place-no, place-yes}
 use Rattle.version_core.proofs.planning.plan_block.Goals as goal
@@ -30,7 +31,7 @@ loop-place-preserved c =
     let system_period = c.index-system_periods-place.result in
     let row = lent_row c.of_draft-row.result in
     let version = version_of row system_period in
-    let taken = is_taken c.args.seeker.now.change.now c.args.seeker.now.schema.now in
+    let taken = is_taken (Portion c.args.change.now) in
     let start = c.args.plan.now.taken.items in
     let so_far = filter (passes vs taken) (take i places) in
     let inside : get_or places i 0 < length vs = c.requires.inside i 0 c.loop-place-test.true in
@@ -46,7 +47,7 @@ loop-place-preserved c =
           let test = sym c.takes.ensures ∙ w.if-takes.true in
           let grown = ap (λ p. p.taken.items) w.plan-is ∙ w.in_ok-push.ensures.items in
           record {
-            made = made-push c.args.seeker.now.change.now c.args.seeker.now.schema.now vs c.loop-place.plan.taken.items
+            made = made-push (Portion c.args.change.now) vs c.loop-place.plan.taken.items
                 c.if-takes.plan.taken.items (get_or places i 0) version c.loop-place.plan.parts
                 c.if-takes.plan.parts inside found c.loop-place.invariant.made
                 (ap (λ p. p.parts) w.plan-is ∙ w.in_ok-push_parts.ensures) grown;
@@ -61,7 +62,7 @@ loop-place-preserved c =
           let same = ap (λ p. p.taken.items) w.plan-is in
           record {
             made = ap (λ p. p.parts) w.plan-is ∙ c.loop-place.invariant.made
-                ∙ ap (parts_at c.args.seeker.now.change.now c.args.seeker.now.schema.now vs) (sym same);
+                ∙ ap (parts_at (Portion c.args.change.now) vs) (sym same);
             taken = same ∙ c.loop-place.invariant.taken
                 ∙ ap (λ l. start ++ l)
                 (place-no vs taken places i version so_far so_far c.loop-place-test.true inside found test refl refl);
@@ -72,5 +73,5 @@ pub returns-clause-taken : goal.returns-clause-taken
 returns-clause-taken c =
     c.loop-place.invariant.taken
     ∙ ap (λ l. c.args.plan.now.taken.items ++ filter
-    (passes c.args.versions.now (is_taken c.args.seeker.now.change.now c.args.seeker.now.schema.now)) l)
+    (passes c.args.versions.now (is_taken (Portion c.args.change.now))) l)
     (take_all c.loop-place.place-index c.args.places.now (omega arith))

@@ -3,12 +3,13 @@ use Rattle.std.specs.Prelude.{filter}
 use Rattle.version_core.specs.Finding.{passes}
 use Rattle.version_core.specs.OpenVersions.{is_taken}
 use Rattle.version_core.specs.Plans.{parts_at}
+use Rattle.version_core.specs.declared.change.RowsChange.TheVariants.{Portion}
 use Rattle.version_core.proofs.planning.plan_block.Given as goal
 
 -- what is taken at the places so far, and made for it
 abbrev pub invariant-loop-place : goal.invariant-loop-place
 invariant-loop-place l = record {
-  made : l.plan.parts ≡ parts_at l.seeker.change.now l.seeker.schema.now l.versions l.plan.taken.items;
+  made : l.plan.parts ≡ parts_at (Portion l.change) l.versions l.plan.taken.items;
   taken : l.plan.taken.items ≡ l.initial.plan.taken.items
-      ++ filter (passes l.versions (is_taken l.seeker.change.now l.seeker.schema.now)) (take l.place-index l.places);
+      ++ filter (passes l.versions (is_taken (Portion l.change))) (take l.place-index l.places);
 }

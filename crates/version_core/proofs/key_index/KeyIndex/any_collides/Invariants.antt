@@ -8,5 +8,5 @@ use Rattle.version_core.proofs.key_index.KeyIndex.any_collides.Given as goal
 abbrev pub invariant-loop-entry : goal.invariant-loop-entry
 invariant-loop-entry l =
     AreLeft (λ e. passes l.versions
-    (collides_left l.seeker.change.now l.seeker.schema.now l.self.columns.items (lent_draft l.new)) e.place)
+    (collides_left l.change l.self.columns.items (lent_draft l.new)) e.place)
     l.initial.entry-iterator.iter l.entry-iterator.iter

@@ -9,5 +9,5 @@ use Rattle.version_core.proofs.versions.Versions.any_meets.Given as goal
 abbrev pub invariant-loop-i : goal.invariant-loop-i
 invariant-loop-i l =
     list_any (λ other. list_any (λ left. collide l.index.columns.items left other)
-    (rows_left l.seeker.change.now l.seeker.schema.now (current l.self)))
+    (rows_left l.change (current l.self)))
     (take l.i l.new) ≡ false

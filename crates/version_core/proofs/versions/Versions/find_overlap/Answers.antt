@@ -14,22 +14,22 @@ pub returns-then-among_new : goal.returns-then-among_new
 returns-then-among_new c =
     c.if-among_new.true
     ∙ ap (λ t. t || have_meeting (collide c.args.key.now)
-    (rows_left c.args.seeker.now.change.now c.args.seeker.now.schema.now (current c.args.self.now)) c.args.new.now)
+    (rows_left c.args.change.now (current c.args.self.now)) c.args.new.now)
     (sym (sym c.in_ok-among_new-in-Some.ensures ∙ c.if-among_new.true))
     ∙ pairs-added (collide c.args.key.now)
-    (rows_left c.args.seeker.now.change.now c.args.seeker.now.schema.now (current c.args.self.now)) c.args.new.now
-    (left-apart c.args.seeker.now.change.now c.args.seeker.now.schema.now c.args.key.now
+    (rows_left c.args.change.now (current c.args.self.now)) c.args.new.now
+    (left-apart c.args.change.now c.args.key.now
     (current c.args.self.now) c.requires.unbroken)
 
 pub returns-else-among_new : goal.returns-else-among_new
 returns-else-among_new c =
     rw c.in-Some.ensures.1 at c.any_meets.ensures
     ∙ ap (λ t. t || have_meeting (collide c.args.key.now)
-    (rows_left c.args.seeker.now.change.now c.args.seeker.now.schema.now (current c.args.self.now)) c.args.new.now)
+    (rows_left c.args.change.now (current c.args.self.now)) c.args.new.now)
     (sym (sym c.in_ok-among_new-in-Some.ensures ∙ c.if-among_new.false))
     ∙ pairs-added (collide c.args.key.now)
-    (rows_left c.args.seeker.now.change.now c.args.seeker.now.schema.now (current c.args.self.now)) c.args.new.now
-    (left-apart c.args.seeker.now.change.now c.args.seeker.now.schema.now c.args.key.now
+    (rows_left c.args.change.now (current c.args.self.now)) c.args.new.now
+    (left-apart c.args.change.now c.args.key.now
     (current c.args.self.now) c.requires.unbroken)
 
 pub collide_among_all-requires : goal.collide_among_all-requires
@@ -40,6 +40,6 @@ returns-in-None c =
     IfOk-weaker c.collide_among_all.result _ _
     (λ overlap e. e
     ∙ ap (λ vs. have_collision c.args.key.now
-    (rows_left c.args.seeker.now.change.now c.args.seeker.now.schema.now (current vs) ++ c.args.new.now))
+    (rows_left c.args.change.now (current vs) ++ c.args.new.now))
     c.self.view_is)
     c.collide_among_all.ensures

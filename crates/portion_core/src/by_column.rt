@@ -1,0 +1,71 @@
+//! Values for the columns of a table.
+
+ghost use Rattle.std.specs.Prelude.{◌≡◌, ◌<◌, None, Some, get_or, length, replicate, slice_set};
+ghost use Rattle.std.specs.Option.{option_copied};
+ghost use Rattle.row_core.specs.Limits.{column_limit};
+
+use row_core::Value;
+use std::marker::Model;
+
+/// The most columns of a table.
+const COLUMN_LIMIT: usize = 16;
+
+/// A value, or none, for each place at which a table can have a column. Contracts see these, from the first
+/// place on.
+#[derive(Drop)]
+pub struct ByColumn<'a> {
+    values: [Option<&'a Value>; COLUMN_LIMIT],
+}
+
+impl<'a> Model for ByColumn<'a> {
+    ghost use Rattle.std.specs.Prelude.{◌≡◌, List, Option, length, map};
+    ghost use Rattle.std.specs.Option.{option_copied};
+    ghost use Rattle.row_core.specs.Limits.{column_limit};
+    ghost use Rattle.row_core.specs.declared.value.Value.{Value as AnyValue};
+
+    ghost Value = { List (Option AnyValue) };
+
+    ghost view = { λ c. map option_copied c.values };
+
+    ghost invariant = { λ c. length c.values ≡ column_limit };
+}
+
+impl<'a> ByColumn<'a> {
+    /// No value for any column.
+    pub fn new() -> Self
+        ensures { result ≡ replicate column_limit None }
+    {
+        ByColumn {
+            values: [None; COLUMN_LIMIT],
+        }
+    }
+
+    /// How many places there are: as many as a table can have columns.
+    #[inline(always)]
+    pub fn width(&self) -> usize
+        ensures width { result ≡ length self.now }
+        ensures limit { result ≡ column_limit }
+    {
+        let _ = &self.values;
+        COLUMN_LIMIT
+    }
+
+    /// The value for the column at that place, where there is one.
+    #[inline(always)]
+    pub fn get(&self, column: usize) -> Option<&'a Value>
+        requires { column < length self.now }
+        ensures { option_copied result ≡ get_or self.now column None }
+    {
+        let values = &self.values[..];
+        values[column]
+    }
+
+    /// Puts the value for the column at that place in the place of the one before.
+    pub fn set(&mut self, column: usize, value: &'a Value)
+        requires { column < length self.old }
+        ensures { self.new ≡ slice_set self.old column (Some value.now) }
+    {
+        let values = &mut self.values[..];
+        values[column] = Some(value);
+    }
+}
