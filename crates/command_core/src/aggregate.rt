@@ -65,7 +65,8 @@ fn column_func<'a>(word: &[u8], column: &'a [u8]) -> Option<RawFunc<'a>>
 
 /// The column that rows are grouped by, named behind `by`; none where there is no field at all.
 fn group_named<'a>(fields: Line<'a>) -> Option<Option<&'a [u8]>>
-    ensures { option_map (option_map (λ column. column.now)) result ≡ group_named (fields_in fields.entry) }
+    ensures { option_map (option_map (λ column. column.now)) result
+        ≡ group_named (fields_in fields.entry) }
 {
     if fields.len() == 0 {
         return Some(None);

@@ -29,8 +29,8 @@ ghost use Rattle.command_core.specs.Meaning.{
   block_meaning,
   check_meaning,
   load_meaning,
-  record_meaning,
   meaning_or_refusal,
+  record_meaning,
 };
 ghost use Rattle.command_core.specs.Words.{begins, is_end, opens_block};
 
@@ -120,7 +120,8 @@ fn read_check<'a>(opening: Line<'a>, body: Lines<'a>) -> Result<Command<'a>, Ref
 
 /// What a block means, whose first record has this number.
 fn read_block<'a>(opening: Line<'a>, body: Lines<'a>, number: u64) -> Command<'a>
-    ensures { meaning_of result ≡ meaning_or_refusal number (block_meaning (fields_in opening.entry) (lines_in body.entry)) }
+    ensures { meaning_of result
+        ≡ meaning_or_refusal number (block_meaning (fields_in opening.entry) (lines_in body.entry)) }
 {
     let read = if begins(opening, b"load") {
         read_load(opening, body)
