@@ -28,10 +28,10 @@ has_group-there group_of rows row group h e =
     list_any-contains (λ (r : Row). same_maybe (group_of r) group) rows row h ((maybe_decides (group_of row) group).1 e)
 
 -- a group that is found is some row's
-row_of_told : (group_of : Row → Option Value) (rows : List Row) (group : Option Value)
+row_of_known : (group_of : Row → Option Value) (rows : List Row) (group : Option Value)
     → has_group group_of rows group ≡ true → (row : Row) × Contains rows row × (group_of row ≡ group)
-row_of_told group_of rows group told =
-    let (row, h, passes) = contained-list_any (λ (r : Row). same_maybe (group_of r) group) rows told in
+row_of_known group_of rows group known =
+    let (row, h, passes) = contained-list_any (λ (r : Row). same_maybe (group_of r) group) rows known in
     (row, h, (maybe_decides (group_of row) group).0 passes)
 
 module _ (measure : Measure) (amount_of : Row → ℤ) (group_of : Row → Option Value) (lot_of : Row → ℕ) (rows : List Row)
@@ -98,7 +98,7 @@ module _ (measure : Measure) (amount_of : Row → ℤ) (group_of : Row → Optio
         whole_row lot row p,
         (let (r, h, e) = row_sent lot row p in has_group-there group_of sent r row.group h e),
       ))
-      (λ row w told. let (r, h, e) = row_of_told group_of sent row.group told in lot_row lot row r h e w) is is'
+      (λ row w known. let (r, h, e) = row_of_known group_of sent row.group known in lot_row lot row r h e w) is is'
 
   -- the aggregate of all is what stands in those of the lots
   whole_agg : (answer_of : ℕ → List AggRow) (whole : List AggRow)

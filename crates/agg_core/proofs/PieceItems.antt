@@ -20,12 +20,12 @@ pub items-all : (make : Row → Item) (rows : List Row) (post : Range ℕ → �
     → ((places : Range ℕ) (n : ℕ) (some : Vec Item Global) → post places n (Ok some)
     → some.items ≡ map make (piece places rows))
     → GivesFrom nat_cmp (Gives post) None cuts lists → all_in lists ≡ map make rows
-items-all make rows post cuts lists told given =
+items-all make rows post cuts lists known given =
     all_come nat_cmp (Gives post)
     (λ (places : Range ℕ) (all : List (Vec Item Global)). all_in all ≡ map make (piece places rows))
-    (λ places some own. append-nil some.items ∙ told places own.0 some own.1)
+    (λ places some own. append-nil some.items ∙ known places own.0 some own.1)
     (λ from at some more begun one others.
-    ap (λ l. l ++ all_in more) (told (range from (Some at)) one.0 some one.1)
+    ap (λ l. l ++ all_in more) (known (range from (Some at)) one.0 some one.1)
     ∙ ap (λ l. map make (piece (range from (Some at)) rows) ++ l) others
     ∙ sym (map-append make (piece (range from (Some at)) rows) (piece (range (Some at) None) rows))
     ∙ ap (map make) (sym (piece_cut from at rows begun)))

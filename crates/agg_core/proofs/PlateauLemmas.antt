@@ -124,16 +124,16 @@ module _ (measure : Measure) (amount_of : Row → ℤ) (c : ℕ) (rows : List Ro
   -- what rows come to, they come to as items
   pub items_come : (t : ℤ) → HoldAndComeTo measure amount_of rows value t
       → HasValue measure (map (amount_item amount_of c) rows) value t
-  items_come t h = told (some_tally (map (amount_item amount_of c) rows) t)
+  items_come t h = known (some_tally (map (amount_item amount_of c) rows) t)
     where
-      told : ((o : Option Tally) × IsTallyAt (map (amount_item amount_of c) rows) t o)
+      known : ((o : Option Tally) × IsTallyAt (map (amount_item amount_of c) rows) t o)
           → HasValue measure (map (amount_item amount_of c) rows) value t
-      told (None, none) = absurd (
+      known (None, none) = absurd (
           let long = length-map (rows_on t rows) amount_of in
           let empty : length (map amount_of (rows_on t rows)) ≡ 0 =
           ap length (sym (amounts_on amount_of c rows t) ∙ ap amounts none) in
           let some = h.some in omega (arith, long, empty, some))
-      told (Some tally, is) = record {
+      known (Some tally, is) = record {
         tally = tally;
         is = is;
         gives =

@@ -178,8 +178,8 @@ denied true e = cc
 denied false e = refl
 
 -- what isn't reached comes before
-told_before : (a b : Option Value) → is_from maybe_cmp b a ≡ false → GroupBefore a b
-told_before a b e = by_cmp (maybe_cmp a b) refl e where
+known_before : (a b : Option Value) → is_from maybe_cmp b a ≡ false → GroupBefore a b
+known_before a b e = by_cmp (maybe_cmp a b) refl e where
   by_cmp : (o : Ordering) → maybe_cmp a b ≡ o → not (is_lt o) ≡ false → GroupBefore a b
   by_cmp Less c t = c
   by_cmp Equal c t = cc
@@ -268,7 +268,7 @@ module _ (group_of : Row → Option Value) (rows : List Row) (v : Option Value) 
       (All-contains (λ (r : Row). low_of r ≡ true) (filter low_of rows) a (filter_passes low_of rows) here) in
       let q : is_from maybe_cmp v (group_of b) ≡ true =
       All-contains (λ (r : Row). high_of r ≡ true) (filter high_of rows) b (filter_passes high_of rows) there in
-      before_from (group_of a) v (group_of b) (told_before (group_of a) v p) q
+      before_from (group_of a) v (group_of b) (known_before (group_of a) v p) q
 
 -- ---- shares by range
 
@@ -344,7 +344,7 @@ module _ {K : Type 0} (value_of : K → Value) (cmp : K → K → Ordering) (ord
       → AreAggRows measure amount_of group_of (rows_in_range value_of group_of keys rows) (rows_in share))
       → GivesFrom cmp (Gives post) None cuts shares
       → AreAggRows measure amount_of group_of rows (rows_in_shares shares)
-  rows-all measure amount_of group_of rows post cuts shares told given =
+  rows-all measure amount_of group_of rows post cuts shares known given =
       subst (λ (l : List Row). AreAggRows measure amount_of group_of l (rows_in_shares shares))
       (rows_in_range-all group_of rows)
       (all_come cmp (Gives post)
@@ -353,10 +353,10 @@ module _ {K : Type 0} (value_of : K → Value) (cmp : K → K → Ordering) (ord
       (λ keys share own.
       subst (AreAggRows measure amount_of group_of (rows_in_range value_of group_of keys rows))
       (sym (append-nil (rows_in share)))
-      (told keys own.0 share own.1))
+      (known keys own.0 share own.1))
       (λ from at share more begun one others.
       AreAggRows-ranges measure amount_of group_of from at rows (rows_in share) (rows_in_shares more) begun
-      (told (range from (Some at)) one.0 share one.1) others)
+      (known (range from (Some at)) one.0 share one.1) others)
       None cuts shares given)
 
 -- ---- what listed rows come to

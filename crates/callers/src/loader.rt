@@ -1,7 +1,7 @@
 //! The loader: makes a table, and loads rows one by one.
 
 ghost use Rattle.std.specs.Prelude.{◌≡◌, ◌+◌, ◌≤◌, length, IfOk, OnOk};
-ghost use Rattle.store_core.specs.Passes.{IsNoteOf, IsPassOf, calls_left, mine, told_in};
+ghost use Rattle.store_core.specs.Passes.{IsNoteOf, IsPassOf, calls_left, mine, note_view};
 
 use book_core::{Change, ChangeKind, Entry};
 use caller_core::{Note, Pass, Store, StoreError};
@@ -40,7 +40,7 @@ pub fn load<R: Wait>(
     requires { IsPassOf store.now pass.old }
     ensures pass { IsPassOf store.now pass.new }
     ensures note { IfOk result (IsNoteOf store.now) }
-    ensures told { IfOk result (λ note. 1001 ≤ length (told_in note).seen) }
+    ensures seen { IfOk result (λ note. 1001 ≤ length (note_view note).seen) }
     ensures calls { OnOk result (calls_left pass.new + 1001 ≡ calls_left pass.old) }
     ensures commits { OnOk result (length (mine pass.new) ≡ length (mine pass.old) + 1001) }
 {

@@ -5,7 +5,7 @@
 
 ghost use Rattle.std.specs.Prelude.{◌≡◌, ◌+◌, ◌≤◌, length, IfOk, OnOk};
 ghost use Rattle.std.specs.Thread.{IsSync};
-ghost use Rattle.store_core.specs.Passes.{IsFresh, IsNoteOf, IsPassOf, calls_left, seen, told_in};
+ghost use Rattle.store_core.specs.Passes.{IsFresh, IsNoteOf, IsPassOf, calls_left, note_view, seen};
 
 mod auditor;
 mod loader;
@@ -33,15 +33,16 @@ fn meanwhile<R: Threads + Wait + Sync>(
     requires auditor { IsPassOf store.now auditor.old }
     ensures passes { IsPassOf store.now loader.new × IsPassOf store.now auditor.new }
     ensures note { IfOk result.0 (IsNoteOf store.now) }
-    ensures told { IfOk result.0 (λ note. 1001 ≤ length (told_in note).seen) }
+    ensures seen { IfOk result.0 (λ note. 1001 ≤ length (note_view note).seen) }
     ensures calls { OnOk result.0 (calls_left loader.new + 1001 ≡ calls_left loader.old) }
 {
     let mut loading = || -> Result<Note, StoreError>
         requires { IsSync R.row × IsPassOf store.now loader.now }
         ensures pass { IsPassOf store.entry.now loader.exit.now }
         ensures note { IfOk result (IsNoteOf store.entry.now) }
-        ensures told { IfOk result (λ note. 1001 ≤ length (told_in note).seen) }
-        ensures calls { OnOk result (calls_left loader.exit.now + 1001 ≡ calls_left loader.entry.now) }
+        ensures seen { IfOk result (λ note. 1001 ≤ length (note_view note).seen) }
+        ensures calls { OnOk result (calls_left loader.exit.now + 1001
+            ≡ calls_left loader.entry.now) }
     { load(rt, alloc, store, table, loader) };
     let mut watching = || -> Result<Watched, StoreError>
         requires { IsSync R.row × IsPassOf store.now auditor.now }

@@ -39,7 +39,8 @@ fn crowd_at(items: &[Item], instant: Point) -> u64
 
 // How many items hold the certificate's instant, where that is not as it says.
 fn wrong_crowd(items: &[Item], certificate: &Certificate) -> Option<u64>
-    ensures { MatchOption result (HasRightInstant items.now certificate.now) (IsNotCrowded items.now certificate.now) }
+    ensures { MatchOption result (HasRightInstant items.now certificate.now)
+        (IsNotCrowded items.now certificate.now) }
 {
     let Some(instant) = certificate.instant else {
         return if items.is_empty() { None } else { Some(0) };
@@ -61,7 +62,8 @@ fn first_fault(
 ) -> Result<Option<Verdict>, NoMemory>
     requires { IdsRise items.now }
     ensures { IfOk result (λ fault. MatchOption fault (Passes items.now claim.now certificate.now)
-        (λ verdict. IsVerdict items.now claim.now certificate.now verdict × (verdict ≢ Verdict.Yes))) }
+        (λ verdict. IsVerdict items.now claim.now certificate.now verdict
+        × (verdict ≢ Verdict.Yes))) }
 {
     let parts = claim.len() as u64;
     if parts != certificate.parts {
@@ -102,8 +104,10 @@ pub fn check_division(
 ) -> Result<Verdict, NoMemory>
     requires { IdsRise items.now }
     ensures verdict { IfOk result (IsVerdict items.now claim.now certificate.now) }
-    ensures yes { IfOk result (λ verdict. (verdict ≡ Verdict.Yes) ↔ IsCertified items.now claim.now certificate.now) }
-    ensures least { IfOk result (λ verdict. verdict ≡ Verdict.Yes → IsLeast items.now certificate.now.parts) }
+    ensures yes { IfOk result (λ verdict. (verdict ≡ Verdict.Yes)
+        ↔ IsCertified items.now claim.now certificate.now) }
+    ensures least { IfOk result (λ verdict. verdict ≡ Verdict.Yes
+        → IsLeast items.now certificate.now.parts) }
 {
     let fault = first_fault(alloc, items, claim, certificate)?;
     Ok(fault.unwrap_or(Verdict::Yes))

@@ -18,7 +18,9 @@ pub fn certified_division_is_least()
 pub fn claim_has_one_verdict()
     ensures exists { (items : List Item) (claim : List (List ℕ)) (certificate : Certificate)
         → IdsRise items → (verdict : Verdict) × IsVerdict items claim certificate verdict }
-    ensures one { (items : List Item) (claim : List (List ℕ)) (certificate : Certificate) (one other : Verdict)
-        → IdsRise items → IsVerdict items claim certificate one → IsVerdict items claim certificate other
+    ensures one { (items : List Item) (claim : List (List ℕ)) (certificate : Certificate)
+        (one other : Verdict)
+        → IdsRise items → IsVerdict items claim certificate one
+        → IsVerdict items claim certificate other
         → one ≡ other }
 {}

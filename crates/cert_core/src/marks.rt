@@ -8,7 +8,8 @@ ghost use Rattle.cert_core.specs.Places.{AreMarks, IsFirstUnmarked};
 pub(crate) fn first_twice(places: &[usize], marks: &mut [bool]) -> Option<usize>
     requires within { All (λ p. p < length marks.old) places.now }
     requires none { All (λ mark. mark ≡ false) marks.old }
-    ensures { MatchOption result (IsDistinct places.now × AreMarks places.now marks.new) (IsTwice places.now) }
+    ensures { MatchOption result (IsDistinct places.now × AreMarks places.now marks.new)
+        (IsTwice places.now) }
 {
     for place in places {
         if marks[*place] {

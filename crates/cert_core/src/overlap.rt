@@ -28,7 +28,8 @@ fn take_items(items: &[Item], places: &[usize], taken: &mut Vec<Item>) -> Result
 
 // The ids of the first two neighbours that overlap.
 fn first_pair(items: &[Item]) -> Option<(u64, u64)>
-    ensures { MatchOption result (AllAdjacentBelow (λ x y. Overlap x.period y.period → ⊥) items.now (length items.now))
+    ensures { MatchOption result
+        (AllAdjacentBelow (λ x y. Overlap x.period y.period → ⊥) items.now (length items.now))
         (λ p. IsFirstPair items.now p.0 p.1) }
 {
     for next in 1..items.len() {
@@ -48,8 +49,10 @@ fn overlap_of(
 ) -> Result<Option<(u64, u64)>, NoMemory>
     requires rise { IdsRise items.now }
     requires within { All (λ p. p < length items.now) places.now }
-    ensures { IfOk result (λ overlap. (part : List ℕ) → ArePlaces items.now part places.now → IsDistinct part
-        → MatchOption overlap (HasNoOverlap items.now part) (λ p. IsFirstOverlap items.now part p.0 p.1)) }
+    ensures { IfOk result (λ overlap. (part : List ℕ) → ArePlaces items.now part places.now
+        → IsDistinct part
+        → MatchOption overlap (HasNoOverlap items.now part)
+        (λ p. IsFirstOverlap items.now part p.0 p.1)) }
 {
     take_items(items, places, taken)?;
     taken.sort_unstable();

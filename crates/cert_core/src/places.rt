@@ -38,7 +38,8 @@ pub(crate) fn find_places(
 ) -> Result<Option<u64>, NoMemory>
     requires rise { IdsRise items.now }
     requires empty { places.old.items ≡ [] }
-    ensures { IfOk result (λ unknown. MatchOption unknown (ArePlaces items.now ids.now places.new.items)
+    ensures { IfOk result
+        (λ unknown. MatchOption unknown (ArePlaces items.now ids.now places.new.items)
         (IsUnknown items.now ids.now)) }
 {
     for id in ids {

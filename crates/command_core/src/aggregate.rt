@@ -80,7 +80,8 @@ fn group_named<'a>(fields: Line<'a>) -> Option<Option<&'a [u8]>>
 
 /// A function of a table's rows, and the grouping that the fields behind it name.
 fn grouped<'a>(table: &'a [u8], fields: Line<'a>, func: RawFunc<'a>) -> Option<RawAggregate<'a>>
-    ensures { option_map aggregate_of result ≡ grouped table.entry.now (fields_in fields.entry) (func_of func.entry) }
+    ensures { option_map aggregate_of result
+        ≡ grouped table.entry.now (fields_in fields.entry) (func_of func.entry) }
 {
     let by = group_named(fields)?;
     Some(RawAggregate { table, func, by })
@@ -88,7 +89,8 @@ fn grouped<'a>(table: &'a [u8], fields: Line<'a>, func: RawFunc<'a>) -> Option<R
 
 /// The aggregate of a column's numbers: the column, and then the grouping.
 fn column_form<'a>(table: &'a [u8], word: &[u8], fields: Line<'a>) -> Option<RawAggregate<'a>>
-    ensures { option_map aggregate_of result ≡ column_form table.entry.now word.now (fields_in fields.entry) }
+    ensures { option_map aggregate_of result
+        ≡ column_form table.entry.now word.now (fields_in fields.entry) }
 {
     let column = fields.get(0)?;
     let func = column_func(word, column)?;

@@ -107,7 +107,8 @@ pub(crate) fn dated(line: Line<'_>) -> Result<(Name, Point), Refusal>
 
 /// The name and the two numbers that texts are.
 fn name_and_span(name: &[u8], first: &[u8], last: &[u8]) -> Result<(Name, (u64, u64)), Refusal>
-    ensures { result ≡ both_ok (name_in name.now) (both_ok (natural_in first.now) (natural_in last.now)) }
+    ensures { result ≡ both_ok (name_in name.now)
+        (both_ok (natural_in first.now) (natural_in last.now)) }
 {
     Ok((name_in(name)?, (natural_in(first)?, natural_in(last)?)))
 }
@@ -128,7 +129,8 @@ fn name_and_claim(
     parts: &[u8],
     instant: &[u8],
 ) -> Result<(Name, (u64, Option<Point>)), Refusal>
-    ensures { result ≡ both_ok (name_in name.now) (both_ok (natural_in parts.now) (instant_in instant.now)) }
+    ensures { result ≡ both_ok (name_in name.now)
+        (both_ok (natural_in parts.now) (instant_in instant.now)) }
 {
     Ok((name_in(name)?, (natural_in(parts)?, instant_in(instant)?)))
 }
@@ -150,7 +152,8 @@ fn names_and_pairs<'a>(
     fields: Line<'a>,
 ) -> Result<TwoTables<'a>, Refusal>
     ensures { map_ok compared_in result ≡ map_ok compared_by
-        (both_ok (both_ok (name_in left.now) (name_in right.now)) (name_pairs (fields_in fields.entry))) }
+        (both_ok (both_ok (name_in left.now) (name_in right.now))
+        (name_pairs (fields_in fields.entry))) }
 {
     let left = name_in(left)?;
     let right = name_in(right)?;

@@ -13,7 +13,8 @@ pub fn script_has_one_list_of_records()
 
 /// Some records have exactly one first statement: which of them it takes, and what it is.
 pub fn records_have_one_first_statement()
-    ensures exists { (number : ℕ) (records : List Record) → 0 < length records → FirstStatement number records }
+    ensures exists { (number : ℕ) (records : List Record) → 0 < length records
+        → FirstStatement number records }
     ensures one { (number : ℕ) (records : List Record) (one other : FirstStatement number records)
         → (one.own ≡ other.own) × (one.later ≡ other.later) × (one.statement ≡ other.statement) }
 {}

@@ -31,7 +31,8 @@ impl<'a> TextPairs<'a> {
 
     /// The pair at that place, from 0; None exactly past the last.
     pub fn get(self, place: usize) -> Option<(Name, &'a [u8])>
-        ensures { option_map (λ pair. (pair.0, pair.1.now)) result ≡ slice_get (pairs_in self.entry) place }
+        ensures { option_map (λ pair. (pair.0, pair.1.now)) result
+            ≡ slice_get (pairs_in self.entry) place }
     {
         if place >= self.fields.len() / 2 {
             return None;
@@ -171,7 +172,8 @@ fn are_names(line: Line<'_>) -> bool
 
 /// The pairs of names that fields are, where all of them are names.
 pub(crate) fn name_pairs<'a>(fields: Line<'a>) -> Result<NamePairs<'a>, Refusal>
-    ensures { map_ok (λ pairs. pairs_of (fields_in pairs.fields)) result ≡ name_pairs (fields_in fields.entry) }
+    ensures { map_ok (λ pairs. pairs_of (fields_in pairs.fields)) result
+        ≡ name_pairs (fields_in fields.entry) }
 {
     if are_names(fields) {
         Ok(NamePairs { fields })

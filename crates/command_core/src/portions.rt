@@ -15,14 +15,16 @@ use crate::words::begins;
 
 /// The fields of conditions: none, or pairs behind `where`.
 fn conditions_in<'a>(line: Line<'a>) -> Option<Line<'a>>
-    ensures { option_map (λ conds. pairs_of (fields_in conds)) result ≡ conditions_in (fields_in line.entry) }
+    ensures { option_map (λ conds. pairs_of (fields_in conds)) result
+        ≡ conditions_in (fields_in line.entry) }
 {
     paired_behind(b"where", line)
 }
 
 /// The fields of the settings, up to the first `where` in a column's place, and those of the conditions.
 fn parts_in<'a>(line: Line<'a>) -> Option<(Line<'a>, Line<'a>)>
-    ensures { option_map (λ parts. (pairs_of (fields_in parts.0), pairs_of (fields_in parts.1))) result ≡ parts_in
+    ensures { option_map
+        (λ parts. (pairs_of (fields_in parts.0), pairs_of (fields_in parts.1))) result ≡ parts_in
         (fields_in line.entry) }
 {
     for pair in 0..line.len() / 2 {
@@ -41,7 +43,8 @@ fn parts_in<'a>(line: Line<'a>) -> Option<(Line<'a>, Line<'a>)>
 
 /// The fields of the settings behind `set`, of which there is one at least, and those of the conditions.
 fn settings_in<'a>(line: Line<'a>) -> Option<(Line<'a>, Line<'a>)>
-    ensures { option_map (λ parts. (pairs_of (fields_in parts.0), pairs_of (fields_in parts.1))) result ≡ settings_in
+    ensures { option_map
+        (λ parts. (pairs_of (fields_in parts.0), pairs_of (fields_in parts.1))) result ≡ settings_in
         (fields_in line.entry) }
 {
     if !begins(line, b"set") {
@@ -109,7 +112,8 @@ fn delete_of<'a>(
     to: &[u8],
     conds: Line<'a>,
 ) -> Result<Command<'a>, Refusal>
-    ensures { meant_by result ≡ delete_of name.now from.now to.now (pairs_of (fields_in conds.entry)) }
+    ensures { meant_by result
+        ≡ delete_of name.now from.now to.now (pairs_of (fields_in conds.entry)) }
 {
     let table = name_in(name)?;
     let conds = named_pairs(conds)?;

@@ -121,7 +121,8 @@ fn read_check<'a>(opening: Line<'a>, body: Lines<'a>) -> Result<Command<'a>, Ref
 /// What a block means, whose first record has this number.
 fn read_block<'a>(opening: Line<'a>, body: Lines<'a>, number: u64) -> Command<'a>
     ensures { meaning_of result
-        ≡ meaning_or_refusal number (block_meaning (fields_in opening.entry) (lines_in body.entry)) }
+        ≡ meaning_or_refusal number
+        (block_meaning (fields_in opening.entry) (lines_in body.entry)) }
 {
     let read = if begins(opening, b"load") {
         read_load(opening, body)
@@ -138,7 +139,8 @@ fn read_block<'a>(opening: Line<'a>, body: Lines<'a>, number: u64) -> Command<'a
 pub(crate) fn body_len(lines: Lines<'_>) -> Option<usize>
     ensures within { IfSome result (λ n. n < length (lines_in lines.entry)) }
     ensures before { IfSome result (λ n. IsBody (take n (lines_in lines.entry))) }
-    ensures last { IfSome result (λ n. IfSome (slice_get (lines_in lines.entry) n) (λ line. is_end line ≡ true)) }
+    ensures last { IfSome result
+        (λ n. IfSome (slice_get (lines_in lines.entry) n) (λ line. is_end line ≡ true)) }
     ensures none { IfNone result (IsBody (lines_in lines.entry)) }
 {
     for place in 0..lines.len() {
@@ -164,9 +166,11 @@ pub(crate) fn next_command<'a>(
     ensures some { IfOk result (λ cut. 0 < cut.taken) }
     ensures within { IfOk result (λ cut. cut.taken ≤ length (lines_in lines.entry)) }
     ensures means { IfOk result
-        (λ cut. Means number (take cut.taken (lines_in lines.entry)) (drop cut.taken (lines_in lines.entry))
+        (λ cut. Means number (take cut.taken (lines_in lines.entry))
+        (drop cut.taken (lines_in lines.entry))
         (meaning_of cut.command)) }
-    ensures behind { IfOk result (λ cut. behind_length (meaning_of cut.command) < length (lines_in lines.entry)) }
+    ensures behind { IfOk result
+        (λ cut. behind_length (meaning_of cut.command) < length (lines_in lines.entry)) }
     ensures memory { OnErr result
         (IfSome (slice_get (lines_in lines.entry) 0) (λ line. begins (codes "table") line ≡ true)) }
 {
@@ -188,7 +192,8 @@ pub(crate) fn next_block<'a>(opening: Line<'a>, lines: Lines<'a>, number: u64) -
     requires opens { opens_block (fields_in opening) ≡ true }
     ensures some { 0 < result.taken }
     ensures within { result.taken ≤ length (lines_in lines.entry) }
-    ensures means { Means number (take result.taken (lines_in lines.entry)) (drop result.taken (lines_in lines.entry))
+    ensures means { Means number (take result.taken (lines_in lines.entry))
+        (drop result.taken (lines_in lines.entry))
         (meaning_of result.command) }
     ensures behind { behind_length (meaning_of result.command) < length (lines_in lines.entry) }
 {

@@ -90,9 +90,11 @@ fn commands_len(lines: Lines<'_>) -> Option<usize>
     ensures within { IfSome result (λ n. n < length (lines_in lines.entry)) }
     ensures before { IfSome result (λ n. (number : ℕ)
         → (members : List Member) × AreMembers number (take n (lines_in lines.entry)) members) }
-    ensures last { IfSome result (λ n. IfSome (slice_get (lines_in lines.entry) n) (λ line. is_end line ≡ true)) }
+    ensures last { IfSome result
+        (λ n. IfSome (slice_get (lines_in lines.entry) n) (λ line. is_end line ≡ true)) }
     ensures none { IfNone result ((number : ℕ) → (n : ℕ) × (members : List Member)
-        × AreMembers number (take n (lines_in lines.entry)) members × IsOpen (drop n (lines_in lines.entry))) }
+        × AreMembers number (take n (lines_in lines.entry)) members
+        × IsOpen (drop n (lines_in lines.entry))) }
 {
     let mut at = 0;
     while at < lines.len() {
@@ -111,7 +113,8 @@ fn next_together<'a>(opening: Line<'a>, lines: Lines<'a>, number: u64) -> Statem
     ensures some { 0 < result.taken }
     ensures within { result.taken ≤ length (lines_in lines.entry) }
     ensures states { (statement : stated.Statement) × StandsFor number result.statement statement
-        × States number (take result.taken (lines_in lines.entry)) (drop result.taken (lines_in lines.entry))
+        × States number (take result.taken (lines_in lines.entry))
+        (drop result.taken (lines_in lines.entry))
         statement }
     ensures behind { behind_of result.statement < length (lines_in lines.entry) }
 {
@@ -145,8 +148,10 @@ pub fn next_statement<'a>(
     requires { 0 < length (lines_in lines) }
     ensures some { IfOk result (λ cut. 0 < cut.taken) }
     ensures within { IfOk result (λ cut. cut.taken ≤ length (lines_in lines.entry)) }
-    ensures states { IfOk result (λ cut. (statement : stated.Statement) × StandsFor number cut.statement statement
-        × States number (take cut.taken (lines_in lines.entry)) (drop cut.taken (lines_in lines.entry)) statement) }
+    ensures states { IfOk result (λ cut. (statement : stated.Statement)
+        × StandsFor number cut.statement statement
+        × States number (take cut.taken (lines_in lines.entry))
+        (drop cut.taken (lines_in lines.entry)) statement) }
     ensures behind { IfOk result (λ cut. behind_of cut.statement < length (lines_in lines.entry)) }
     ensures memory { OnErr result
         (IfSome (slice_get (lines_in lines.entry) 0) (λ line. begins (codes "table") line ≡ true)) }
@@ -181,7 +186,8 @@ fn next_allowed<'a>(opening: Line<'a>, lines: Lines<'a>, number: u64) -> Command
     requires allowed { is_barred false (fields_in opening) ≡ false }
     ensures some { 0 < result.taken }
     ensures within { result.taken ≤ length (lines_in lines.entry) }
-    ensures means { Means number (take result.taken (lines_in lines.entry)) (drop result.taken (lines_in lines.entry))
+    ensures means { Means number (take result.taken (lines_in lines.entry))
+        (drop result.taken (lines_in lines.entry))
         (meaning_of result.command) }
     ensures behind { behind_length (meaning_of result.command) < length (lines_in lines.entry) }
 {
@@ -223,13 +229,15 @@ pub fn next_inside<'a>(lines: Lines<'a>, number: u64, has_load: bool) -> Command
 
 /// How many records come before the first load of a block of commands.
 pub fn first_load(lines: Lines<'_>) -> Option<usize>
-    requires whole { (number : ℕ) × (members : List Member) × AreMembers number (lines_in lines) members }
+    requires whole { (number : ℕ) × (members : List Member)
+        × AreMembers number (lines_in lines) members }
     ensures within { IfSome result (λ n. n < length (lines_in lines.entry)) }
     ensures split { IfSome result (λ n. (number : ℕ) (members : List Member)
         → AreMembers number (lines_in lines.entry) members
         → IsSplit number members (take n (lines_in lines.entry)) (drop n (lines_in lines.entry))) }
     ensures none { IfNone result ((number : ℕ) (members : List Member)
-        → AreMembers number (lines_in lines.entry) members → All (λ member. begins_load member ≡ false) members) }
+        → AreMembers number (lines_in lines.entry) members
+        → All (λ member. begins_load member ≡ false) members) }
 {
     let mut at = 0;
     while at < lines.len() {

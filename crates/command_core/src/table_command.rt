@@ -56,7 +56,8 @@ fn first_column<'a>(line: Line<'a>) -> Option<RawColumn<'a>>
 
 /// The columns and the key of the fields behind a table's name, where these have the right form.
 fn raw_table<'a>(alloc: Global, fields: Line<'a>) -> Result<Option<RawTable<'a>>, NoMemory>
-    ensures { IfOk result (λ table. option_map form_of table ≡ table_form (fields_in fields.entry)) }
+    ensures { IfOk result (λ table. option_map form_of table
+        ≡ table_form (fields_in fields.entry)) }
 {
     let mut columns = Vec::new(alloc);
     let mut rest = fields;
@@ -80,8 +81,10 @@ fn raw_table<'a>(alloc: Global, fields: Line<'a>) -> Result<Option<RawTable<'a>>
 /// The columns by their names, where these are names.
 fn name_columns(alloc: Global, raw: &[RawColumn<'_>]) -> Result<Option<Vec<(Name, Kind)>>, NoMemory>
     ensures { IfOk result
-        (λ columns. MatchOption columns (list_all (λ column. is_name column.0) (raw_of raw.now) ≡ false)
-        (λ v. (list_all (λ column. is_name column.0) (raw_of raw.now) ≡ true) × (v.items ≡ raw_of raw.now))) }
+        (λ columns. MatchOption columns (list_all (λ column. is_name column.0) (raw_of raw.now)
+        ≡ false)
+        (λ v. (list_all (λ column. is_name column.0) (raw_of raw.now) ≡ true)
+        × (v.items ≡ raw_of raw.now))) }
 {
     let mut columns = Vec::with_capacity(alloc, raw.len())?;
     for (name, kind) in raw {
@@ -95,7 +98,8 @@ fn name_columns(alloc: Global, raw: &[RawColumn<'_>]) -> Result<Option<Vec<(Name
 
 /// The names of a key's columns, where they are names.
 fn name_key(alloc: Global, key: Line<'_>) -> Result<Option<Vec<Name>>, NoMemory>
-    ensures { IfOk result (λ names. MatchOption names (list_all is_name (fields_in key.entry) ≡ false)
+    ensures { IfOk result
+        (λ names. MatchOption names (list_all is_name (fields_in key.entry) ≡ false)
         (λ v. (list_all is_name (fields_in key.entry) ≡ true) × (v.items ≡ fields_in key.entry))) }
 {
     let mut names = Vec::with_capacity(alloc, key.len())?;

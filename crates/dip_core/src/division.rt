@@ -52,7 +52,8 @@ impl Division {
         ensures division { IsDivision (all_of self.now) self.now }
         ensures chained { All IsChain self.now }
         ensures rising { All IsRising self.now }
-        ensures least { (items : List Item) → IsDivision items self.now → IsLeast items (length self.now) }
+        ensures least { (items : List Item) → IsDivision items self.now
+            → IsLeast items (length self.now) }
     {
         self.parts.len() as u32
     }
@@ -114,7 +115,8 @@ pub fn create_dip<R: Threads + Sync>(
 ) -> Result<Division, NoMemory>
     requires { length items.items ≤ item_limit }
     ensures least { IfOk result (IsLeastDivision items.items) }
-    ensures dip { IfOk result (λ division. HasDistinctIds items.items → IsDip items.items division) }
+    ensures dip { IfOk result (λ division. HasDistinctIds items.items
+        → IsDip items.items division) }
     ensures empty { IfOk result (λ division. (division ≡ []) ↔ (items.items ≡ [])) }
 {
     sort_unstable(rt, &mut items, workers);

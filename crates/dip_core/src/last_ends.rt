@@ -55,7 +55,8 @@ impl Model for LastEnds {
 
     ghost Value = { Endings };
 
-    ghost view = { λ l. record { ends = l.ends.items; looks = l.looks; all_looks = l.all_looks.count } };
+    ghost view = { λ l. record
+        { ends = l.ends.items; looks = l.looks; all_looks = l.all_looks.count } };
 }
 
 impl LastEnds {

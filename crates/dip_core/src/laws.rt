@@ -26,7 +26,8 @@ pub fn placed_division_is_unique()
 
 /// Items of distinct ids have exactly one dip.
 pub fn items_have_one_dip()
-    ensures exists { (items : List Item) → HasDistinctIds items → (parts : List (List Item)) × IsDip items parts }
+    ensures exists { (items : List Item) → HasDistinctIds items → (parts : List (List Item))
+        × IsDip items parts }
     ensures one { (items : List Item) (one other : List (List Item))
         → IsDip items one → IsDip items other → one ≡ other }
 {}

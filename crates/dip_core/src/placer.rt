@@ -95,7 +95,8 @@ impl Placer {
         ensures looked { OnOk result (0 < length self.old.parts → self.old.looks < self.new.looks) }
         ensures honest { OnOk result
             (self.new.all_looks + self.old.looks ≡ self.old.all_looks + self.new.looks) }
-        ensures few_looks { OnOk result ((digits : ℕ) × HasBinaryDigits (length self.old.parts) digits
+        ensures few_looks { OnOk result ((digits : ℕ)
+            × HasBinaryDigits (length self.old.parts) digits
             × (self.new.looks ≤ self.old.looks + 2 * digits)) }
     {
         let before = self.ends.looks();

@@ -48,9 +48,9 @@ pub front_of : {X : Type 0} (chunks rest : List (Vec X)) (chunk : Vec X) (left :
     (front : List X) (last : X) → chunks ≡ rest ++ chunk ∷ []
     → All (λ (v : Vec X). 0 < length v.items) chunks → IsSome popped ↔ (0 < length chunk.items)
     → chunk.items ≡ left ++ option_to_list popped → all_in chunks ≡ front ++ last ∷ [] → all_in rest ++ left ≡ front
-front_of chunks rest chunk left None front last e some told i all =
-    absurd (true≢false (sym (told.1 (last_chunk chunks rest chunk e some))))
-front_of chunks rest chunk left (Some x) front last e some told i all =
+front_of chunks rest chunk left None front last e some known i all =
+    absurd (true≢false (sym (known.1 (last_chunk chunks rest chunk e some))))
+front_of chunks rest chunk left (Some x) front last e some known i all =
     same_front (all_in rest ++ left) front x last (sym (last_in chunks rest chunk left x e i) ∙ all)
 
 -- the last chunk, which isn't empty, has one item less once one is taken
@@ -58,9 +58,9 @@ pub popped_one : {X : Type 0} (chunks rest : List (Vec X)) (chunk : Vec X) (left
     → chunks ≡ rest ++ chunk ∷ [] → All (λ (v : Vec X). 0 < length v.items) chunks
     → IsSome popped ↔ (0 < length chunk.items) → chunk.items ≡ left ++ option_to_list popped
     → length chunk.items ≡ length left + 1
-popped_one chunks rest chunk left None e some told i =
-    absurd (true≢false (sym (told.1 (last_chunk chunks rest chunk e some))))
-popped_one chunks rest chunk left (Some x) e some told i = ap length i ∙ length-append left (x ∷ [])
+popped_one chunks rest chunk left None e some known i =
+    absurd (true≢false (sym (known.1 (last_chunk chunks rest chunk e some))))
+popped_one chunks rest chunk left (Some x) e some known i = ap length i ∙ length-append left (x ∷ [])
 
 -- how many items are left without the last chunk, and that no other chunk is empty
 without_chunk : {X : Type 0} (chunks rest : List (Vec X)) (old : Vec X) (count : ℕ) → chunks ≡ rest ++ old ∷ []

@@ -51,7 +51,8 @@ impl<T> ChunkedList<T> {
 
     /// The first item.
     pub fn first(&self) -> Option<&T>
-        ensures { MatchOption result (self.now ≡ []) (λ first. (back : List T) × (self.now ≡ first.now ∷ back)) }
+        ensures { MatchOption result (self.now ≡ []) (λ first. (back : List T)
+            × (self.now ≡ first.now ∷ back)) }
     {
         let (chunk, _) = self.chunks.split_first()?;
         let (first, _) = chunk.split_first()?;
@@ -138,7 +139,8 @@ impl<T: Drop> ChunkedList<T> {
     ///
     /// `AllocError` where a growth is refused; the items are dropped then.
     pub fn without_last(self) -> Result<ChunkedList<T>, AllocError>
-        ensures { (front : List T) (last : T) → self ≡ front ++ last ∷ [] → IfOk result (λ rest. rest ≡ front) }
+        ensures { (front : List T) (last : T) → self ≡ front ++ last ∷ []
+            → IfOk result (λ rest. rest ≡ front) }
     {
         let mut chunks = self.chunks;
         let Some(mut chunk) = chunks.pop() else {

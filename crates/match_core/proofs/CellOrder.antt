@@ -32,9 +32,9 @@ pub same_cell-decides : {V : Type 0} (cmp : V → V → Ordering) (a b : Cell V)
 same_cell-decides cmp a b = equal-decides (cell_cmp cmp a b)
 
 -- cells that are not the same are found to differ
-pub told_apart : {V : Type 0} (cmp : V → V → Ordering) (a b : Cell V) → (SameCell cmp a b → ⊥)
+pub known_apart : {V : Type 0} (cmp : V → V → Ordering) (a b : Cell V) → (SameCell cmp a b → ⊥)
     → same_cell cmp a b ≡ false
-told_apart cmp a b other = by_test (same_cell cmp a b) refl where
+known_apart cmp a b other = by_test (same_cell cmp a b) refl where
   by_test : (t : Bool) → same_cell cmp a b ≡ t → same_cell cmp a b ≡ false
   by_test true e = absurd (other ((same_cell-decides cmp a b).0 e))
   by_test false e = e
@@ -80,7 +80,7 @@ module _ {V : Type 0} (cmp : V → V → Ordering) (total : IsTotalOrder cmp) wh
   -- what comes after a cell is not the same
   pub after-differs : (a b : Cell V) → is_before cmp b a ≡ true → same_cell cmp a b ≡ false
   after-differs a b less =
-      told_apart cmp a b
+      known_apart cmp a b
       (λ s. let bad : true ≡ false = sym less ∙ ap is_lt (SameCell-sym a b s) in cc)
 
   -- of two cells that are the same, a cell comes before both or before neither

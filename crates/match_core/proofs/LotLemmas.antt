@@ -75,8 +75,8 @@ module _ {X : Type 0} (Before : X → X → Type 0) (asym : (a b : X) → Before
         (λ x is.
         let (row, h, e) = left_of sent (rows_sent right_lot lot right) x is in
         (from lot x is, has_id-there sent row (left_id x) h (sym e)))
-        (λ x is told.
-        let (row, h, e) = row_of_id sent (left_id x) told in
+        (λ x is known.
+        let (row, h, e) = row_of_id sent (left_id x) known in
         let own = left_of left right x is in
         let same : row ≡ own.0 =
         row_once left rise row own.0 (sent-in left_lot lot left row h) own.1 (e ∙ own.2) in

@@ -94,17 +94,17 @@ module _ {V : Type 0} (IsOf : Value → V → Type 0) (classes : List ℕ) (colu
       → AreCellsAt IsOf classes column (piece places (placed_from 0 classes)) cells.items)
       → GivesFrom nat_cmp (Gives post) None cuts lists
       → AreCellsAt IsOf classes column (placed_from 0 classes) (all_in lists)
-  pieces_made post cuts lists told given =
+  pieces_made post cuts lists known given =
       let all = placed_from 0 classes in
       all_come nat_cmp (Gives post)
       (λ (places : Range ℕ) (some : List (Vec (Cell V))). AreCellsAt IsOf classes column (piece places all) (all_in some))
       (λ places cells own.
       subst (AreCellsAt IsOf classes column (piece places all)) (sym (append-nil cells.items))
-      (told places own.0 cells own.1))
+      (known places own.0 cells own.1))
       (λ from at cells more begun one others.
       subst (λ l. AreCellsAt IsOf classes column l (cells.items ++ all_in more)) (sym (piece_cut from at all begun))
       (cells-append (piece (range from (Some at)) all) (piece (range (Some at) None) all) cells.items (all_in more)
-      (told (range from (Some at)) one.0 cells one.1) others))
+      (known (range from (Some at)) one.0 cells one.1) others))
       None cuts lists given
 
 -- ---- the cells of a range
@@ -279,15 +279,15 @@ module _ {V : Type 0} (cmp : V → V → Ordering) (total : IsTotalOrder cmp) wh
       → ((r : Range (Cell V)) (n : ℕ) (cells : Vec (Cell V)) → post r n (Ok cells)
       → AreInOrder cmp (cells_in cmp r made) cells.items)
       → GivesFrom (cell_cmp cmp) (Gives post) None cuts lists → AreInOrder cmp made (all_in lists)
-  ranges_in_order made post cuts lists told given =
+  ranges_in_order made post cuts lists known given =
       subst (λ (l : List (Cell V)). AreInOrder cmp l (all_in lists)) (whole_kept cmp made)
       (all_come (cell_cmp cmp) (Gives post)
       (λ (r : Range (Cell V)) (all : List (Vec (Cell V))). AreInOrder cmp (cells_in cmp r made) (all_in all))
       (λ r cells own.
-      subst (AreInOrder cmp (cells_in cmp r made)) (sym (append-nil cells.items)) (told r own.0 cells own.1))
+      subst (AreInOrder cmp (cells_in cmp r made)) (sym (append-nil cells.items)) (known r own.0 cells own.1))
       (λ from at cells more begun one others.
       sorted_ranges from at made cells.items (all_in more) begun
-      (told (range from (Some at)) one.0 cells one.1) others)
+      (known (range from (Some at)) one.0 cells one.1) others)
       None cuts lists given)
 
 -- ---- the cells of all rows

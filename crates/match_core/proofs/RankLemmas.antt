@@ -18,7 +18,7 @@ use Rattle.match_core.specs.declared.row_items.ClassedPlace.{ClassedPlace}
 use Rattle.match_core.specs.ClassedPlaces.{classed_by, placed_from}
 use Rattle.match_core.specs.Cells.{AgreeOnPlaces, AreRanked, AreRankedUpto, AreRanksOf, AreRising, AreSorted, HasLast, HasRank, IsCellAt, IsEntered, IsFromLast, IsRankAt, cell_cmp, count_before, is_before, same_cell, spot_of}
 use Rattle.match_core.proofs.PlacedLemmas.{placed_from-classed}
-use Rattle.match_core.proofs.CellOrder.{SameCell, SameCell-sym, SameCell-trans, SameCell-itself, after-from, before-same, before-trans, same_cell-decides, told_apart}
+use Rattle.match_core.proofs.CellOrder.{SameCell, SameCell-sym, SameCell-trans, SameCell-itself, after-from, before-same, before-trans, same_cell-decides, known_apart}
 
 -- ---- lists one behind another
 
@@ -95,7 +95,7 @@ pub ranked_from : {V : Type 0} (cmp : V → V → Ordering) (IsOf : Value → V 
     (column : List (Option Value)) (cells firsts : List (Cell V)) (ranks : List ℕ) → length ranks ≡ length column
     → AreSorted cmp IsOf classes column cells → AreRanksOf cmp cells ranks firsts → AreRising cmp firsts
     → AreRanked cmp IsOf classes column ranks firsts
-ranked_from {V} cmp IsOf classes column cells firsts ranks count sorted told rise = record {
+ranked_from {V} cmp IsOf classes column cells firsts ranks count sorted known rise = record {
   count = count;
   each = each;
   rise = rise;
@@ -106,7 +106,7 @@ ranked_from {V} cmp IsOf classes column cells firsts ranks count sorted told ris
         let (cell, has, place) = sorted.each i h in
         let own : IsCellAt IsOf classes column cell.place cell =
         All-contains (λ (x : Cell V). IsCellAt IsOf classes column x.place x) cells cell sorted.own has in
-        let rank : HasRank cmp ranks firsts cell = All-contains (HasRank cmp ranks firsts) cells cell told has in
+        let rank : HasRank cmp ranks firsts cell = All-contains (HasRank cmp ranks firsts) cells cell known has in
         record {
           cell = cell;
           at = subst (λ n. IsCellAt IsOf classes column n cell) place own;
@@ -117,15 +117,15 @@ ranked_from {V} cmp IsOf classes column cells firsts ranks count sorted told ris
 -- ---- the last one of cells
 
 -- the test of the last one decides whether it is the same
-pub last_told : {V : Type 0} (cmp : V → V → Ordering) (others : List (Cell V)) (last cell : Cell V) (test : Bool)
+pub last_known : {V : Type 0} (cmp : V → V → Ordering) (others : List (Cell V)) (last cell : Cell V) (test : Bool)
     → slice_get others (length others - 1) ≡ Some last → test ≡ same_cell cmp last cell
     → MatchBool test (HasLast cmp others cell) (HasLast cmp others cell → ⊥)
-last_told cmp others last cell true at told = (last, (at, sym told))
-last_told {V} cmp others last cell false at told =
+last_known cmp others last cell true at known = (last, (at, sym known))
+last_known {V} cmp others last cell false at known =
     λ h. (
     let e : ◌≡◌ {A = Option (Cell V)} (Some last) (Some h.0) = sym at ∙ h.1.0 in
     let same : last ≡ h.0 = cc in
-    let bad : true ≡ false = sym h.1.1 ∙ ap (λ x. same_cell cmp x cell) (sym same) ∙ sym told in
+    let bad : true ≡ false = sym h.1.1 ∙ ap (λ x. same_cell cmp x cell) (sym same) ∙ sym known in
     cc)
 
 module _ {V : Type 0} (cmp : V → V → Ordering) (total : IsTotalOrder cmp) where
@@ -173,7 +173,7 @@ module _ {V : Type 0} (cmp : V → V → Ordering) (total : IsTotalOrder cmp) wh
           let last = get_or old k d in
           let place : k ≡ length old - 1 = omega (arith, e) in
           after-from cmp total cell last (upto k d e)
-          (told_apart cmp cell last (λ s. other (
+          (known_apart cmp cell last (λ s. other (
             last,
             (
               ap (λ m. slice_get old m) (sym place) ∙ slice_get-get_or old k d (omega (arith, e)),
@@ -220,7 +220,7 @@ module _ {V : Type 0} (cmp : V → V → Ordering) (total : IsTotalOrder cmp) wh
     rise = entered.rise;
     none = λ e. absurd (omega (arith, e));
     last = last_now;
-    told = told_now;
+    ranked = ranked_now;
   }
     where
       last_now : (k j : ℕ) (d : Cell V) → k + 1 ≡ length new → j + 1 ≡ i + 1
@@ -249,8 +249,8 @@ module _ {V : Type 0} (cmp : V → V → Ordering) (total : IsTotalOrder cmp) wh
                 ((same_cell-decides cmp (get_or new rank d) cell).0 (entered.same d)) alike);
           }
 
-      told_now : (k : ℕ) (d : Cell V) → k < i + 1 → HasRank cmp (set ranks cell.place rank) new (get_or cells k d)
-      told_now k d lt =
+      ranked_now : (k : ℕ) (d : Cell V) → k < i + 1 → HasRank cmp (set ranks cell.place rank) new (get_or cells k d)
+      ranked_now k d lt =
           let y = get_or cells k d in
           let there : cell ≡ get_or cells i d = get_or_read cells i cell inside here d in
           elim (cases_eq y.place cell.place) [
@@ -263,7 +263,7 @@ module _ {V : Type 0} (cmp : V → V → Ordering) (total : IsTotalOrder cmp) wh
             | inr ne ↦ (
                 let other : k ≢ i =
                 λ f. ne (ap (λ n. (get_or cells n d).place) f ∙ ap (λ (z : Cell V). z.place) (sym there)) in
-                let had : HasRank cmp ranks firsts y = was.told k d (omega (arith, lt, other)) in
+                let had : HasRank cmp ranks firsts y = was.ranked k d (omega (arith, lt, other)) in
                 let more = entered.more in
                 let within = had.within in
                 let kept : get_or (set ranks cell.place rank) y.place 0 ≡ get_or ranks y.place 0 =

@@ -45,10 +45,10 @@ module _ {V : Type 0} (cmp : V → V → Ordering) (total : IsTotalOrder cmp) wh
     where
       apart : (a b : ℕ) → a < b → b < length cells → SameCell cmp (get_or cells a d) (get_or cells b d) → ⊥
       apart a b less inside alike =
-          let told : same_cell cmp (get_or cells a d) (get_or cells b d) ≡ true =
+          let known : same_cell cmp (get_or cells a d) (get_or cells b d) ≡ true =
           (same_cell-decides cmp (get_or cells a d) (get_or cells b d)).1 alike in
           let bad : true ≡ false =
-          sym told ∙ before-differs cmp (get_or cells a d) (get_or cells b d) (rise a b d less inside) in
+          sym known ∙ before-differs cmp (get_or cells a d) (get_or cells b d) (rise a b d less inside) in
           cc
 
   -- two cells have one number exactly where they are the same
@@ -92,16 +92,16 @@ module _ {V : Type 0} (cmp : V → V → Ordering) (total : IsTotalOrder cmp) wh
   number_of_right lefts rights r number cell inside same (inr behind) =
       right r inside behind.0 same
       (λ d l within alike.
-      let told : same_cell cmp (get_or lefts l d) (get_or rights r d) ≡ true =
+      let known : same_cell cmp (get_or lefts l d) (get_or rights r d) ≡ true =
       (same_cell-decides cmp (get_or lefts l d) (get_or rights r d)).1
       (SameCell-trans cmp total (get_or lefts l d) cell (get_or rights r d) alike
       (SameCell-sym cmp total (get_or rights r d) cell (same d))) in
-      let bad : true ≡ false = sym told ∙ behind.1 d l d within in cc)
+      let bad : true ≡ false = sym known ∙ behind.1 d l d within in cc)
 
 -- ---- the rows of both sides
 
 -- a row's class is the number of its cell
-record IsTold {V : Type 0} (cmp : V → V → Ordering) (IsOf : Value → V → Type 0) (classes : List ℕ)
+record IsKnown {V : Type 0} (cmp : V → V → Ordering) (IsOf : Value → V → Type 0) (classes : List ℕ)
     (column : List (Option Value)) (lefts rights : List (Cell V)) (i class : ℕ) : Type 0 where
   pub cell : Cell V
   pub value : Value
@@ -125,9 +125,9 @@ module _ {V : Type 0} (kind : Kind) (IsOf : Value → V → Type 0) (cmp : V →
     (one other : List ℕ) (xs ys : List (Option Value)) (lefts rights numbers classes : List ℕ)
     (firsts others : List (Cell V))
     (sides : AreSides cmp IsOf one other xs ys lefts rights numbers classes firsts others) where
-  told_left : (i : ℕ) → i < length xs
-      → IsTold cmp IsOf (one ++ other) (xs ++ ys) firsts others i (get_or (lefts ++ classes) i 0)
-  told_left i inside =
+  known_left : (i : ℕ) → i < length xs
+      → IsKnown cmp IsOf (one ++ other) (xs ++ ys) firsts others i (get_or (lefts ++ classes) i 0)
+  known_left i inside =
       let rank = sides.left.each i inside in
       let n = sides.left.count in
       let m = sides.one_count in
@@ -146,10 +146,10 @@ module _ {V : Type 0} (kind : Kind) (IsOf : Value → V → Type 0) (cmp : V →
             (left rank.within (λ d. same_from cmp (get_or firsts (get_or lefts i 0) d) rank.cell (rank.same d)));
       }
 
-  told_right : (j : ℕ) → j < length ys
-      → IsTold cmp IsOf (one ++ other) (xs ++ ys) firsts others (length xs + j)
+  known_right : (j : ℕ) → j < length ys
+      → IsKnown cmp IsOf (one ++ other) (xs ++ ys) firsts others (length xs + j)
       (get_or (lefts ++ classes) (length xs + j) 0)
-  told_right j inside =
+  known_right j inside =
       let rank = sides.right.each j inside in
       let n = sides.left.count in
       let m = sides.one_count in
@@ -175,24 +175,24 @@ module _ {V : Type 0} (kind : Kind) (IsOf : Value → V → Type 0) (cmp : V →
             (sides.matched.each (get_or rights j 0) rank.within));
       }
 
-  told_at : (i : ℕ) → i < length (one ++ other)
-      → IsTold cmp IsOf (one ++ other) (xs ++ ys) firsts others i (get_or (lefts ++ classes) i 0)
-  told_at i inside = elim (cases_lt i (length xs)) [
-    | inl less ↦ told_left i less
+  known_at : (i : ℕ) → i < length (one ++ other)
+      → IsKnown cmp IsOf (one ++ other) (xs ++ ys) firsts others i (get_or (lefts ++ classes) i 0)
+  known_at i inside = elim (cases_lt i (length xs)) [
+    | inl less ↦ known_left i less
     | inr le ↦ (
         let n = sides.one_count in
         let m = sides.other_count in
         let all = length-append one other in
         let e : length xs + (i - length xs) ≡ i = omega arith in
-        subst (λ k. IsTold cmp IsOf (one ++ other) (xs ++ ys) firsts others k (get_or (lefts ++ classes) k 0)) e
-        (told_right (i - length xs) (omega (arith, n, m, all, inside))))
+        subst (λ k. IsKnown cmp IsOf (one ++ other) (xs ++ ys) firsts others k (get_or (lefts ++ classes) k 0)) e
+        (known_right (i - length xs) (omega (arith, n, m, all, inside))))
   ]
 
   -- they split the classes so far
   pub refined : All (IsOfKind kind) (xs ++ ys) → Refines (one ++ other) (xs ++ ys) (lefts ++ classes)
   refined all i j hi hj =
-      let a = told_at i hi in
-      let b = told_at j hj in
+      let a = known_at i hi in
+      let b = known_at j hj in
       let c = get_or (one ++ other) i 0 in
       let d = get_or (one ++ other) j 0 in
       let tell = numbers_tell cmp total firsts others a.cell b.cell (get_or (lefts ++ classes) i 0)

@@ -68,8 +68,8 @@ list_any-contains test xs x (k, inside, at) passes = list_any-from_Any test xs (
 -- where one is found, it stands in the list and passes
 pub contained-list_any : {X : Type 0} (test : X → Bool) (xs : List X) → list_any test xs ≡ true
     → (x : X) × Contains xs x × (test x ≡ true)
-contained-list_any test xs told =
-    let (k, x, inside, at, passes) = Any-from_list_any test xs told in (x, (k, inside, at), passes)
+contained-list_any test xs known =
+    let (k, x, inside, at, passes) = Any-from_list_any test xs known in (x, (k, inside, at), passes)
 
 -- ---- rows that are sent
 
@@ -99,8 +99,8 @@ has_id-there rows row id h e =
 
 -- an id that is found is a row's
 pub row_of_id : (rows : List Row) (id : ℕ) → has_id rows id ≡ true → (row : Row) × Contains rows row × (row.id ≡ id)
-row_of_id rows id told =
-    let (row, h, passes) = contained-list_any (λ (r : Row). r.id == id) rows told in
+row_of_id rows id known =
+    let (row, h, passes) = contained-list_any (λ (r : Row). r.id == id) rows known in
     (row, h, (Decides-eqb row.id id).0 passes)
 
 -- of rows by rising id, those of one id are one

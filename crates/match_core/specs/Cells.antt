@@ -126,7 +126,7 @@ pub record AreRankedUpto {V : Type 0} (cmp : V → V → Ordering) (cells : List
   pub none : i ≡ 0 → length firsts ≡ 0
   pub last : (k j : ℕ) (d : Cell V) → k + 1 ≡ length firsts → j + 1 ≡ i
       → same_cell cmp (slice_index_or firsts k d) (slice_index_or cells j d) ≡ true
-  pub told : (k : ℕ) (d : Cell V) → k < i → HasRank cmp ranks firsts (slice_index_or cells k d)
+  pub ranked : (k : ℕ) (d : Cell V) → k < i → HasRank cmp ranks firsts (slice_index_or cells k d)
 
 -- how many cells stand in the lists before the one of that number
 abbrev pub count_before : {V : Type 0} → ℕ → List (Vec (Cell V)) → ℕ

@@ -107,7 +107,8 @@ fn next_step(at: Point, lefts: &[Step], rights: &[Step]) -> Option<Step>
     requires left_beyond { EndsBeyond at lefts.now }
     requires right_beyond { EndsBeyond at rights.now }
     requires can_add { CanAdd lefts.now rights.now }
-    ensures { MatchOption result ((lefts.now ≡ []) × (rights.now ≡ [])) (IsNextStep at lefts.now rights.now) }
+    ensures { MatchOption result ((lefts.now ≡ []) × (rights.now ≡ []))
+        (IsNextStep at lefts.now rights.now) }
 {
     let Some(x) = head_from(at, lefts) else {
         return head_from(at, rights);

@@ -14,7 +14,8 @@ use period_core::{NoMemory, Period, Point};
 
 /// Adds the gap of `x` from one point on and before another, where there is an instant between.
 fn push_gap(x: &Item, from: Point, to: Point, gaps: &mut Vec<Gap>) -> Result<(), NoMemory>
-    ensures ok { OnOk result (AddsAll GapStartsBefore (IsBetween x.now from to) gaps.old.items gaps.new.items) }
+    ensures ok { OnOk result
+        (AddsAll GapStartsBefore (IsBetween x.now from to) gaps.old.items gaps.new.items) }
     ensures err { OnErr result (gaps.new.items ≡ gaps.old.items) }
     ensures gap { OnErr result ((gap : Gap) × IsBetween x.now from to gap) }
 {
@@ -41,7 +42,8 @@ fn cover(x: &Item, y: &Item, at: Point, gaps: &mut Vec<Gap>) -> Result<Point, No
 /// Adds the gaps of one left item, and answers how many right items it passed. An item that ends later
 /// than `x` stays, for the next one.
 fn gaps_of(x: &Item, right: &mut Cursor, gaps: &mut Vec<Gap>) -> Result<u64, NoMemory>
-    ensures gaps { OnOk result (AddsAll GapStartsBefore (IsGapOf right.old x.now) gaps.old.items gaps.new.items) }
+    ensures gaps { OnOk result
+        (AddsAll GapStartsBefore (IsGapOf right.old x.now) gaps.old.items gaps.new.items) }
     ensures passes { IfOk result (PassesUpto x.now.period.to right.old right.new) }
     ensures leaves { OnOk result (EndLater x.now.period.to right.new) }
     ensures keeps { Extends gaps.old.items gaps.new.items }
@@ -73,7 +75,8 @@ fn gaps_of(x: &Item, right: &mut Cursor, gaps: &mut Vec<Gap>) -> Result<u64, NoM
 ///
 /// `NoMemory` where the list can't grow; it is then as before. Parts without a gap need no memory.
 pub fn merge_gaps(mut left: Cursor, mut right: Cursor, gaps: &mut Vec<Gap>) -> Result<u64, NoMemory>
-    ensures gaps { OnOk result (AddsAll GapStartsBefore (IsGap left.entry right.entry) gaps.old.items gaps.new.items) }
+    ensures gaps { OnOk result
+        (AddsAll GapStartsBefore (IsGap left.entry right.entry) gaps.old.items gaps.new.items) }
     ensures advances { IfOk result (AreGapAdvances left.entry right.entry) }
     ensures exact { IfOk result (λ n. n ≡ gap_advances_of left.entry right.entry) }
     ensures unchanged { OnErr result (gaps.new.items ≡ gaps.old.items) }

@@ -85,7 +85,8 @@ impl Gaps {
 
 /// Each item with its whole period.
 fn whole_periods(alloc: Global, items: &[Item]) -> Result<Vec<Gap>, NoMemory>
-    ensures { IfOk result (λ v. v.items ≡ map (λ x. record { left = x; period = x.period }) items.now) }
+    ensures { IfOk result (λ v. v.items
+        ≡ map (λ x. record { left = x; period = x.period }) items.now) }
 {
     items
         .iter()
@@ -126,7 +127,8 @@ fn meet_of(x: &Gap, y: &Gap) -> Option<Gap>
 
 /// Adds what two gaps of one left id share, where they share an instant.
 fn push_meet(x: &Gap, y: &Gap, gaps: &mut Vec<Gap>) -> Result<(), NoMemory>
-    ensures { OnOk result (AddsAll GapStartsBefore (IsMeet (x.now ∷ []) (y.now ∷ [])) gaps.old.items gaps.new.items) }
+    ensures { OnOk result
+        (AddsAll GapStartsBefore (IsMeet (x.now ∷ []) (y.now ∷ [])) gaps.old.items gaps.new.items) }
 {
     if let Some(gap) = meet_of(x, y) {
         gaps.push(gap)?;
@@ -162,7 +164,8 @@ fn meets_of(alloc: Global, one: &[Gap], other: &[Gap]) -> Result<Vec<Gap>, NoMem
 pub fn meet_gaps(alloc: Global, one: &Gaps, other: &Gaps) -> Result<Gaps, NoMemory>
     ensures meets { IfOk result (IsListOf GapStartsBefore (IsMeet one.now other.now)) }
     ensures both { IfOk result (λ gaps. (left right more : List Item) → IdsTell left
-        → ListsGaps left right one.now → ListsGaps left more other.now → ListsGaps left (right ++ more) gaps) }
+        → ListsGaps left right one.now → ListsGaps left more other.now
+        → ListsGaps left (right ++ more) gaps) }
 {
     let gaps = meets_of(alloc, &one.gaps, &other.gaps)?;
     Ok(Gaps { gaps })

@@ -57,7 +57,7 @@ impl Period {
     }
 
     /// Whether some instant lies in both. Periods that touch don't overlap. Both ends are always compared:
-    /// of periods in no order a branch after the first would often be foretold wrong.
+    /// of periods in no order a branch after the first would often be predicted wrong.
     #[inline(always)]
     pub fn overlaps(self, other: Period) -> bool
         ensures ends { IsTrue result ↔ ((self.from <ℤ other.to) × (other.from <ℤ self.to)) }

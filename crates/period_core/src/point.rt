@@ -117,14 +117,16 @@ impl Point {
         ensures err { OnErr result (out.new.items ≡ out.old.items) }
 
         // Memory is asked for only where there is no room.
-        ensures room { vec_len out.old + length (point_text self.now) ≤ vec_capacity out.old → IsOk result }
+        ensures room { vec_len out.old + length (point_text self.now) ≤ vec_capacity out.old
+            → IsOk result }
 
         // What is written is a text of the point, and is read as the point.
         ensures text { IsPointText (point_text self.now) self.now }
         ensures reads_back { point_of (point_text self.now) ≡ Some self.now }
 
         // Each other text of the point is longer.
-        ensures shortest { (other : List ℕ) → IsPointText other self.now → (other ≡ point_text self.now)
+        ensures shortest { (other : List ℕ) → IsPointText other self.now
+            → (other ≡ point_text self.now)
             ⊎ (length (point_text self.now) < length other) }
     {
         let date = text_of(&self.date());
@@ -226,7 +228,8 @@ fn date_parts(text: &[u8]) -> Option<(u16, u8, u8)>
 fn date_of(year: u16, month: u8, day: u8) -> Option<civil::Date>
     requires { (year ≤ 9999) × (month < 100) × (day < 100) }
     ensures { MatchOption result (¬ IsDate (record { year = year; month = month; day = day }))
-        (λ date. (pos 1 ≤ℤ date.year) × (year_month_day date ≡ record { year = year; month = month; day = day })) }
+        (λ date. (pos 1 ≤ℤ date.year)
+        × (year_month_day date ≡ record { year = year; month = month; day = day })) }
 {
     if year == 0 {
         return None;
@@ -257,7 +260,8 @@ fn time_of(text: &[u8]) -> Option<(u8, u8, u8)>
 
 // The seconds from midnight.
 fn second_number(hour: u8, minute: u8, second: u8) -> i64
-    ensures { result ≡ pos (second_number (record { hour = hour; minute = minute; second = second })) }
+    ensures { result ≡ pos
+        (second_number (record { hour = hour; minute = minute; second = second })) }
 {
     (hour as i64 * 60 + minute as i64) * 60 + second as i64
 }

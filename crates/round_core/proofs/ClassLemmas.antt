@@ -128,15 +128,15 @@ pub plateaus-all : (measure : Measure) (items : List Item)
     → ((classes : Range ℕ) (n : ℕ) (some : List Plateau) → post classes n (Ok some)
     → ArePlateaus measure (items_in classes items) some)
     → GivesFrom nat_cmp (Gives post) None cuts lists → ArePlateaus measure items (flat_map (λ some. some) lists)
-plateaus-all measure items post cuts lists rise told given =
+plateaus-all measure items post cuts lists rise known given =
     subst (λ (xs : List Item). ArePlateaus measure xs (flat_map (λ some. some) lists)) (in-whole items)
     (all_come nat_cmp (Gives post)
     (λ (classes : Range ℕ) (all : List (List Plateau)).
     ArePlateaus measure (items_in classes items) (flat_map (λ some. some) all))
     (λ classes some own.
-    subst (ArePlateaus measure (items_in classes items)) (sym (append-nil some)) (told classes own.0 some own.1))
+    subst (ArePlateaus measure (items_in classes items)) (sym (append-nil some)) (known classes own.0 some own.1))
     (λ from at some more begun one others.
     ArePlateaus-parted measure at (items_in (range from None) items) (items_in (range from (Some at)) items)
     (items_in (range (Some at) None) items) (in-parted from at items rise begun) some (flat_map (λ some. some) more)
-    (told (range from (Some at)) one.0 some one.1) others)
+    (known (range from (Some at)) one.0 some one.1) others)
     None cuts lists given)

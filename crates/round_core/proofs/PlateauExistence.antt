@@ -70,11 +70,11 @@ int_or_not a b = elim (by_order a b) [
 -- some items come to a value or don't
 pub value_or_not : (measure : Measure) (items : List Item) (v t : ℤ)
     → HasValue measure items v t ⊎ (HasValue measure items v t → ⊥)
-value_or_not measure items v t = told (some_tally items t)
+value_or_not measure items v t = known (some_tally items t)
   where
-    told : ((o : Option Tally) × IsTallyAt items t o) → HasValue measure items v t ⊎ (HasValue measure items v t → ⊥)
-    told (None, i) = inr (λ h. no_tally items t h.tally i h.is)
-    told (Some a, i) = elim (int_or_not (measured measure a) v) [
+    known : ((o : Option Tally) × IsTallyAt items t o) → HasValue measure items v t ⊎ (HasValue measure items v t → ⊥)
+    known (None, i) = inr (λ h. no_tally items t h.tally i h.is)
+    known (Some a, i) = elim (int_or_not (measured measure a) v) [
       | inl e ↦ inl (record { tally = a; is = i; gives = e })
       | inr ne ↦ inr (λ h. ne (IsTally-unique measure (holding items t) a h.tally i h.is ∙ h.gives))
     ]
@@ -192,18 +192,18 @@ module _ (measure : Measure) (items : List Item) where
       (maximal-once (HasValue measure (of_class p.class items) p.value) p.period q.period t i.maximal j' h k) value
 
   plateau_at : (class : ℕ) (t : ℤ) → (ps : List Plateau) × IsUnorderedListOf (IsPlateauAt class t) ps
-  plateau_at class t = told (some_tally (of_class class items) t)
+  plateau_at class t = known (some_tally (of_class class items) t)
     where
-      told : ((o : Option Tally) × IsTallyAt (of_class class items) t o)
+      known : ((o : Option Tally) × IsTallyAt (of_class class items) t o)
           → (ps : List Plateau) × IsUnorderedListOf (IsPlateauAt class t) ps
-      told (None, i) = (
+      known (None, i) = (
         [],
         IsUnorderedListOf-none (IsPlateauAt class t) (λ p at.
             let h : HasValue measure (of_class class items) p.value t =
             subst (λ c. HasValue measure (of_class c items) p.value t) at.class_is (at.is.maximal.inside t at.holds) in
             no_tally (of_class class items) t h.tally i h.is),
       )
-      told (Some a, i) =
+      known (Some a, i) =
           let own = of_class class items in
           let v : ℤ = measured measure a in
           let S : ℤ → Type 0 = HasValue measure own v in

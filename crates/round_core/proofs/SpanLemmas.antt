@@ -573,18 +573,18 @@ last_same (z ∷ zs) (w ∷ ws) x y e = last_same zs ws x y (rest_same z w (zs +
     rest_same a b us vs h = cc
 
 -- whether the last of the one and the first of the other join is whether the lists have a joint
-pub joint_told : (early late front back : List Plateau) (last first : Plateau) → early ≡ front ++ last ∷ []
+pub joint_known : (early late front back : List Plateau) (last first : Plateau) → early ≡ front ++ last ∷ []
     → late ≡ first ∷ back → (o : Option Plateau)
     → MatchOption o (Continues last first → ⊥) (λ both. Continues last first × IsJoined last first both)
     → MatchOption o (HaveNoJoint early late) (IsJoint early late)
-joint_told early late front back last first e l None off = λ f b x y i k c.
+joint_known early late front back last first e l None off = λ f b x y i k c.
     (let same : last ≡ x = last_same front f last x (sym e ∙ i) in
     let alike : first ≡ y = head_same first y back b (sym l ∙ k) in
     off (subst (λ z. Continues z first) (sym same) (subst (λ z. Continues x z) (sym alike) c)))
   where
     head_same : (a b : Plateau) (us vs : List Plateau) → a ∷ us ≡ b ∷ vs → a ≡ b
     head_same a b us vs h = cc
-joint_told early late front back last first e l (Some both) h = record {
+joint_known early late front back last first e l (Some both) h = record {
   front = front;
   last = last;
   first = first;

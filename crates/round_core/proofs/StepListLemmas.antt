@@ -94,13 +94,13 @@ pub shares-lists : (items : List Item) (post : Range ℕ → ℕ → Result (Vec
     → ((places : Range ℕ) (n : ℕ) (lists : Vec ClassSteps) → post places n (Ok lists)
     → AreStepLists (piece places items) lists.items) → GivesFrom nat_cmp (Gives post) None cuts shares
     → AreStepLists items (all_in shares)
-shares-lists items post cuts shares rise told given =
+shares-lists items post cuts shares rise known given =
     all_come nat_cmp (Gives post)
     (λ (places : Range ℕ) (some : List (Vec ClassSteps)). AreStepLists (piece places items) (all_in some))
-    (λ places lists own. subst (AreStepLists (piece places items)) (sym (append-nil lists.items)) (told places own.0 lists own.1))
+    (λ places lists own. subst (AreStepLists (piece places items)) (sym (append-nil lists.items)) (known places own.0 lists own.1))
     (λ from at lists more begun one others.
     let whole = piece_cut from at items begun in
     subst (λ (xs : List Item). AreStepLists xs (lists.items ++ all_in more)) (sym whole)
     (lists_more (piece (range from (Some at)) items) (piece (range (Some at) None) items) lists.items (all_in more)
-    (subst Rise whole (piece_rises (range from None) items rise)) (told (range from (Some at)) one.0 lists one.1) others))
+    (subst Rise whole (piece_rises (range from None) items rise)) (known (range from (Some at)) one.0 lists one.1) others))
     None cuts shares given

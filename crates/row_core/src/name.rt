@@ -42,7 +42,8 @@ impl Model for Name {
 
     ghost view = { λ name. unpadded name.bytes };
 
-    ghost invariant = { λ name. IsTrue (is_name (unpadded name.bytes)) × (padded (unpadded name.bytes) ≡ name.bytes) };
+    ghost invariant = { λ name. IsTrue (is_name (unpadded name.bytes))
+        × (padded (unpadded name.bytes) ≡ name.bytes) };
 
     ghost inverse = { λ text. record { bytes = padded text } };
 

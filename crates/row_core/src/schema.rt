@@ -46,7 +46,7 @@ use std::marker::Model;
 use thiserror::Error;
 
 /// The most columns of a table.
-const COLUMN_LIMIT: usize = 16;
+pub const COLUMN_LIMIT: usize = 16;
 
 /// A column: its name, the kind of its values, and its place in the table's key, if it is part of it.
 #[derive(Clone, Copy, Debug, PartialEq, Eq)]
@@ -191,7 +191,8 @@ impl Schema {
         ensures columns { IsAnswer (keyed_of self names.now) result }
 
         // The key's columns are those of the names, in their order.
-        ensures key { IfOk result (λ schema. map Some (key_of schema) ≡ map (column_of self) names.now) }
+        ensures key { IfOk result (λ schema. map Some (key_of schema)
+            ≡ map (column_of self) names.now) }
     {
         if let Some(refused) = key_refusal(&self.columns, names) {
             return Err(Failure::Refused(refused));
@@ -239,7 +240,8 @@ impl Schema {
         bytes: &[u8],
     ) -> Result<Value, Failure<ValueRefused>>
         requires { i < length self.now }
-        ensures { IfSome (slice_get self.now i) (λ column. IsAnswer (value_of column.kind bytes.now) result) }
+        ensures { IfSome (slice_get self.now i)
+            (λ column. IsAnswer (value_of column.kind bytes.now) result) }
     {
         Value::read(alloc, self.kind(i), bytes)
     }

@@ -45,7 +45,8 @@ fn shown_asof(newest: &Snapshot, number: u64, asof: Option<u64>) -> Result<Snaps
 
     // It fails as each table's rows do, and where no commit is named, for want of memory alone.
     ensures fails { IfErr result (λ failure.
-        (table : List ℕ) → IsFailureOf (rows_or_fault number (history newest.now) asof table) failure) }
+        (table : List ℕ) → IsFailureOf
+        (rows_or_fault number (history newest.now) asof table) failure) }
     ensures newest { IfErr result (λ failure. asof ≡ None → failure ≡ NoMemory) }
 {
     match newest.as_of(asof.unwrap_or(newest.number())) {

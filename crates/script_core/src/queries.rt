@@ -287,7 +287,8 @@ pub(crate) fn check(
 ) -> Result<Answer, Failure>
     requires { number + 1 + length (lines_in claimed.body) < 2 ^ 64 }
     ensures { Gives
-        (both_ok (rows_or_fault number (history snapshot.now) (commit_shown snapshot.now) claimed.entry.table)
+        (both_ok (rows_or_fault number (history snapshot.now)
+        (commit_shown snapshot.now) claimed.entry.table)
         (claim_of (number + 1) (lines_in claimed.entry.body)))
         (λ read answer. IsVerdictOn (items_of read.0) read.1 certificate answer) result }
 {

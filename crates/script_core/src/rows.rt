@@ -26,7 +26,8 @@ fn read_next<'s>(
     number: u64,
 ) -> Result<RowReader<'s>, Failure>
     ensures { MatchResult result
-        (λ more. (row : AnyDraft) × (loaded_row reader.entry.columns (fields_in line.entry) ≡ Ok row)
+        (λ more. (row : AnyDraft)
+        × (loaded_row reader.entry.columns (fields_in line.entry) ≡ Ok row)
         × (more ≡ record reader.entry { rows = reader.entry.rows ++ row ∷ [] }))
         (IsRecordFailure number (loaded_row reader.entry.columns (fields_in line.entry))) }
 {

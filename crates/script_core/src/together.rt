@@ -146,7 +146,8 @@ fn answer_both<T: Threads + Wait + Sync>(
     let mut queries = || -> Result<(Outcome, Outcome), NoMemory>
         requires { IsSync T.row × ((members : List Member) × IsCutAt block.now members)
             × CanBeNumbered block.now }
-        ensures front { IfOk result (λ reported. PrintsSection (history context.entry.now.newest.now)
+        ensures front { IfOk result
+            (λ reported. PrintsSection (history context.entry.now.newest.now)
             block.entry.now.front.first
             (lines_in block.entry.now.front.lines) printer.entry.now printer.exit.now reported.0) }
         ensures back { IfOk result (λ reported. PrintsSection (history context.entry.now.newest.now)
@@ -255,7 +256,8 @@ fn answer_beside_load<T: Threads + Wait + Sync>(
         (ledger_history ledger.new)
         printer.old printer.new reported) }
     ensures few { IfOk result (λ reported. reported.errors ≤ reported.commands) }
-    ensures fewer { IfOk result (λ reported. reported.commands ≤ length (lines_in block.now.front.lines)
+    ensures fewer { IfOk result
+        (λ reported. reported.commands ≤ length (lines_in block.now.front.lines)
         + length (lines_in block.now.back.lines) + 1) }
     ensures left { left_in ledger.old ≤ left_in ledger.new + 1 }
 {
@@ -282,7 +284,8 @@ fn answer_commands<T: Threads + Wait + Sync>(
         (ledger_history ledger.new)
         printer.old printer.new reported) }
     ensures few { IfOk result (λ reported. reported.errors ≤ reported.commands) }
-    ensures fewer { IfOk result (λ reported. reported.commands ≤ length (lines_in block.entry.lines)) }
+    ensures fewer { IfOk result
+        (λ reported. reported.commands ≤ length (lines_in block.entry.lines)) }
     ensures left { left_in ledger.old ≤ left_in ledger.new + 1 }
 {
     match first_load(block.lines) {

@@ -37,7 +37,8 @@ pub fn shared_out<
                 × ((r : AnyRange T) (n : ℕ) → 0 < n → n ≤ shares.now.workers
                 → IsShare shares.now.cuts.items shares.now.last r n → F.pre work.now r n) }
             ensures { (n : ℕ)
-                × F.post work.entry.now (range_at None shares.entry.now.cuts.items number) n result }
+                × F.post work.entry.now
+                (range_at None shares.entry.now.cuts.items number) n result }
         { work(shares.range(number), shares.workers_of(number)) },
     )?;
     all_found(alloc, answers)

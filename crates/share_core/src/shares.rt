@@ -38,7 +38,7 @@ const SAMPLE: usize = 1_023;
 
 impl<T: Ord + Copy> Shares<T> {
     /// The ranges of so many items, by the value that each has: as many for each worker, about, as far as their values
-    /// can be told apart. Where items are few, or most are of one value, there are fewer ranges, which have more workers.
+    /// differ. Where items are few, or most are of one value, there are fewer ranges, which have more workers.
     ///
     /// # Errors
     ///

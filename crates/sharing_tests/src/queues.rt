@@ -53,7 +53,8 @@ fn add_slowly<R: Wait>(rt: &R, turn: &Turn<Numbers>, seat: &mut Seat<Numbers>, n
         seat,
         move |numbers: &mut Numbers| -> bool
             ensures seats { numbers.new.seats ≡ numbers.old.seats }
-            ensures adds { AddsAtMostOne (λ added. added.by) by numbers.old.list.items numbers.new.list.items }
+            ensures adds { AddsAtMostOne
+                (λ added. added.by) by numbers.old.list.items numbers.new.list.items }
         {
             linger();
             numbers.add(by, number)
@@ -110,7 +111,8 @@ fn sixteen_callers_who_hold_their_turns_are_all_served(rt: HostRuntime) -> Resul
         &rt,
         seats,
         &|seat: Seat<Numbers>| -> Option<Vec<Added>>
-            requires { IsSeatOf turn seat × (0 < (view_of seat).number) × (1 < (view_of seat).left) }
+            requires { IsSeatOf turn seat × (0 < (view_of seat).number)
+                × (1 < (view_of seat).left) }
         { add_and_look(&rt, &turn, seat, &added) },
     )?;
     assert!(rt; seen.len() == CALLERS as usize);

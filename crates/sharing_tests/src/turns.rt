@@ -40,9 +40,11 @@ impl Numbers {
     // Adds a number; false where memory is refused.
     pub fn add(&mut self, by: u32, number: u64) -> bool
         ensures seats { self.new.seats ≡ self.old.seats }
-        ensures adds { AddsAtMostOne (λ added. added.by) by self.old.list.items self.new.list.items }
+        ensures adds { AddsAtMostOne
+            (λ added. added.by) by self.old.list.items self.new.list.items }
         ensures added { IsTrue result
-            → self.new.list.items ≡ self.old.list.items ++ record { by = by; number = number } ∷ [] }
+            → self.new.list.items ≡ self.old.list.items ++ record { by = by; number = number }
+            ∷ [] }
     {
         self.list.push(Added { by, number }).is_ok()
     }
@@ -51,7 +53,8 @@ impl Numbers {
 // A turn over no numbers, with two seats.
 fn two_seats(alloc: Global) -> Result<(Turn<Numbers>, Seat<Numbers>, Seat<Numbers>), Fail>
     ensures turn { IfOk result (λ made. IsSeatOf made.0 made.1 × IsSeatOf made.0 made.2) }
-    ensures numbers { IfOk result (λ made. ((view_of made.1).number ≡ 1) × ((view_of made.2).number ≡ 2)) }
+    ensures numbers { IfOk result (λ made. ((view_of made.1).number ≡ 1)
+        × ((view_of made.2).number ≡ 2)) }
     ensures left { IfOk result (λ made. (2 < (view_of made.1).left) × (2 < (view_of made.2).left)) }
 {
     let numbers = Numbers {
@@ -74,7 +77,8 @@ fn add<R: Wait>(rt: &R, turn: &Turn<Numbers>, seat: &mut Seat<Numbers>, number: 
     ensures same { IsSameCaller (view_of seat.old) (view_of seat.new) }
     ensures left { (view_of seat.new).left + 1 ≡ (view_of seat.old).left }
     ensures seen { IsTrue result
-        → Contains (view_of seat.new).seen (record { by = (view_of seat.old).number; number = number }) }
+        → Contains (view_of seat.new).seen
+        (record { by = (view_of seat.old).number; number = number }) }
 {
     let by = seat.number();
     turn.with(
@@ -82,9 +86,11 @@ fn add<R: Wait>(rt: &R, turn: &Turn<Numbers>, seat: &mut Seat<Numbers>, number: 
         seat,
         move |numbers: &mut Numbers| -> bool
             ensures seats { numbers.new.seats ≡ numbers.old.seats }
-            ensures adds { AddsAtMostOne (λ added. added.by) by numbers.old.list.items numbers.new.list.items }
+            ensures adds { AddsAtMostOne
+                (λ added. added.by) by numbers.old.list.items numbers.new.list.items }
             ensures added { IsTrue result
-                → numbers.new.list.items ≡ numbers.old.list.items ++ record { by = by; number = number } ∷ [] }
+                → numbers.new.list.items ≡ numbers.old.list.items
+                ++ record { by = by; number = number } ∷ [] }
         { numbers.add(by, number) },
     )
 }
@@ -145,10 +151,10 @@ fn tell(turn: &Turn<Numbers>, first: &mut Seat<Numbers>, second: &mut Seat<Numbe
     ensures same { IsSameCaller (view_of first.old) (view_of first.new) }
     ensures left { (view_of first.new).left ≡ (view_of first.old).left }
     ensures stays { view_of second.new ≡ view_of second.old }
-    ensures told { IsPrefix (view_of second.old).seen (view_of first.new).seen }
+    ensures heard { IsPrefix (view_of second.old).seen (view_of first.new).seen }
 {
-    let told = turn.split(second);
-    turn.join(first, told);
+    let other = turn.split(second);
+    turn.join(first, other);
 }
 
 // How often the list has a number of that caller.
@@ -179,7 +185,7 @@ fn each_of_two_callers_adds_a_number(rt: HostRuntime) -> Result<(), Fail> {
 }
 
 #[test]
-fn who_was_told_sees_what_the_other_added(rt: HostRuntime) -> Result<(), Fail> {
+fn who_hears_of_the_other_sees_what_it_added(rt: HostRuntime) -> Result<(), Fail> {
     let (turn, mut first, mut second) = two_seats(rt.alloc())?;
     assert!(rt; add(&rt, &turn, &mut first, 10));
     assert!(rt; add(&rt, &turn, &mut second, 20));

@@ -109,8 +109,8 @@ pub record AreNew (n calls : ℕ) (s : Store) (ps : List Pass) : Type 0 where
   pub each : (i : ℕ) (p : Pass) → slice_get ps i ≡ Some p → IsPassOf s p × IsFresh (i + 1) n calls p
 
 -- what a note says: the number of the pass that made it, what it had seen, and its own changes
-abbrev pub told_in : Note → View Commit
-told_in n = view_of n.seat
+abbrev pub note_view : Note → View Commit
+note_view n = view_of n.seat
 
 -- the note is of a pass of this store
 abbrev pub IsNoteOf : Store → Note → Type 0
@@ -122,9 +122,9 @@ pub record MakesNote (s : Store) (p q : Pass) (n : Note) : Type 0 where
   pub note : IsNoteOf s n
   pub left : calls_left q ≡ calls_left p
   pub same : view q ≡ view p
-  pub number : (told_in n).source ≡ pass_number p
-  pub seen : (told_in n).seen ≡ seen p
-  pub mine : (told_in n).mine ≡ mine p
+  pub number : (note_view n).source ≡ pass_number p
+  pub seen : (note_view n).seen ≡ seen p
+  pub mine : (note_view n).mine ≡ mine p
 
 -- the pass has seen all that it had seen, and all that the note says, in one legal history, which one of the two had
 -- seen, and in which the changes of both stand, each once; its own changes and its calls stay
@@ -133,6 +133,6 @@ pub record Hears (s : Store) (p : Pass) (n : Note) (q : Pass) : Type 0 where
   pub left : calls_left q ≡ calls_left p
   pub mine : mine q ≡ mine p
   pub sees : Sees p q
-  pub heard : IsPrefix (told_in n).seen (seen q)
-  pub one : (seen q ≡ seen p) ⊎ (seen q ≡ (told_in n).seen)
-  pub theirs : own by_of (told_in n).source (told_in n).seen ≡ (told_in n).mine
+  pub heard : IsPrefix (note_view n).seen (seen q)
+  pub one : (seen q ≡ seen p) ⊎ (seen q ≡ (note_view n).seen)
+  pub theirs : own by_of (note_view n).source (note_view n).seen ≡ (note_view n).mine

@@ -48,6 +48,7 @@ impl Pass {
 
     /// A law: in a store of one pass, all that the pass has seen is its own.
     pub fn has_seen_its_own(&self)
-        ensures { passes_of self.now ≡ 1 → (pass_number self.now ≡ 1) × (seen self.now ≡ mine self.now) }
+        ensures { passes_of self.now ≡ 1 → (pass_number self.now ≡ 1)
+            × (seen self.now ≡ mine self.now) }
     {}
 }

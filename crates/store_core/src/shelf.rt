@@ -113,7 +113,8 @@ impl Shelf {
     /// unchanged, and the change is dropped.
     pub fn commit(&mut self, by: u32, change: Change) -> Result<u64, Failure<BookRefused>>
         requires { (0 < by) × (by ≤ passes_in self.old) }
-        ensures reply { CommitsTo (shelf_history self.old) by change result (shelf_history self.new) }
+        ensures reply { CommitsTo (shelf_history self.old) by change result
+            (shelf_history self.new) }
         ensures passes { passes_in self.new ≡ passes_in self.old }
         ensures legal { IsLegal (shelf_history self.new) }
     {

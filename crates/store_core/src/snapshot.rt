@@ -83,7 +83,8 @@ impl Snapshot {
 
     /// The columns of a table.
     pub fn schema(&self, name: Name) -> Result<&Schema, NoTable>
-        ensures found { IfOk result (λ schema. schema_in (history self.now) name ≡ Some schema.now) }
+        ensures found { IfOk result (λ schema. schema_in (history self.now) name
+            ≡ Some schema.now) }
         ensures absent { OnErr result (schema_in (history self.now) name ≡ None) }
     {
         self.book.schema(name)
@@ -95,7 +96,8 @@ impl Snapshot {
     ///
     /// `NoTable`; `NoMemory`, in this order.
     pub fn rows(&self, name: Name) -> Result<SharedRows, Failure<NoTable>>
-        ensures given { IsAnswer (rows_of_snapshot (history self.now) (number_shown self.now) name) result }
+        ensures given { IsAnswer
+            (rows_of_snapshot (history self.now) (number_shown self.now) name) result }
 
         // They are at most 1,000,000, and each fits the table's columns.
         ensures few { IfOk result (λ rows. length rows ≤ version_limit) }
@@ -151,7 +153,8 @@ impl Snapshot {
 
         // At one commit they are those whose rows it shows.
         ensures at_once { m ≡ n → n ≤ number_shown self.now
-            → IfOk result (λ versions. map (λ v. v.row) versions ≡ rows_at (history self.now) n name) }
+            → IfOk result (λ versions. map (λ v. v.row) versions
+            ≡ rows_at (history self.now) n name) }
     {
         match self.book.between(self.number, m, n, name) {
             Ok(versions) => Ok(versions),

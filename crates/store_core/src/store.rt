@@ -98,7 +98,8 @@ impl Store {
             move |shelf: &mut Shelf| -> Result<u64, Failure<BookRefused>>
                 requires { (0 < by) × (by ≤ passes_in shelf.old) }
                 ensures passes { passes_in shelf.new ≡ passes_in shelf.old }
-                ensures reply { CommitsTo (shelf_history shelf.old) by change result (shelf_history shelf.new) }
+                ensures reply { CommitsTo (shelf_history shelf.old) by change result
+                    (shelf_history shelf.new) }
                 ensures legal { IsLegal (shelf_history shelf.new) }
             { shelf.commit(by, change) },
         );

@@ -39,7 +39,8 @@ impl Numbers {
     // Adds a number; false where memory is refused.
     fn add(&mut self, by: u32, number: u64) -> bool
         ensures seats { self.new.seats ≡ self.old.seats }
-        ensures adds { AddsAtMostOne (λ added. added.by) by self.old.list.items self.new.list.items }
+        ensures adds { AddsAtMostOne
+            (λ added. added.by) by self.old.list.items self.new.list.items }
     {
         self.list.push(Added { by, number }).is_ok()
     }
@@ -48,7 +49,8 @@ impl Numbers {
 // A turn over no numbers, with two seats.
 fn two_seats(alloc: Global) -> Result<(Turn<Numbers>, Seat<Numbers>, Seat<Numbers>), Ended>
     ensures turn { IfOk result (λ made. IsSeatOf made.0 made.1 × IsSeatOf made.0 made.2) }
-    ensures numbers { IfOk result (λ made. ((view_of made.1).number ≡ 1) × ((view_of made.2).number ≡ 2)) }
+    ensures numbers { IfOk result (λ made. ((view_of made.1).number ≡ 1)
+        × ((view_of made.2).number ≡ 2)) }
     ensures left { IfOk result (λ made. (2 < (view_of made.1).left) × (2 < (view_of made.2).left)) }
 {
     let numbers = Numbers {
@@ -77,7 +79,8 @@ fn add<R: Wait>(rt: &R, turn: &Turn<Numbers>, seat: &mut Seat<Numbers>, number: 
         seat,
         move |numbers: &mut Numbers| -> bool
             ensures seats { numbers.new.seats ≡ numbers.old.seats }
-            ensures adds { AddsAtMostOne (λ added. added.by) by numbers.old.list.items numbers.new.list.items }
+            ensures adds { AddsAtMostOne
+                (λ added. added.by) by numbers.old.list.items numbers.new.list.items }
         { numbers.add(by, number) },
     )
 }
@@ -138,8 +141,8 @@ fn add_both<R: Threads + Wait + Sync>(rt: &R, alloc: Global) -> Result<(), Ended
     let (Some(mut first), Some(mut second)) = (first, second) else {
         return Err(Ended::NoMemory);
     };
-    let told = turn.split(&mut second);
-    turn.join(&mut first, told);
+    let heard = turn.split(&mut second);
+    turn.join(&mut first, heard);
     let (one, other) = (Added { by: 1, number: 10 }, Added { by: 2, number: 20 });
     holds(are_both(rt, &turn, &mut first, one, other))
 }

@@ -313,7 +313,7 @@ fn adds_pairs_at_the_end(rt: HostRuntime) {
 }
 
 // What a change of a portion says: its table, portion, settings and conditions. A deletion has no settings.
-fn told(change: &Change) -> Option<(Name, Period, &[(Name, Value)], &[(Name, Value)])> {
+fn parts_of(change: &Change) -> Option<(Name, Period, &[(Name, Value)], &[(Name, Value)])> {
     match change {
         Change::Update {
             table,
@@ -333,8 +333,8 @@ fn told(change: &Change) -> Option<(Name, Period, &[(Name, Value)], &[(Name, Val
 
 fn check_copy(rt: &(impl Abort + Alloc<A = Global>), change: &Change) {
     let copy = change.copy(rt.alloc()).expect(rt, "memory");
-    assert!(rt; told(&copy).is_some());
-    assert!(rt; told(&copy) == told(change));
+    assert!(rt; parts_of(&copy).is_some());
+    assert!(rt; parts_of(&copy) == parts_of(change));
 }
 
 #[test]

@@ -264,7 +264,7 @@ fn adds_values_and_drafts(rt: HostRuntime) {
 }
 
 // How many values the draft at that place has, and the first of them where that is a number.
-fn told(rt: &impl Abort, drafts: &Drafts, place: usize) -> (usize, Option<i64>) {
+fn shown(rt: &impl Abort, drafts: &Drafts, place: usize) -> (usize, Option<i64>) {
     let draft = drafts.get(place).expect(rt, "a row");
     match draft.value(0) {
         Some(ValueRef::Int(number)) => (draft.width(), Some(number)),
@@ -294,7 +294,7 @@ fn keeps_drafts_of_other_kinds(rt: HostRuntime) {
             10 => (1, None),
             _ => (2, Some(1)),
         };
-        assert!(rt; told(&rt, &all, place) == kept);
+        assert!(rt; shown(&rt, &all, place) == kept);
     }
 }
 

@@ -76,8 +76,10 @@ impl<W: Write> Counted<W> {
     /// interruption too, or takes none of some bytes.
     pub fn write(&mut self, buf: &[u8]) -> io::Result<usize>
         ensures bound { WritesAtMost result buf.now }
-        ensures bytes { WriteAppends (W.contents (inner_of self.old)) (W.contents (inner_of self.new)) result buf.now }
-        ensures count { failures_of self.new ≡ count_after (failures_of self.old) (is_failed_write result buf.now) }
+        ensures bytes { WriteAppends (W.contents (inner_of self.old))
+            (W.contents (inner_of self.new)) result buf.now }
+        ensures count { failures_of self.new
+            ≡ count_after (failures_of self.old) (is_failed_write result buf.now) }
         ensures grows { failures_of self.old ≤ failures_of self.new }
     {
         let answer = self.inner.write(buf);

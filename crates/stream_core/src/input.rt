@@ -24,11 +24,15 @@ fn read_some<R: Read>(
 ) -> Result<usize, RunFault>
     ensures bound { IfOk result (λ n. n ≤ length chunk.new) }
     ensures bytes { IfOk result
-        (λ n. Consumes (R.remaining (inner_of reader.old)) (R.remaining (inner_of reader.new)) (take n chunk.new)) }
-    ensures end { IfOk result (λ n. n ≡ 0 → 0 < length chunk.new → IsAtEnd (R.remaining (inner_of reader.new))) }
-    ensures err { OnErr result (Keeps (R.remaining (inner_of reader.old)) (R.remaining (inner_of reader.new))) }
+        (λ n. Consumes (R.remaining (inner_of reader.old)) (R.remaining (inner_of reader.new))
+        (take n chunk.new)) }
+    ensures end { IfOk result (λ n. n ≡ 0 → 0 < length chunk.new
+        → IsAtEnd (R.remaining (inner_of reader.new))) }
+    ensures err { OnErr result
+        (Keeps (R.remaining (inner_of reader.old)) (R.remaining (inner_of reader.new))) }
     ensures fault { IfErr result
-        (λ e. (e ≡ RunFault.ReadFault) × HasGrown (failures_of reader.old) (failures_of reader.new)) }
+        (λ e. (e ≡ RunFault.ReadFault)
+        × HasGrown (failures_of reader.old) (failures_of reader.new)) }
     ensures counts { failures_of reader.old ≤ failures_of reader.new }
     ensures tries { failures_of reader.new + patience.new.left
         ≤ failures_of reader.old + patience.old.left + last_failures result }
@@ -60,13 +64,16 @@ pub fn read_on<R: Read>(
     limit: usize,
 ) -> Result<bool, RunFault>
     requires { length text.old.items ≤ limit }
-    ensures read { OnOk result (HasReadOn (R.remaining (inner_of reader.old)) (R.remaining (inner_of reader.new))
+    ensures read { OnOk result
+        (HasReadOn (R.remaining (inner_of reader.old)) (R.remaining (inner_of reader.new))
         text.old.items text.new.items) }
     ensures within { OnOk result (length text.new.items ≤ limit) }
     ensures enough { IfOk result (λ is_end. is_end ≡ false → wanted ≤ length text.new.items) }
-    ensures end { IfOk result (λ is_end. is_end ≡ true → IsAtEnd (R.remaining (inner_of reader.new))) }
+    ensures end { IfOk result (λ is_end. is_end ≡ true
+        → IsAtEnd (R.remaining (inner_of reader.new))) }
     ensures fault { IfErr result
-        (ExplainsReadingOn text.old.items limit (source_of R.remaining reader.old) (source_of R.remaining reader.new)) }
+        (ExplainsReadingOn text.old.items limit (source_of R.remaining reader.old)
+        (source_of R.remaining reader.new)) }
     ensures counts { failures_of reader.old ≤ failures_of reader.new }
     ensures tries { failures_of reader.new + patience.new.left
         ≤ failures_of reader.old + patience.old.left + last_failures result }

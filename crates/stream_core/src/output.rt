@@ -19,10 +19,13 @@ fn write_some<W: Write>(
     requires { 0 < length bytes.now }
     ensures bound { IfOk result (λ n. (0 < n) × (n ≤ length bytes.now)) }
     ensures ok { IfOk result
-        (λ n. Appends (W.contents (inner_of writer.old)) (W.contents (inner_of writer.new)) (take n bytes.now)) }
-    ensures err { OnErr result (Keeps (W.contents (inner_of writer.old)) (W.contents (inner_of writer.new))) }
+        (λ n. Appends (W.contents (inner_of writer.old)) (W.contents (inner_of writer.new))
+        (take n bytes.now)) }
+    ensures err { OnErr result
+        (Keeps (W.contents (inner_of writer.old)) (W.contents (inner_of writer.new))) }
     ensures fault { IfErr result
-        (λ e. (e ≡ RunFault.WriteFault) × HasGrown (failures_of writer.old) (failures_of writer.new)) }
+        (λ e. (e ≡ RunFault.WriteFault)
+        × HasGrown (failures_of writer.old) (failures_of writer.new)) }
     ensures counts { failures_of writer.old ≤ failures_of writer.new }
     ensures tries { failures_of writer.new + patience.new.left
         ≤ failures_of writer.old + patience.old.left + last_failures result }
@@ -51,11 +54,13 @@ pub fn write_all<W: Write>(
     patience: &mut Patience,
     bytes: &[u8],
 ) -> Result<(), RunFault>
-    ensures ok { OnOk result (Appends (W.contents (inner_of writer.old)) (W.contents (inner_of writer.new)) bytes.now) }
+    ensures ok { OnOk result
+        (Appends (W.contents (inner_of writer.old)) (W.contents (inner_of writer.new)) bytes.now) }
     ensures prefix { OnErr result
         (WritesPartOf bytes.now (sink_of W.contents writer.old) (sink_of W.contents writer.new)) }
     ensures fault { IfErr result
-        (λ e. (e ≡ RunFault.WriteFault) × HasGrown (failures_of writer.old) (failures_of writer.new)) }
+        (λ e. (e ≡ RunFault.WriteFault)
+        × HasGrown (failures_of writer.old) (failures_of writer.new)) }
     ensures counts { failures_of writer.old ≤ failures_of writer.new }
     ensures tries { failures_of writer.new + patience.new.left
         ≤ failures_of writer.old + patience.old.left + last_failures result }

@@ -108,7 +108,8 @@ fn count_of(source: &Source, places: &Option<Vec<u32>>) -> usize
 fn row_at<'a>(source: &'a Source, places: &Option<Vec<u32>>, place: usize) -> RowRef<'a>
     requires within { AreWithin places.now (rows_from source.now) }
     requires there { place < length (shown_at places.now (rows_from source.now)) }
-    ensures { slice_get (shown_at places.now (rows_from source.entry.now)) place ≡ Some (lent_row result) }
+    ensures { slice_get (shown_at places.now (rows_from source.entry.now)) place
+        ≡ Some (lent_row result) }
 {
     source.at(place_among(source, places, place))
 }
@@ -117,7 +118,8 @@ fn row_at<'a>(source: &'a Source, places: &Option<Vec<u32>>, place: usize) -> Ro
 fn place_among(source: &Source, places: &Option<Vec<u32>>, place: usize) -> usize
     requires within { AreWithin places.now (rows_from source.now) }
     requires there { place < length (shown_at places.now (rows_from source.now)) }
-    ensures row { slice_get (rows_from source.now) result ≡ slice_get (shown_at places.now (rows_from source.now)) place }
+    ensures row { slice_get (rows_from source.now) result
+        ≡ slice_get (shown_at places.now (rows_from source.now)) place }
     ensures within { result < length (rows_from source.now) }
 {
     match places {
@@ -134,7 +136,8 @@ fn places_holding(
     point: Point,
 ) -> Result<Vec<u32>, NoMemory>
     requires within { AreWithin places.now (rows_from source.now) }
-    ensures within { IfOk result (λ held. All (λ place. place < length (rows_from source.now)) held.items) }
+    ensures within { IfOk result
+        (λ held. All (λ place. place < length (rows_from source.now)) held.items) }
     ensures held { IfOk result (λ held. at_places held.items (rows_from source.now)
         ≡ filter (λ row. holds_at point row.period) (shown_at places.now (rows_from source.now))) }
 {

@@ -89,7 +89,7 @@ module _ {S E : Type 0} (entries : S → List E) (by : E → ℕ) (mark_of : S �
                 seen = old.seen;
                 own = old.own;
                 before = old.before;
-                told = old.told;
+                heard = old.heard;
                 stage = (
                   r.behind,
                   omega arith,
@@ -110,7 +110,7 @@ module _ {S E : Type 0} (entries : S → List E) (by : E → ℕ) (mark_of : S �
                 seen = f.seen;
                 own = f.own;
                 before = f.before;
-                told = f.told;
+                heard = f.heard;
                 stage = others-wait x id j u.seen (λ o. (r.gone o).1) u.stage f.stage;
               });
         },
@@ -133,7 +133,7 @@ module _ {S E : Type 0} (entries : S → List E) (by : E → ℕ) (mark_of : S �
     seen = subst (IsPrefix v.seen) same f.seen;
     own = f.own;
     before = f.before;
-    told = f.told;
+    heard = f.heard;
     stage = stage;
   }
 
@@ -226,7 +226,7 @@ module _ {S E : Type 0} (entries : S → List E) (by : E → ℕ) (mark_of : S �
                 seen = ([], append-nil (entries y.0) ∙ y.2);
                 own = ap (own by v.source) y.2 ∙ (ap (λ (z : ℕ). own by z x.log) q.source ∙ q.mine);
                 before = prefix-trans v.before v.seen (entries y.0) old.before all;
-                told = prefix-trans v.told v.seen (entries y.0) old.told all;
+                heard = prefix-trans v.heard v.seen (entries y.0) old.heard all;
                 stage = (sym hit, fits.2, refl, y.2);
               }
               (λ j u ne here. refits x (taken x) j u refl refl (r.each j u here) (others-stay x id j u.seen drew ne
@@ -316,7 +316,7 @@ module _ {S E : Type 0} (entries : S → List E) (by : E → ℕ) (mark_of : S �
                 seen = ([], append-nil (entries y));
                 own = ap (λ (z : ℕ). own by z (entries y)) q.source;
                 before = prefix-added by v.number v.before v.seen (entries y) old.before adds;
-                told = prefix-added by v.number v.told v.seen (entries y) old.told adds;
+                heard = prefix-added by v.number v.heard v.seen (entries y) old.heard adds;
                 stage = tt;
               }
               (λ j u ne here. let f = r.each j u here in record {
@@ -337,7 +337,7 @@ module _ {S E : Type 0} (entries : S → List E) (by : E → ℕ) (mark_of : S �
                 seen = prefix-added by v.number u.seen x.log (entries y) f.seen added;
                 own = f.own;
                 before = f.before;
-                told = f.told;
+                heard = f.heard;
                 stage = others-follow x y id j u.seen drew ne u.stage f.stage;
               });
         },

@@ -49,7 +49,7 @@ module _ {S E : Type 0} (entries : S → List E) (by : E → ℕ) (mark_of : S �
     seen = ([], refl);
     own = refl;
     before = ([], refl);
-    told = ([], refl);
+    heard = ([], refl);
     stage = tt;
   }
 
@@ -103,7 +103,7 @@ module _ {S E : Type 0} (entries : S → List E) (by : E → ℕ) (mark_of : S �
         seen = old.seen;
         own = old.own;
         before = old.before;
-        told = old.told;
+        heard = old.heard;
         stage = old.stage;
       } in
       let theirs : Fits by seats x' n (following v) = record {
@@ -119,7 +119,7 @@ module _ {S E : Type 0} (entries : S → List E) (by : E → ℕ) (mark_of : S �
         seen = (x.log, refl);
         own = refl;
         before = ([], refl);
-        told = ([], refl);
+        heard = ([], refl);
         stage = tt;
       } in
       let others : (j : ℕ) (u : V) → j ≢ id → get_elem? s.views j ≡ some u → Fits by seats x' j u =
@@ -137,7 +137,7 @@ module _ {S E : Type 0} (entries : S → List E) (by : E → ℕ) (mark_of : S �
         seen = f.seen;
         own = f.own;
         before = f.before;
-        told = f.told;
+        heard = f.heard;
         stage = f.stage;
       } in
       record {
@@ -168,7 +168,7 @@ module _ {S E : Type 0} (entries : S → List E) (by : E → ℕ) (mark_of : S �
         seen = old.seen;
         own = old.own;
         before = (v.seen, refl);
-        told = (v.seen, refl);
+        heard = (v.seen, refl);
         stage = tt;
       } in
       record {
@@ -221,7 +221,7 @@ module _ {S E : Type 0} (entries : S → List E) (by : E → ℕ) (mark_of : S �
         own = own-between by v.source v.seen z.seen x.log meets.1 begins (old.own ∙ (sym q.mine
             ∙ ap (λ (k : ℕ). own by k x.log) (sym q.source))) ∙ old.own;
         before = meets.1;
-        told = meets.2;
+        heard = meets.2;
         stage = subst (StageFits x id z.seen) (sym rests) tt;
       } in
       let gone : Fits by seats x other spent_view = record {
@@ -229,7 +229,7 @@ module _ {S E : Type 0} (entries : S → List E) (by : E → ℕ) (mark_of : S �
         seen = (x.log, refl);
         own = refl;
         before = ([], refl);
-        told = ([], refl);
+        heard = ([], refl);
         stage = tt;
       } in
       record {
@@ -262,7 +262,7 @@ module _ {S E : Type 0} (entries : S → List E) (by : E → ℕ) (mark_of : S �
     (
       refl,
       old.before,
-      old.told,
+      old.heard,
       old.own,
       λ p. numbered-front by me.0.mark me.0.seen r.x.log old.seen
           (subst (λ (k : ℕ). AreOfCallers by k r.x.log) (sym (old.sits p).mark) r.numbered),

@@ -45,7 +45,7 @@ pub record Fits {E : Type 0} (by : E → ℕ) (seats : ℕ) (x : Round E) (i : �
   pub seen : IsPrefix v.seen x.log
   pub own : own by v.source v.seen ≡ v.mine
   pub before : IsPrefix v.before v.seen
-  pub told : IsPrefix v.told v.seen
+  pub heard : IsPrefix v.heard v.seen
   pub stage : StageFits x i v.seen v.stage
 
 -- the rule

@@ -5,7 +5,7 @@
 --   look           a load of the word of tickets served; at its turn the seat sees all entries
 --   out, home      the two exchanges of the slot, which change no view
 --   pass on        one fetch_add on the word of tickets served; a call takes effect here
---   told           a seat is split off, which passes on what another one knows
+--   split          a seat is split off, which passes on what another one knows
 --   join           of two seats, after which the second knows nothing
 --   learn          a load of the word of tickets served: what was heard begins the same list
 use Rattle.std.specs.Prelude.{◌≡◌, ◌≢◌, ℕ, ◌+◌, ◌-◌, ◌*◌, ◌<◌, List, [], ◌∷◌, Option, Some}
@@ -35,7 +35,7 @@ module _ {E : Type 0} where
     seen = seen;
     mine = mine;
     before = [];
-    told = [];
+    heard = [];
     stage = Resting;
   }
 
@@ -61,7 +61,7 @@ module _ {E : Type 0} where
 
   -- v, after it has heard what w knows
   abbrev pub hearing : View E → View E → View E
-  hearing v w = record v { seen = longer v.seen w.seen; before = v.seen; told = w.seen }
+  hearing v w = record v { seen = longer v.seen w.seen; before = v.seen; heard = w.seen }
 
   -- a seat that knows nothing
   abbrev pub spent_view : View E
@@ -100,5 +100,5 @@ module _ {S E : Type 0} (entries : S → List E) (by : E → ℕ) where
 module _ {S E : Type 0} (by : E → ℕ) where
   -- what was seen and what was heard both begin what is seen
   abbrev pub Learns : Step (Option S) → SeatState S E → ℕ → SeatState S E → Type 0
-  Learns st m n m' = (m' ≡ m) × IsPrefix m.0.before m.0.seen × IsPrefix m.0.told m.0.seen
+  Learns st m n m' = (m' ≡ m) × IsPrefix m.0.before m.0.seen × IsPrefix m.0.heard m.0.seen
       × (own by m.0.source m.0.seen ≡ m.0.mine) × (0 < m.0.number → AreOfCallers by m.0.mark m.0.seen)

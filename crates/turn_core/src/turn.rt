@@ -46,7 +46,8 @@ impl<S: Kept> Turn<S> {
         requires empty { S.entries state ≡ [] }
         requires mark { S.mark state ≡ seats }
         ensures count { IfOk result (λ made. vec_len made.1 ≡ seats) }
-        ensures each { IfOk result (λ made. (i : ℕ) (seat : _) → slice_get made.1.items i ≡ Some seat
+        ensures each { IfOk result (λ made. (i : ℕ) (seat : _) → slice_get made.1.items i
+            ≡ Some seat
             → IsSeatOf made.0 seat × (view_of seat ≡ fresh (i + 1) seats)) }
     {
         let mut list = Vec::with_capacity(alloc, seats as usize)?;
@@ -91,7 +92,8 @@ impl<S: Kept> Turn<S> {
         ensures turn { IsSeatOf self.now seat.new }
         ensures same { IsSameCaller (view_of seat.old) (view_of seat.new) }
         ensures left { (view_of seat.new).left + 1 ≡ (view_of seat.old).left }
-        ensures ran { Ran S.entries S.by S.mark F.FnOnce f (view_of seat.old) result (view_of seat.new) }
+        ensures ran { Ran S.entries S.by S.mark F.FnOnce f (view_of seat.old) result
+            (view_of seat.new) }
     {
         let ticket = self.draw(&mut seat.seat);
         let mut state = self.take(rt, &mut seat.seat, ticket);
@@ -105,12 +107,12 @@ impl<S: Kept> Turn<S> {
         requires turn { IsSeatOf self.now seat.old }
         ensures turn { IsSeatOf self.now seat.new × IsSeatOf self.now result }
         ensures same { view_of seat.new ≡ view_of seat.old }
-        ensures told { view_of result ≡ telling (view_of seat.old) }
+        ensures passed { view_of result ≡ telling (view_of seat.old) }
     {
-        let told = self.table.shared.split_seat::<Tell>(&mut seat.seat);
+        let other = self.table.shared.split_seat::<Tell>(&mut seat.seat);
         Seat {
             number: 0,
-            seat: told,
+            seat: other,
         }
     }
 
@@ -124,15 +126,15 @@ impl<S: Kept> Turn<S> {
         ensures left { (view_of seat.new).left ≡ (view_of seat.old).left }
         ensures mine { (view_of seat.new).mine ≡ (view_of seat.old).mine }
         ensures before { IsPrefix (view_of seat.old).seen (view_of seat.new).seen }
-        ensures told { IsPrefix (view_of other).seen (view_of seat.new).seen }
+        ensures heard { IsPrefix (view_of other).seen (view_of seat.new).seen }
         ensures one { ((view_of seat.new).seen ≡ (view_of seat.old).seen)
             ⊎ ((view_of seat.new).seen ≡ (view_of other).seen) }
     {
         let Seat {
             number: _,
-            seat: told,
+            seat: heard,
         } = other;
-        self.table.shared.join_seat::<Hear>(&mut seat.seat, told);
+        self.table.shared.join_seat::<Hear>(&mut seat.seat, heard);
         self.table.shared.load::<Learn>(&mut seat.seat, SERVING);
     }
 
@@ -142,7 +144,8 @@ impl<S: Kept> Turn<S> {
         requires left { 0 < seat.old.me.0.left }
         ensures turn { (seat.new.table_id ≡ seat.old.table_id) × (seat.new.id ≡ seat.old.id) }
         ensures drew { (seat.new.me.1 ≡ seat.old.me.1)
-            × (seat.new.me.0 ≡ record seat.old.me.0 { left = seat.old.me.0.left - 1; stage = Waiting result }) }
+            × (seat.new.me.0 ≡ record seat.old.me.0
+            { left = seat.old.me.0.left - 1; stage = Waiting result }) }
     {
         self.table.shared.fetch_add::<Draw>(seat, TICKET, 1)
     }
@@ -155,7 +158,8 @@ impl<S: Kept> Turn<S> {
         requires empty { seat.old.me.1 ≡ [] }
         ensures turn { (seat.new.table_id ≡ seat.old.table_id) × (seat.new.id ≡ seat.old.id) }
         ensures slot { seat.new.me.1 ≡ (0, None) ∷ [] }
-        ensures view { seat.new.me.0 ≡ record seat.old.me.0 { seen = S.entries result; stage = Serving ticket } }
+        ensures view { seat.new.me.0
+            ≡ record seat.old.me.0 { seen = S.entries result; stage = Serving ticket } }
         ensures lent { Lent S.entries S.by S.mark seat.old.me.0 result }
     {
         for _ in rt.forever() {

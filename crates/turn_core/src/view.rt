@@ -31,7 +31,7 @@ pub struct View<E> {
     /// What it had seen before the last join.
     pub before: LinkedList<E>,
     /// What it heard at the last join.
-    pub told: LinkedList<E>,
+    pub heard: LinkedList<E>,
     /// How far its call has come.
     pub stage: Stage,
 }

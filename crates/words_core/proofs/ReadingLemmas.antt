@@ -14,7 +14,7 @@ use Rattle.clap.proofs.WalkLemmas.{first_value-rows}
 use Rattle.clap.specs.Simple.{matches_of}
 use Rattle.clap.specs.declared.error.kind.ErrorKind.TheVariants as kind
 use Rattle.clap.proofs.OnLiterals.{clap_on_literals}
-use Rattle.words_core.specs.Words.{AsksFor, IsPlainWord, IsToldBy, IsWorkers, TellsWorkers, program_app}
+use Rattle.words_core.specs.Words.{AsksFor, IsNamedBy, IsPlainWord, IsWorkers, NamesWorkers, program_app}
 use Rattle.words_core.specs.declared.words.Words.{Words}
 use Rattle.words_core.specs.declared.words.Words.TheVariants.{Run, Help}
 use Rattle.words_core.specs.declared.refused.WordsRefused.{WordsRefused}
@@ -82,8 +82,8 @@ digits-without_leading_plus (c ∷ rest) digits =
     omega arith) in
     ap (λ (b : Bool). drop (cond b 1 0) (c ∷ rest)) other
 
-pub decimal-TellsWorkers : (n : ℕ) → IsWorkers n → TellsWorkers (decimal n) n
-decimal-TellsWorkers n workers =
+pub decimal-NamesWorkers : (n : ℕ) → IsWorkers n → NamesWorkers (decimal n) n
+decimal-NamesWorkers n workers =
     let (numeral, value) = decimal_is_IsNumeral n (omega arith) in
     subst (λ (ds : Text). IsNumeral 10 ds × (digits_value 10 ds ≡ n) × IsWorkers n)
     (sym (digits-without_leading_plus (decimal n) numeral.1)) (numeral, value, workers)
@@ -156,10 +156,10 @@ help-AsksFor (Err e) words k only among = search rules
 
 pub run-AsksFor : (result : Result Words WordsRefused) (words : List Text) (text : Text)
     → fault_of program_app words ≡ [] → first_of (codes "workers") (matches_of program_app words) ≡ Some text
-    → IfOk result (IsToldBy text) → IfOk result (AsksFor words)
-run-AsksFor (Ok (Run n)) words text none value told = (none, text, value, told)
-run-AsksFor (Ok Help) words text none value told = absurd told
-run-AsksFor (Err e) words text none value told = search rules
+    → IfOk result (IsNamedBy text) → IfOk result (AsksFor words)
+run-AsksFor (Ok (Run n)) words text none value named = (none, text, value, named)
+run-AsksFor (Ok Help) words text none value named = absurd named
+run-AsksFor (Err e) words text none value named = search rules
 
 none_among : (words : List Text) → fault_of program_app words ≡ []
     → IsAmong kind.DisplayHelp (fault_of program_app words) → ⊥
@@ -167,11 +167,11 @@ none_among words none help = subst (λ (ks : Kinds). IsAmong kind.DisplayHelp ks
 
 -- words ask for one thing at most
 pub AsksFor-unique : (words : List Text) (one other : Words) → AsksFor words one → AsksFor words other → one ≡ other
-AsksFor-unique words (Run n) (Run m) (none, text, value, tells) (none_too, other, value_too, tells_too) =
+AsksFor-unique words (Run n) (Run m) (none, text, value, names) (none_too, other, value_too, names_too) =
     let same : text ≡ other = same_Some text other (sym value ∙ value_too) in
     let number : digits_value 10 (without_leading_plus other) ≡ n =
-    ap (λ (t : Text). digits_value 10 (without_leading_plus t)) (sym same) ∙ tells.1 in
-    ap (λ (k : ℕ). Run k) (sym number ∙ tells_too.1)
+    ap (λ (t : Text). digits_value 10 (without_leading_plus t)) (sym same) ∙ names.1 in
+    ap (λ (k : ℕ). Run k) (sym number ∙ names_too.1)
 AsksFor-unique words (Run n) Help asked help = absurd (none_among words asked.0 help)
 AsksFor-unique words Help (Run n) help asked = absurd (none_among words asked.0 help)
 AsksFor-unique words Help Help one other = refl

@@ -23,8 +23,8 @@ IsRunnable (Run n) = IsWorkers n
 IsRunnable Help = Unit {0}
 
 -- the text is digits, with or without a plus before them, and gives a number of workers that may be asked for
-abbrev pub TellsWorkers : List ℕ → ℕ → Type 0
-TellsWorkers text n =
+abbrev pub NamesWorkers : List ℕ → ℕ → Type 0
+NamesWorkers text n =
     IsNumeral 10 (without_leading_plus text) × (digits_value 10 (without_leading_plus text) ≡ n) × IsWorkers n
 
 -- the word doesn't begin with a hyphen
@@ -33,9 +33,9 @@ IsPlainWord [] = Unit {0}
 IsPlainWord (c ∷ rest) = c ≢ 45
 
 -- a run with as many workers as the text gives
-abbrev pub IsToldBy : List ℕ → Words → Type 0
-IsToldBy text (Run n) = TellsWorkers text n
-IsToldBy text Help = ⊥
+abbrev pub IsNamedBy : List ℕ → Words → Type 0
+IsNamedBy text (Run n) = NamesWorkers text n
+IsNamedBy text Help = ⊥
 
 -- the result is what is meant, unless memory is missed
 abbrev pub IsAnswerOfWords : Result Words WordsRefused → Result Words WordsRefused → Type 0
@@ -53,5 +53,5 @@ program_app = with_rule (new_app (codes "dipq")) workers_rule
 -- text gives that it takes for their number; for the help page where it finds a call for help
 abbrev pub AsksFor : List Text → Words → Type 0
 AsksFor words (Run n) = (fault_of program_app words ≡ [])
-    × (text : Text) × (first_of (codes "workers") (matches_of program_app words) ≡ Some text) × TellsWorkers text n
+    × (text : Text) × (first_of (codes "workers") (matches_of program_app words) ≡ Some text) × NamesWorkers text n
 AsksFor words Help = IsAmong DisplayHelp (fault_of program_app words)

@@ -6,5 +6,6 @@ use crate::Words;
 
 /// Words ask for one thing at most.
 pub fn words_ask_for_one_thing()
-    ensures { (words : List (List ℕ)) (one other : Words) → AsksFor words one → AsksFor words other → one ≡ other }
+    ensures { (words : List (List ℕ)) (one other : Words) → AsksFor words one → AsksFor words other
+        → one ≡ other }
 {}

@@ -2,8 +2,8 @@
 ghost use Rattle.std.specs.Prelude.{◌≡◌, ℕ, List, [], ◌∷◌, map, codes, IfOk, Ok, Err};
 ghost use Rattle.std.specs.Fmt.{decimal};
 ghost use Rattle.clap.specs.Words.{app_of};
-ghost use Rattle.words_core.specs.Words.{AsksFor, IsAnswerOfWords, IsRunnable, IsToldBy, IsPlainWord, IsWorkers};
-ghost use Rattle.words_core.specs.Words.{TellsWorkers, default_workers, program_app};
+ghost use Rattle.words_core.specs.Words.{AsksFor, IsAnswerOfWords, IsNamedBy, IsPlainWord, IsRunnable, IsWorkers};
+ghost use Rattle.words_core.specs.Words.{NamesWorkers, default_workers, program_app};
 
 use crate::WordsRefused;
 use clap::error::ErrorKind;
@@ -36,9 +36,9 @@ fn command<'a>(alloc: Global) -> Result<Command<'a>, AllocError>
 /// A run with as many workers as the text gives.
 fn run_with(text: &str) -> Result<Words, WordsRefused>
     ensures bounded { IfOk result IsRunnable }
-    ensures told { (n : ℕ) → TellsWorkers text.now n → result ≡ Ok (Words.Run n) }
-    ensures only { IfOk result (IsToldBy text.now) }
-    ensures untold { ((n : ℕ) → TellsWorkers text.now n → ⊥) → result ≡ Err WordsRefused.Usage }
+    ensures named { (n : ℕ) → NamesWorkers text.now n → result ≡ Ok (Words.Run n) }
+    ensures only { IfOk result (IsNamedBy text.now) }
+    ensures unnamed { ((n : ℕ) → NamesWorkers text.now n → ⊥) → result ≡ Err WordsRefused.Usage }
 {
     match text.parse::<u32>() {
         Ok(n) if n >= 1 && n <= WORKER_LIMIT => Ok(Words::Run(n)),
@@ -76,13 +76,15 @@ pub fn read_words(alloc: Global, words: &[&str]) -> Result<Words, WordsRefused>
     ensures workers { (name : List ℕ) (n : ℕ) → IsWorkers n
         → map (λ word. word.now) words.entry.now ≡ name ∷ codes "--workers" ∷ decimal n ∷ []
         → IsAnswerOfWords (Ok (Words.Run n)) result }
-    ensures wrong_number { (name text : List ℕ) → IsPlainWord text → ((n : ℕ) → TellsWorkers text n → ⊥)
+    ensures wrong_number { (name text : List ℕ) → IsPlainWord text
+        → ((n : ℕ) → NamesWorkers text n → ⊥)
         → map (λ word. word.now) words.entry.now ≡ name ∷ codes "--workers" ∷ text ∷ []
         → IsAnswerOfWords (Err WordsRefused.Usage) result }
     ensures stray { (name word : List ℕ) → IsPlainWord word
         → map (λ word. word.now) words.entry.now ≡ name ∷ word ∷ []
         → IsAnswerOfWords (Err WordsRefused.Usage) result }
-    ensures help { (name : List ℕ) → map (λ word. word.now) words.entry.now ≡ name ∷ codes "--help" ∷ []
+    ensures help { (name : List ℕ) → map (λ word. word.now) words.entry.now ≡ name ∷ codes "--help"
+        ∷ []
         → IsAnswerOfWords (Ok Words.Help) result }
 {
     let command = command(alloc)?;

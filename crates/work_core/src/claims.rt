@@ -58,7 +58,8 @@ impl Model for Claims {
 
     ghost view = { λ c. c.table.shared.table_id };
 
-    ghost invariant = { λ c. (c.table.shared.table_id.words ≡ 1) × (c.table.shared.table_id.slots ≡ 0) };
+    ghost invariant = { λ c. (c.table.shared.table_id.words ≡ 1)
+        × (c.table.shared.table_id.slots ≡ 0) };
 }
 
 impl Claims {
@@ -75,7 +76,8 @@ impl Claims {
         requires table { seat.old.table_id ≡ self.now }
         requires part { 1 < seat.old.me.0.parts }
         requires room { draw_limit ≤ seat.old.me.0.room }
-        ensures table { (seat.new.table_id ≡ seat.old.table_id) × (result.table_id ≡ seat.old.table_id) }
+        ensures table { (seat.new.table_id ≡ seat.old.table_id)
+            × (result.table_id ≡ seat.old.table_id) }
         ensures left { seat.new.me ≡ (view_left seat.old.me.0, seat.old.me.1) }
         ensures given { result.me ≡ (view_given seat.old.me.0, []) }
     {

@@ -69,8 +69,10 @@ impl<'j, W: PairWork> Collector<'j, W> {
     /// Puts the piece's value at its pair's place: of this job, or of another that has the pair with equal
     /// inputs. A refused piece is handed back.
     pub fn accept(&mut self, piece: Piece<'j, W>) -> Result<(), Refused<'j, W>>
-        ensures shares { OnOk result (Shares W.PairWork self.old.job piece.entry.job.now piece.entry.name) }
-        ensures fills { OnOk result (Fills W.PairWork piece.entry.name piece.entry.out self.old self.new) }
+        ensures shares { OnOk result
+            (Shares W.PairWork self.old.job piece.entry.job.now piece.entry.name) }
+        ensures fills { OnOk result
+            (Fills W.PairWork piece.entry.name piece.entry.out self.old self.new) }
         ensures stranger { IfErr result (λ r. r.why ≡ Why.Stranger
             → ¬ Shares W.PairWork self.old.job piece.entry.job.now piece.entry.name) }
         ensures double { IfErr result (λ r. r.why ≡ Why.Double

@@ -51,7 +51,8 @@ pub trait PairWork: Sync {
 
     /// Whether both jobs have the pair, with equal inputs.
     fn same(&self, other: &Self, pair: PairName) -> bool
-        ensures { IsTrue result ↔ (IsSome (place_of self.now pair) × IsSome (place_of other.now pair)
+        ensures { IsTrue result
+            ↔ (IsSome (place_of self.now pair) × IsSome (place_of other.now pair)
             × (inputs_of self.now pair ≡ inputs_of other.now pair)) };
 
     ghost few: { (w : Self) → pairs w ≤ pair_limit };
@@ -59,7 +60,8 @@ pub trait PairWork: Sync {
     // Names and numbers go with one another, both ways.
     ghost placed: { (w : Self) (i : ℕ) → i < pairs w → place_of w (name_of w i) ≡ Some i };
 
-    ghost named: { (w : Self) (p : PairName) (i : ℕ) → place_of w p ≡ Some i → (i < pairs w) × (name_of w i ≡ p) };
+    ghost named: { (w : Self) (p : PairName) (i : ℕ) → place_of w p ≡ Some i → (i < pairs w)
+        × (name_of w i ≡ p) };
 
     ghost value_prop: { (x : Inputs) (o : Self.Out) → IsProp (IsValue x o) };
 }

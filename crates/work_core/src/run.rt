@@ -64,7 +64,8 @@ fn place_all<W: PairWork>(job: &W, places: &mut Vec<Option<W::Out>>, values: Vec
     requires values { All (IsOfItsPair W.PairWork job.now) values.items }
     ensures are { ArePlaces W.PairWork job.now places.new.items }
     ensures each { (x : ℕ) → x < W.pairs job.now
-        → 0 < count_at places.old.items x + times x (numbers_of values.items) → 0 < count_at places.new.items x }
+        → 0 < count_at places.old.items x + times x (numbers_of values.items)
+        → 0 < count_at places.new.items x }
 {
     for numbered in values {
         let Numbered { number, value } = numbered;
@@ -145,7 +146,8 @@ pub fn run_pairs<R: Threads + Sync, W: PairWork, G: Gate>(
         team,
         &|worker: Worker<W::Out>| -> WorkerAnswer<W::Out>
             requires { IsFreshWorker claims worker }
-            ensures { IsWorkerAnswer W.PairWork job.entry.now claims (length worker.kept.places.items) result }
+            ensures { IsWorkerAnswer W.PairWork job.entry.now claims
+                (length worker.kept.places.items) result }
         { work(alloc, job, gate, &claims, worker) },
     )?;
     Ok(Outs::at_places(gather(job, claims, seat, answers)?))

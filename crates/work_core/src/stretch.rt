@@ -33,7 +33,8 @@ impl<'a, W: PairWork> Stretch<'a, W> {
     /// The `count` pairs of the job from number `first` on.
     pub fn new(job: &'a W, first: u64, count: u64) -> Stretch<'a, W>
         requires { first + count ≤ W.pairs job.now }
-        ensures { (result.job.now ≡ job.entry.now) × (result.first ≡ first) × (result.count ≡ count) }
+        ensures { (result.job.now ≡ job.entry.now) × (result.first ≡ first)
+            × (result.count ≡ count) }
     {
         Stretch { job, first, count }
     }
@@ -64,9 +65,11 @@ impl<'a, W: PairWork> PairWork for Stretch<'a, W> {
 
     ghost placed = { λ s i h. number_within-at s.first s.count i
         (W.place_of s.job.now (W.name_of s.job.now (s.first + i))) h
-        (W.placed s.job.now (s.first + i) (stretch-inside s.first s.count i (W.pairs s.job.now) h s.inside)) };
+        (W.placed s.job.now (s.first + i)
+        (stretch-inside s.first s.count i (W.pairs s.job.now) h s.inside)) };
 
-    ghost named = { λ s p i e. let found = number_within-is s.first s.count i (W.place_of s.job.now p) e in
+    ghost named = { λ s p i e. let found = number_within-is s.first s.count i
+        (W.place_of s.job.now p) e in
         (found.0, (W.named s.job.now p (s.first + i) found.1).1) };
 
     ghost value_prop = { λ x o. W.value_prop x o };

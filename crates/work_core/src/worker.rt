@@ -69,7 +69,8 @@ pub(crate) fn work<W: PairWork, G: Gate>(
     worker: Worker<W::Out>,
 ) -> WorkerAnswer<W::Out>
     requires { IsFreshWorker claims.now worker }
-    ensures { IsWorkerAnswer W.PairWork job.now claims.now (length worker.kept.places.items) result }
+    ensures { IsWorkerAnswer W.PairWork job.now claims.now
+        (length worker.kept.places.items) result }
 {
     let Worker { mut seat, kept } = worker;
     let count = job.count();

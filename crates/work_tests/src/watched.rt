@@ -83,7 +83,8 @@ impl<'a> PairWork for Watched<'a> {
 
     ghost place_of = { λ w p. grid_place (length w.sums.left.now) (length w.sums.right.now) p };
 
-    ghost inputs_of = { λ w p. (slice_index w.sums.left.now p.left, slice_index w.sums.right.now p.right) };
+    ghost inputs_of = { λ w p.
+        (slice_index w.sums.left.now p.left, slice_index w.sums.right.now p.right) };
 
     ghost IsValue = { λ x out. out ≡ x.0 + x.1 };
 
@@ -91,7 +92,8 @@ impl<'a> PairWork for Watched<'a> {
 
     ghost placed = { λ w i h. grid_placed (length w.sums.left.now) (length w.sums.right.now) i h };
 
-    ghost named = { λ w p i e. grid_named (length w.sums.left.now) (length w.sums.right.now) p i e };
+    ghost named = { λ w p i e. grid_named (length w.sums.left.now)
+        (length w.sums.right.now) p i e };
 
     ghost value_prop = { λ x o. equal_prop o (x.0 + x.1) };
 

@@ -22,7 +22,7 @@ loop-row-preserved g c =
     let whole = ap length c.rows.ensures in
     let inside : i < length rows = omega (arith, test, counted, whole) in
     let at : row ≡ get_or rows i row = get_or_default rows i no_row row inside in
-    let told : c.has_key.result ≡ in_range value_of range (value_at_place (Some place) row) =
+    let known : c.has_key.result ≡ in_range value_of range (value_at_place (Some place) row) =
     c.has_key.ensures ∙ ap (in_range value_of range) (sym c.key_at-key.ensures) in
     let Next = λ (v : Vec (Entry g.row.K.Denot) Global). AreEntries value_of rows place
     (rows_in_range value_of (value_at_place (Some place)) range (take (i + 1) rows)) v.items in
@@ -30,13 +30,13 @@ loop-row-preserved g c =
       | then-has_key+in_ok-push w ↦
           subst Next (sym w.entries-is)
           (entry_more value_of rows place range rows i row c.loop-row.entries.items _ _ inside at
-          (sym told ∙ w.if-has_key.true) w.in_ok-push.ensures.items
+          (sym known ∙ w.if-has_key.true) w.in_ok-push.ensures.items
           (record { row_is = slice_get-get_or rows i no_row inside; value_is = c.key_at-key.ensures })
           c.loop-row.invariant)
       | else-has_key w ↦
           subst Next (sym w.entries-is)
           (entry_same value_of rows place range rows i row c.loop-row.entries.items inside at
-          (sym told ∙ w.if-has_key.false) c.loop-row.invariant)
+          (sym known ∙ w.if-has_key.false) c.loop-row.invariant)
     ]
 
 pub returns : goal.returns

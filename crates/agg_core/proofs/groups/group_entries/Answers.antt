@@ -32,14 +32,14 @@ enter_group-requires-clause-there g c =
     let place = g.S.GroupColumn.place c.args.column in
     let entry = c.entry-item.result in
     let row = lent_row c.at-row.result in
-    let told : value_at_place (Some place) (entry_row source entry) ≡ Some (g.S.GroupColumn.value_of entry.key) =
+    let known : value_at_place (Some place) (entry_row source entry) ≡ Some (g.S.GroupColumn.value_of entry.key) =
     subst
     (λ (e : Entry g.row.K.Denot).
     value_at_place (Some place) (entry_row source e) ≡ Some (g.S.GroupColumn.value_of e.key))
     (sym c.entry-item.is) (c.requires.grouped c.loop-entry.entry-index entry c.loop-entry-test.true) in
     subst (λ p. value_at_place (Some p) row ≡ Some (lent_value c.value.result)) (sym c.place.ensures)
     (ap (value_at_place (Some place)) (sym (row_is source c.rows.result.now entry row c.rows.ensures c.at-row.ensures))
-    ∙ told ∙ ap Some (sym c.value.ensures))
+    ∙ known ∙ ap Some (sym c.value.ensures))
 
 pub enter_group-requires-clause-upto : goal.enter_group-requires-clause-upto
 enter_group-requires-clause-upto g c =

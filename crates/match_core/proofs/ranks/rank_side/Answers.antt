@@ -23,7 +23,7 @@ returns g c =
     let kept = written_back old new c.in_ok-ranks.ranks.len len (sym c.in_ok-ranks.ranks.ok.0) in
     let count : length new ≡ length column =
     len ∙ sym c.in_ok-ranks.ranks.ok.0 ∙ c.in_ok-ranks.ensures.len ∙ c.len.ensures in
-    let told : AreRanksOf cmp cells new firsts =
+    let known : AreRanksOf cmp cells new firsts =
     subst (λ (l : List (Vec (Cell g.row.V.Denot))). AreRanksOf cmp (all_in l) new firsts) c.deref.ensures.value
     c.in_ok-firsts.ensures.ranks in
     let sides = g.met.S.Classed g.world.𝓛 g.world.𝓜 g.world.𝓡 ((λ s x. x), (λ x. x), (λ x. x), λ x. x) in
@@ -32,7 +32,7 @@ returns g c =
     let len : length new ≡ length classes = omega (arith, count, counted) in
     record {
       ranked = subst (λ l. AreRanked cmp IsOf classes column l firsts) (sym kept)
-          (ranked_from cmp IsOf classes column cells firsts new count c.in_ok-lists.ensures told
+          (ranked_from cmp IsOf classes column cells firsts new count c.in_ok-lists.ensures known
           c.in_ok-firsts.ensures.rise);
       placed = places_ranked cmp IsOf classes column cells ranks _ c.in_ok-places.places.items c.in_ok-lists.ensures
           c.deref-3.ensures.value (ap length kept ∙ len)

@@ -114,9 +114,9 @@ returns-clause-right_places g c =
     let number = numbered_by numbers in
     let lent = c.deref_mut.ensures.value in
     let count : length new ≡ length ranks = c.number_rows.auto.ranks ∙ ap length lent in
-    let told : AreNumbered ranks numbers new =
+    let known : AreNumbered ranks numbers new =
     subst (λ (l : List ℕ). AreNumbered l numbers new) lent c.number_rows.ensures in
-    let all : map number (placed_from 0 ranks) ≡ placed_from 0 new = placed_from-numbered numbers 0 ranks new count told in
+    let all : map number (placed_from 0 ranks) ≡ placed_from 0 new = placed_from-numbered numbers 0 ranks new count known in
     let same : made ≡ map number places =
     c.in_ok-right_places.ensures
     ∙ ap (λ (l : List ClassedPlace). map (numbered_by c.deref-4.result.now) l) c.deref-3.ensures.value

@@ -13,5 +13,5 @@ returns c = λ k d lt.
     let low : (get_or rows 0 row).id ≤ (get_or rows k d).id =
     first_low rows k row d c.requires (omega (arith, lt)) (sym here) lt in
     let same = ap (λ (r : Row). r.id) here in
-    let told = c.id.ensures in
-    omega (arith, low, same, told)
+    let known = c.id.ensures in
+    omega (arith, low, same, known)

@@ -5,8 +5,8 @@ use Rattle.std.proofs.lemmas.Option.{none-some, same_Some}
 use Rattle.clap.specs.Words.{IsAmong, app_of, fault_of, first_value, found_of, takes}
 use Rattle.clap.specs.declared.error.kind.ErrorKind.{ErrorKind}
 use Rattle.clap.specs.declared.error.kind.ErrorKind.TheVariants as kind
-use Rattle.words_core.specs.Words.{TellsWorkers, program_app}
-use Rattle.words_core.proofs.ReadingLemmas.{decimal-TellsWorkers, no_faults-error, alone-value, alone-taken, decimal-IsPlainWord, help-asked, plain-unknown, plain-met, error-kind, error-kinds, faults, help-AsksFor, known_faults, known_value, no_faults, no_parse, run-AsksFor, value-matches}
+use Rattle.words_core.specs.Words.{NamesWorkers, program_app}
+use Rattle.words_core.proofs.ReadingLemmas.{decimal-NamesWorkers, no_faults-error, alone-value, alone-taken, decimal-IsPlainWord, help-asked, plain-unknown, plain-met, error-kind, error-kinds, faults, help-AsksFor, known_faults, known_value, no_faults, no_parse, run-AsksFor, value-matches}
 use Rattle.words_core.proofs.words.read_words.Goals as goal
 
 pub returns-in-Err-clause-asked : goal.returns-in-Err-clause-asked
@@ -33,7 +33,7 @@ returns-in-Some-clause-asked c =
 
 pub returns-in-Err-clause-granted : goal.returns-in-Err-clause-granted
 returns-in-Err-clause-granted c = λ n asked.
-    let (none, text, value, tells) = asked in
+    let (none, text, value, names) = asked in
     let words = map (λ word. word.now) c.args.words.now in
     let fails = faults c.try_get_matches_from.result (app_of c.in_ok-command.command) words
     c.in_ok-command.ensures c.try_get_matches_from.ensures.kinds in
@@ -42,16 +42,16 @@ returns-in-Err-clause-granted c = λ n asked.
 
 pub returns-in-Some-clause-granted : goal.returns-in-Some-clause-granted
 returns-in-Some-clause-granted c = λ n asked.
-    let (none, text, value, tells) = asked in
+    let (none, text, value, names) = asked in
     let words = map (λ word. word.now) c.args.words.now in
     let matched = value-matches c.in-Ok.matches (app_of c.in_ok-command.command) words
     c.in_ok-command.ensures c.in-Ok.ensures.matches in
     let same : c.in-Some.text.now ≡ text = same_Some c.in-Some.text.now text (c.in-Some.ensures ∙ matched ∙ value) in
-    inl (c.run_with.ensures.told n (subst (λ (t : List ℕ). TellsWorkers t n) (sym same) tells))
+    inl (c.run_with.ensures.named n (subst (λ (t : List ℕ). NamesWorkers t n) (sym same) names))
 
 pub returns-clause-granted : goal.returns-clause-granted
 returns-clause-granted c = λ n asked.
-    let (none, text, value, tells) = asked in
+    let (none, text, value, names) = asked in
     let words = map (λ word. word.now) c.args.words.now in
     let matched = value-matches c.in-Ok.matches (app_of c.in_ok-command.command) words
     c.in_ok-command.ensures c.in-Ok.ensures.matches in
@@ -69,7 +69,7 @@ returns-in-Err-clause-workers c = λ name n workers is.
     ∙ (plain-met name (decimal n) (decimal-IsPlainWord n (omega arith))).1)))
 
 pub returns-in-Err-clause-wrong_number : goal.returns-in-Err-clause-wrong_number
-returns-in-Err-clause-wrong_number c = λ name text value untold is.
+returns-in-Err-clause-wrong_number c = λ name text value unnamed is.
     inr (c.unmatched.ensures.memory (c.kind.ensures
     ∙ c.in-Err.ensures.passes (ap₂ takes c.in_ok-command.ensures is ∙ (plain-met name text value).1)))
 
@@ -99,8 +99,8 @@ returns-in-Some-clause-alone c = λ name is.
     let digit : decimal 4 ≡ codes "4" = decimal_digit 4 (omega arith) in
     let same : c.in-Some.text.now ≡ decimal 4 =
     same_Some c.in-Some.text.now (codes "4") (c.in-Some.ensures ∙ value) ∙ sym digit in
-    inl (c.run_with.ensures.told 4 (subst (λ (t : List ℕ). TellsWorkers t 4) (sym same)
-    (decimal-TellsWorkers 4 (omega arith, omega arith))))
+    inl (c.run_with.ensures.named 4 (subst (λ (t : List ℕ). NamesWorkers t 4) (sym same)
+    (decimal-NamesWorkers 4 (omega arith, omega arith))))
 
 pub returns-in-Some-clause-workers : goal.returns-in-Some-clause-workers
 returns-in-Some-clause-workers c = λ name n workers is.
@@ -110,16 +110,16 @@ returns-in-Some-clause-workers c = λ name n workers is.
     (plain-met name (decimal n) (decimal-IsPlainWord n (omega arith))).0 in
     let same : c.in-Some.text.now ≡ decimal n =
     same_Some c.in-Some.text.now (decimal n) (c.in-Some.ensures ∙ value) in
-    inl (c.run_with.ensures.told n (subst (λ (t : List ℕ). TellsWorkers t n) (sym same)
-    (decimal-TellsWorkers n workers)))
+    inl (c.run_with.ensures.named n (subst (λ (t : List ℕ). NamesWorkers t n) (sym same)
+    (decimal-NamesWorkers n workers)))
 
 pub returns-in-Some-clause-wrong_number : goal.returns-in-Some-clause-wrong_number
-returns-in-Some-clause-wrong_number c = λ name text plain untold is.
+returns-in-Some-clause-wrong_number c = λ name text plain unnamed is.
     let value : first_value (found_of c.in-Ok.matches) (codes "workers") ≡ Some text =
     known_value c.in-Ok.matches (app_of c.in_ok-command.command) _ _ text
     c.in_ok-command.ensures is c.in-Ok.ensures.matches (plain-met name text plain).0 in
     let same : c.in-Some.text.now ≡ text = same_Some c.in-Some.text.now text (c.in-Some.ensures ∙ value) in
-    inl (c.run_with.ensures.untold (λ n tells. untold n (subst (λ (t : List ℕ). TellsWorkers t n) same tells)))
+    inl (c.run_with.ensures.unnamed (λ n names. unnamed n (subst (λ (t : List ℕ). NamesWorkers t n) same names)))
 
 pub returns-in-Some-clause-stray : goal.returns-in-Some-clause-stray
 returns-in-Some-clause-stray c = λ name word value is.

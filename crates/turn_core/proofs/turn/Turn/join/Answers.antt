@@ -43,5 +43,5 @@ pub returns-clause-one : goal.returns-clause-one
 returns-clause-one g c =
     let learned = c.load.ensures.2 in
     let seen = ap (λ m. m.0.seen) (learned.0 ∙ c.join_seat.ensures.2) in
-    let told = subst (λ m. IsPrefix m.0.told m.0.seen) c.join_seat.ensures.2 learned.2 in
-    ⊎_elim (λ h. inl (seen ∙ h)) (λ h. inr (seen ∙ h)) (longer-one _ _ told)
+    let heard = subst (λ m. IsPrefix m.0.heard m.0.seen) c.join_seat.ensures.2 learned.2 in
+    ⊎_elim (λ h. inl (seen ∙ h)) (λ h. inr (seen ∙ h)) (longer-one _ _ heard)
