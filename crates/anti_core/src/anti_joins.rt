@@ -62,7 +62,7 @@ fn anti_rows<R: Threads + Sync, G: Gate>(
         left: ones,
         right: others,
         ..
-    } = classes_of(crew.rt, crew.alloc, left, right, on, crew.workers)?;
+    } = classes_of(crew, left, right, on)?;
     let lefts = ClassedRows {
         rows: left.rows,
         classes: &ones,

@@ -63,14 +63,14 @@ fn join_rows<R: Threads + Sync, G: Gate>(
 ) -> Result<JoinAnswer, NoMemory>
     requires allowed { columns_refusal left.schema.now right.schema.now on.now ≡ None }
     ensures rows { IfOk result (λ answer. IsJoin
-        (MatchesOn left.entry.schema.now right.entry.schema.now on.now) left.entry.rows.now right.entry.rows.now
+        (MatchesOn left.entry.schema.now right.entry.schema.now on.now) left.entry.rows.now
+        right.entry.rows.now
         answer.rows) }
     ensures turns { IfOk result (λ answer. (k m : ℕ) → IsLeast (items_of left.entry.rows.now) k
         → IsLeast (items_of right.entry.rows.now) m
         → IsWithin k m (length left.entry.rows.now) (length right.entry.rows.now) answer.turns) }
 {
-    let (rt, alloc, workers) = (crew.rt, crew.alloc, crew.workers);
-    let classes = classes_of(rt, alloc, left, right, on, workers)?;
-    let (lefts, rights) = items_of_sides(rt, alloc, left.rows, right.rows, classes, workers)?;
+    let classes = classes_of(crew, left, right, on)?;
+    let (lefts, rights) = items_of_sides(crew, left.rows, right.rows, classes)?;
     join_items(crew, lefts, rights)
 }

@@ -17,6 +17,7 @@ use crate::split::refine;
 use row_core::{Kind, Name};
 use std::alloc::Global;
 use std::thread::Threads;
+use work_core::Crew;
 
 /// A class for each row of two sides.
 #[derive(Debug, Drop)]
@@ -31,6 +32,13 @@ pub struct Classes {
     pub right_places: Vec<ClassedPlace>,
 }
 
+/// The rows of a side, and the class of each so far; None where all are of one.
+#[derive(Clone, Copy)]
+struct ClassedSide<'a, 'c> {
+    side: Side<'a>,
+    classes: Option<&'c [u64]>,
+}
+
 /// A class for each left row, and one for each right row: two rows, of whichever sides, have one class
 /// exactly where they are equal in each named pair of columns. Without names all rows have one. It takes
 /// time of the order n log n in the rows for each pair of names, whatever their values are. Where rows are many,
@@ -40,13 +48,11 @@ pub struct Classes {
 /// # Errors
 ///
 /// `NoMemory` where a growth is refused.
-pub fn classes_of<R: Threads + Sync>(
-    rt: &R,
-    alloc: Global,
+pub fn classes_of<R: Threads + Sync, G>(
+    crew: &Crew<'_, R, G>,
     left: Side<'_>,
     right: Side<'_>,
     on: &[(Name, Name)],
-    workers: u32,
 ) -> Result<Classes, NoMemory>
     requires { columns_refusal left.schema.now right.schema.now on.now ≡ None }
     ensures left { IfOk result (λ classes. length classes.left.items ≡ length left.entry.rows.now) }
@@ -61,13 +67,27 @@ pub fn classes_of<R: Threads + Sync>(
         (λ classes. AreByClass classes.right.items classes.right_places.items) }
 {
     let Some((first, others)) = on.split_first() else {
-        return one_class(rt, alloc, left.rows.len(), right.rows.len());
+        return one_class(crew.rt, crew.alloc, left.rows.len(), right.rows.len());
     };
-    let mut classes = split_by(rt, alloc, left, None, right, None, first, workers)?;
+    let lefts = ClassedSide {
+        side: left,
+        classes: None,
+    };
+    let rights = ClassedSide {
+        side: right,
+        classes: None,
+    };
+    let mut classes = split_by(crew, lefts, rights, first)?;
     for pair in others {
-        let lefts = Some(classes.left.as_slice());
-        let rights = Some(classes.right.as_slice());
-        classes = split_by(rt, alloc, left, lefts, right, rights, pair, workers)?;
+        let lefts = ClassedSide {
+            side: left,
+            classes: Some(classes.left.as_slice()),
+        };
+        let rights = ClassedSide {
+            side: right,
+            classes: Some(classes.right.as_slice()),
+        };
+        classes = split_by(crew, lefts, rights, pair)?;
     }
     Ok(classes)
 }
@@ -98,48 +118,53 @@ fn one_class<R: Threads + Sync>(
     })
 }
 
-/// The classes so far of both sides, split by one pair of columns; where none are given all rows are of one.
-fn split_by<R: Threads + Sync>(
-    rt: &R,
-    alloc: Global,
-    left: Side<'_>,
-    left_classes: Option<&[u64]>,
-    right: Side<'_>,
-    right_classes: Option<&[u64]>,
+/// The classes so far of both sides, split by one pair of columns.
+fn split_by<R: Threads + Sync, G>(
+    crew: &Crew<'_, R, G>,
+    left: ClassedSide<'_, '_>,
+    right: ClassedSide<'_, '_>,
     pair: &(Name, Name),
-    workers: u32,
 ) -> Result<Classes, NoMemory>
-    requires left { ForSome left_classes (λ c. length c.now ≡ length left.rows.now) }
-    requires right { ForSome right_classes (λ c. length c.now ≡ length right.rows.now) }
-    requires allowed { first_of (tests_of_names left.schema.now right.schema.now pair.now) ≡ None }
-    ensures left { IfOk result (λ new. length new.left.items ≡ length left.entry.rows.now) }
-    ensures right { IfOk result (λ new. length new.right.items ≡ length right.entry.rows.now) }
+    requires left { ForSome left.classes (λ c. length c.now ≡ length left.side.rows.now) }
+    requires right { ForSome right.classes (λ c. length c.now ≡ length right.side.rows.now) }
+    requires allowed { first_of
+        (tests_of_names left.side.schema.now right.side.schema.now pair.now) ≡ None }
+    ensures left { IfOk result (λ new. length new.left.items ≡ length left.entry.side.rows.now) }
+    ensures right { IfOk result (λ new. length new.right.items ≡ length right.entry.side.rows.now) }
     ensures split { IfOk result (λ new. Refines
-        (so_far left_classes.entry left.entry.rows.now ++ so_far right_classes.entry right.entry.rows.now)
-        (values_under left.entry.schema.now right.entry.schema.now left.entry.rows.now right.entry.rows.now pair.now)
+        (so_far left.entry.classes left.entry.side.rows.now
+        ++ so_far right.entry.classes right.entry.side.rows.now)
+        (values_under left.entry.side.schema.now right.entry.side.schema.now
+        left.entry.side.rows.now right.entry.side.rows.now pair.now)
         (new.left.items ++ new.right.items)) }
     ensures left_places { IfOk result
         (λ new. AreByClass new.left.items new.left_places.items) }
     ensures right_places { IfOk result
         (λ new. AreByClass new.right.items new.right_places.items) }
 {
-    let Some(left_place) = left.schema.column(pair.0) else {
+    let Crew {
+        rt,
+        alloc,
+        workers,
+        ..
+    } = *crew;
+    let Some(left_place) = left.side.schema.column(pair.0) else {
         unreachable!()
     };
-    let Some(right_place) = right.schema.column(pair.1) else {
+    let Some(right_place) = right.side.schema.column(pair.1) else {
         unreachable!()
     };
-    let Some(kind) = left.schema.column_kind(pair.0) else {
+    let Some(kind) = left.side.schema.column_kind(pair.0) else {
         unreachable!()
     };
     let lefts = SideColumn {
-        rows: left.rows,
-        classes: left_classes,
+        rows: left.side.rows,
+        classes: left.classes,
         place: left_place as usize,
     };
     let rights = SideColumn {
-        rows: right.rows,
-        classes: right_classes,
+        rows: right.side.rows,
+        classes: right.classes,
         place: right_place as usize,
     };
     match kind {

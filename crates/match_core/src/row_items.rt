@@ -16,6 +16,7 @@ use sort_core::sort_unstable_by_key;
 use std::alloc::Global;
 use std::thread::{Threads, join};
 use table_core::{RowRef, SharedRows};
+use work_core::Crew;
 
 /// Of fewer rows one side's items would be there before the other side's thread has started.
 const ROWS_FOR_THREAD: usize = 4_096;
@@ -50,13 +51,11 @@ pub fn items(alloc: Global, rows: &SharedRows) -> Result<Vec<Item>, NoMemory>
 /// # Errors
 ///
 /// `NoMemory` where a growth is refused.
-pub fn items_of_sides<R: Threads + Sync>(
-    rt: &R,
-    alloc: Global,
+pub fn items_of_sides<R: Threads + Sync, G>(
+    crew: &Crew<'_, R, G>,
     left: &SharedRows,
     right: &SharedRows,
     classes: Classes,
-    workers: u32,
 ) -> Result<(Vec<Item>, Vec<Item>), NoMemory>
     requires left { length classes.left.items ≡ length left.now }
     requires right { length classes.right.items ≡ length right.now }
@@ -67,6 +66,12 @@ pub fn items_of_sides<R: Threads + Sync>(
     ensures right { IfOk result (λ both.
         AreItemsByClass right.now classes.right.items both.1.items) }
 {
+    let Crew {
+        rt,
+        alloc,
+        workers,
+        ..
+    } = *crew;
     // The classes by row are given back before memory is taken for items.
     let Classes {
         left_places,

@@ -8,6 +8,7 @@ use std::alloc::Global;
 use std::process::Abort;
 use std::test::Fail;
 use std::thread::Threads;
+use work_core::{Crew, OpenGate};
 
 fn values(rt: &(impl Abort + Alloc<A = Global>), text: &[u8], number: i64) -> Values {
     let text = Text::new(rt.alloc(), text).expect(rt, "a text");
@@ -47,7 +48,8 @@ fn classes(
 ) -> Vec<u64> {
     let (one, other) = (side(rt, &pair.left), side(rt, &pair.right));
     assert!(rt; refusal_of_pairs(one.schema, other.schema, on).is_none());
-    let both = classes_of(rt, rt.alloc(), one, other, on, 1).expect(rt, "memory");
+    let crew = Crew::new(rt, rt.alloc(), 1, &OpenGate);
+    let both = classes_of(&crew, one, other, on).expect(rt, "memory");
     let mut classes = both.left;
     classes.extend_from_slice(&both.right).expect(rt, "memory");
     classes
@@ -110,8 +112,9 @@ fn items_of_lower_classes_come_first(rt: HostRuntime) -> Result<(), Fail> {
     let (one, other) = (side(&rt, &left), side(&rt, &right));
     let on = names(&rt, &[b"n"]);
     assert!(rt; refusal_of_pairs(one.schema, other.schema, &on).is_none());
-    let classes = classes_of(&rt, rt.alloc(), one, other, &on, 1)?;
-    let (lefts, rights) = items_of_sides(&rt, rt.alloc(), one.rows, other.rows, classes, 1)?;
+    let crew = Crew::new(&rt, rt.alloc(), 1, &OpenGate);
+    let classes = classes_of(&crew, one, other, &on)?;
+    let (lefts, rights) = items_of_sides(&crew, one.rows, other.rows, classes)?;
     assert!(rt; lefts.len() == 2 && rights.len() == 2);
     check_item(&rt, lefts.first(), 2, 0);
     check_item(&rt, lefts.get(1), 1, 1);

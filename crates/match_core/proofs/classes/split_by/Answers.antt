@@ -25,26 +25,26 @@ by_names result left right lefts rights pair l r old one other =
 
 pub refine-requires-clause-kind : goal.refine-requires-clause-kind
 refine-requires-clause-kind g c κs within =
-    columns_one_kind c.args.left.schema.now c.args.right.schema.now c.args.left.rows.now c.args.right.rows.now
-    c.args.pair.now c.in-Some.left_place c.in-Some-column.right_place _ c.requires.allowed c.args.left.fit
-    c.args.right.fit (sym c.in-Some.ensures) (sym c.in-Some-column.ensures)
+    columns_one_kind c.args.left.side.schema.now c.args.right.side.schema.now c.args.left.side.rows.now c.args.right.side.rows.now
+    c.args.pair.now c.in-Some.left_place c.in-Some-column.right_place _ c.requires.allowed c.args.left.side.fit
+    c.args.right.side.fit (sym c.in-Some.ensures) (sym c.in-Some-column.ensures)
     (ap Some (sym c.in-Int.is) ∙ c.in-Some-column_kind.ensures)
 
 pub refine-requires-in-Text-clause-kind : goal.refine-requires-in-Text-clause-kind
 refine-requires-in-Text-clause-kind g c κs within =
-    columns_one_kind c.args.left.schema.now c.args.right.schema.now c.args.left.rows.now c.args.right.rows.now
-    c.args.pair.now c.in-Some.left_place c.in-Some-column.right_place _ c.requires.allowed c.args.left.fit
-    c.args.right.fit (sym c.in-Some.ensures) (sym c.in-Some-column.ensures)
+    columns_one_kind c.args.left.side.schema.now c.args.right.side.schema.now c.args.left.side.rows.now c.args.right.side.rows.now
+    c.args.pair.now c.in-Some.left_place c.in-Some-column.right_place _ c.requires.allowed c.args.left.side.fit
+    c.args.right.side.fit (sym c.in-Some.ensures) (sym c.in-Some-column.ensures)
     (ap Some (sym c.in-Text.is) ∙ c.in-Some-column_kind.ensures)
 
 pub returns-in-Int-clause-split : goal.returns-in-Int-clause-split
 returns-in-Int-clause-split g c =
-    by_names c.refine.result c.args.left.schema.now c.args.right.schema.now c.args.left.rows.now c.args.right.rows.now
+    by_names c.refine.result c.args.left.side.schema.now c.args.right.side.schema.now c.args.left.side.rows.now c.args.right.side.rows.now
     c.args.pair.now c.in-Some.left_place c.in-Some-column.right_place _ (sym c.in-Some.ensures)
     (sym c.in-Some-column.ensures) c.refine.ensures.split
 
 pub returns-in-Text-clause-split : goal.returns-in-Text-clause-split
 returns-in-Text-clause-split g c =
-    by_names c.refine-in-Text.result c.args.left.schema.now c.args.right.schema.now c.args.left.rows.now
-    c.args.right.rows.now c.args.pair.now c.in-Some.left_place c.in-Some-column.right_place _ (sym c.in-Some.ensures)
+    by_names c.refine-in-Text.result c.args.left.side.schema.now c.args.right.side.schema.now c.args.left.side.rows.now
+    c.args.right.side.rows.now c.args.pair.now c.in-Some.left_place c.in-Some-column.right_place _ (sym c.in-Some.ensures)
     (sym c.in-Some-column.ensures) c.refine-in-Text.ensures.split
