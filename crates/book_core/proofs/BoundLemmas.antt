@@ -102,12 +102,7 @@ parts-same : (schema : List Column) (portion : Period) (sets : Option (List Pair
     → ((period : Option Period) (values : List Value)
     → inside change.sets period values ≡ inside_set schema sets period values)
     → (row : Row) → parts_by_place change row ≡ parts_within portion sets schema row
-parts-same schema portion None change at same row =
-    ap (λ p. part (before row.period p) row.values ++ (inside change.sets (meet row.period p) row.values
-    ++ part (later row.period p) row.values)) at
-    ∙ ap (λ l. part (before row.period portion) row.values ++ (l ++ part (later row.period portion) row.values))
-    (same (meet row.period portion) row.values)
-parts-same schema portion (Some sets) change at same row =
+parts-same schema portion sets change at same row =
     ap (λ p. part (before row.period p) row.values ++ (inside change.sets (meet row.period p) row.values
     ++ part (later row.period p) row.values)) at
     ∙ ap (λ l. part (before row.period portion) row.values ++ (l ++ part (later row.period portion) row.values))

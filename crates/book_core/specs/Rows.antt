@@ -42,14 +42,11 @@ abbrev pub inside_set : List Column → Option (List Pair) → Option Period →
 inside_set schema None period values = []
 inside_set schema (Some sets) period values = part period (fold (set_at schema) values sets)
 
--- what comes in the place of a row that a change of the portion takes out: its parts before, inside and after it,
--- with the settings inside; without any, none inside
+-- what comes in the place of a row that a change of the portion takes out: its parts before, inside and after it
 abbrev pub parts_within : Period → Option (List Pair) → List Column → Row → List Draft
-parts_within portion None columns row =
-    part (before row.period portion) row.values ++ part (later row.period portion) row.values
-parts_within portion (Some sets) columns row =
+parts_within portion sets columns row =
     part (before row.period portion) row.values
-    ++ (part (meet row.period portion) (fold (set_at columns) row.values sets)
+    ++ (inside_set columns sets (meet row.period portion) row.values
     ++ part (later row.period portion) row.values)
 
 -- what comes in the place of one that is taken out

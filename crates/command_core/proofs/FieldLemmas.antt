@@ -1,6 +1,6 @@
 -- What the fields at the first places say of a record.
-use Rattle.std.proofs.Common.{◌≡◌, ◌+◌, ℕ, zero, suc, List, [], ◌∷◌, true, false, drop, length, take, Some, None, refl, ap, arith}
-use Rattle.std.specs.Prelude.{codes}
+use Rattle.std.proofs.Common.{◌≡◌, ◌+◌, ℕ, zero, suc, List, [], ◌∷◌, Bool, true, false, drop, length, take, Some, None, refl, ap, arith}
+use Rattle.std.specs.Prelude.{codes, if◌then◌else◌}
 use Rattle.std.specs.List.{slice_get}
 use Rattle.std.specs.Option.{ok_or}
 use Rattle.row_core.specs.Refusals.{and_then, map_ok}
@@ -74,29 +74,19 @@ compared-two (word ∷ l ∷ r ∷ rest) left right one two =
 
 -- ---- the suffix
 
--- the last field but one is `asof`
-pub split_asof-named : (k : ℕ) (line : Record) → length line ≡ k + 2 → begins (codes "asof") (drop k line) ≡ true
-    → split_asof line ≡ (take k line, slice_get line (k + 1))
-split_asof-named zero [] n e = absurd (omega arith)
-split_asof-named zero (only ∷ []) n e = absurd (omega arith)
-split_asof-named zero (word ∷ text ∷ []) n e = rw e refl
-split_asof-named zero (first ∷ second ∷ third ∷ fields) n e = absurd (omega arith)
-split_asof-named (suc k) [] n e = absurd (omega arith)
-split_asof-named (suc k) (only ∷ []) n e = absurd (omega arith)
-split_asof-named (suc k) (first ∷ second ∷ []) n e = absurd (omega arith)
-split_asof-named (suc k) (field ∷ second ∷ third ∷ fields) n e =
+-- whether the last field but one is `asof` decides
+pub split_asof-two : (k : ℕ) (line : Record) (test : Bool) → length line ≡ k + 2
+    → begins (codes "asof") (drop k line) ≡ test
+    → split_asof line ≡ (if test then (take k line, slice_get line (k + 1)) else (line, None))
+split_asof-two zero [] test n e = absurd (omega arith)
+split_asof-two zero (only ∷ []) test n e = absurd (omega arith)
+split_asof-two zero (word ∷ text ∷ []) test n e = rw e refl
+split_asof-two zero (first ∷ second ∷ third ∷ fields) test n e = absurd (omega arith)
+split_asof-two (suc k) [] test n e = absurd (omega arith)
+split_asof-two (suc k) (only ∷ []) test n e = absurd (omega arith)
+split_asof-two (suc k) (first ∷ second ∷ []) test n e = absurd (omega arith)
+split_asof-two (suc k) (field ∷ second ∷ third ∷ fields) true n e =
     let next : suc k + 1 ≡ suc (k + 1) = omega arith in
-    rw next (ap (field_before field) (split_asof-named k (second ∷ third ∷ fields) (omega arith) e))
-
--- it is another word
-pub split_asof-none : (k : ℕ) (line : Record) → length line ≡ k + 2 → begins (codes "asof") (drop k line) ≡ false
-    → split_asof line ≡ (line, None)
-split_asof-none zero [] n e = absurd (omega arith)
-split_asof-none zero (only ∷ []) n e = absurd (omega arith)
-split_asof-none zero (word ∷ text ∷ []) n e = rw e refl
-split_asof-none zero (first ∷ second ∷ third ∷ fields) n e = absurd (omega arith)
-split_asof-none (suc k) [] n e = absurd (omega arith)
-split_asof-none (suc k) (only ∷ []) n e = absurd (omega arith)
-split_asof-none (suc k) (first ∷ second ∷ []) n e = absurd (omega arith)
-split_asof-none (suc k) (field ∷ second ∷ third ∷ fields) n e =
-    ap (field_before field) (split_asof-none k (second ∷ third ∷ fields) (omega arith) e)
+    rw next (ap (field_before field) (split_asof-two k (second ∷ third ∷ fields) true (omega arith) e))
+split_asof-two (suc k) (field ∷ second ∷ third ∷ fields) false n e =
+    ap (field_before field) (split_asof-two k (second ∷ third ∷ fields) false (omega arith) e)

@@ -4,11 +4,8 @@ ghost use Rattle.std.specs.Prelude.{◌≡◌, ◌<◌, None, Some, get_or, leng
 ghost use Rattle.std.specs.Option.{option_copied};
 ghost use Rattle.row_core.specs.Limits.{column_limit};
 
-use row_core::Value;
+use row_core::{COLUMN_LIMIT, Value};
 use std::marker::Model;
-
-/// The most columns of a table.
-const COLUMN_LIMIT: usize = 16;
 
 /// A value, or none, for each place at which a table can have a column. Contracts see these, from the first
 /// place on.

@@ -25,7 +25,7 @@ pub use number::{BadNumber, read_number};
 pub use period_core::NoMemory;
 pub use reading::{Field, RowRefused, read_period};
 pub use row::{Row, RowList, RowOrder};
-pub use schema::{Column, KeyRefused, Schema, SchemaRefused};
+pub use schema::{COLUMN_LIMIT, Column, KeyRefused, Schema, SchemaRefused};
 pub use text::{Text, TextRefused};
 pub use value::{Kind, Value, ValueRefused, Values};
 pub use value_ref::ValueRef;

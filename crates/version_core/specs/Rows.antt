@@ -1,6 +1,6 @@
 -- Which rows a change of a table takes out, and what it puts in their place.
 use Rattle.std.specs.Prelude.{List, [], filter, Bool, false, flat_map}
-use Rattle.portion_core.specs.Portion.{parts_of as parts_within, takes_out}
+use Rattle.portion_core.specs.Portion.{parts_of as parts_by_place, takes_out}
 use Rattle.row_core.specs.declared.draft.Draft.{Draft}
 use Rattle.row_core.specs.declared.row.Row.{Row}
 use Rattle.version_core.specs.declared.change.RowsChange.{RowsChange}
@@ -14,7 +14,7 @@ removes (Portion change) row = takes_out change row
 -- what comes in the place of one that is taken out
 abbrev pub parts_of : RowsChange → Row → List Draft
 parts_of (Load rows) row = []
-parts_of (Portion change) row = parts_within change row
+parts_of (Portion change) row = parts_by_place change row
 
 -- what comes in the place of all rows that a change takes out
 abbrev pub parts_of_all : RowsChange → List Row → List Draft

@@ -61,35 +61,21 @@ fn is_set(sets: &ByColumn<'_>, column: usize) -> bool
     column < sets.width() && sets.get(column).is_some()
 }
 
-/// Whether two of the rows that a change leaves and makes collide, where all open ones are gone through.
-pub(crate) fn collide_among_all(
-    alloc: Global,
-    change: &RowsChange<'_>,
+/// Whether two of these rows and the new ones collide.
+pub(crate) fn collide_among<'a>(
+    mut rows: Vec<DraftRef<'a>>,
     key: &[u32],
-    versions: &StoredVersions,
-    open_at: &[u32],
-    new: &Drafts,
+    new: &'a Drafts,
 ) -> Result<bool, NoMemory>
-    requires { ListsOpen versions.now any_row open_at.now }
-    ensures { IfOk result (λ overlap. overlap ≡ have_collision key.now
-        (rows_left change.now (current versions.now) ++ new.now)) }
+    ensures { IfOk result (λ overlap. overlap
+        ≡ have_collision key.now (map lent_draft rows.entry.items ++ new.now)) }
 {
-    let mut rows = rows_left(alloc, change, versions, open_at)?;
     push_rows(&mut rows, new)?;
     Ok(have_collision(key, &mut rows))
 }
 
-/// Whether two of the rows collide.
-pub(crate) fn collide_among(alloc: Global, key: &[u32], new: &Drafts) -> Result<bool, NoMemory>
-    ensures { IfOk result (λ overlap. overlap ≡ have_collision key.now new.now) }
-{
-    let mut rows = Vec::new(alloc);
-    push_rows(&mut rows, new)?;
-    Ok(have_collision(key, &mut rows))
-}
-
-/// The rows of open versions that the change leaves.
-fn rows_left<'a>(
+/// The rows of open versions that the change leaves: all of these are gone through.
+pub(crate) fn rows_left<'a>(
     alloc: Global,
     change: &RowsChange<'_>,
     versions: &'a StoredVersions,

@@ -26,7 +26,7 @@ use crate::index::{
     sweep_indexes,
 };
 use crate::key_index::{KeyIndex, index_by};
-use crate::keys::{KeyOverlap, collide_among, collide_among_all, may_overlap};
+use crate::keys::{KeyOverlap, collide_among, may_overlap, rows_left};
 use crate::places::Places;
 use crate::planning::{Plan, count_parts, is_small, plan_change};
 use crate::shared_versions::SharedVersions;
@@ -345,18 +345,12 @@ impl Versions {
     {
         match index_by(&self.key_index, key) {
             Some(index) => {
-                let among_new = collide_among(alloc, key, new)?;
+                let among_new = collide_among(Vec::new(alloc), key, new)?;
                 Ok(among_new || self.any_meets(change, index, new))
             }
             None => {
-                collide_among_all(
-                    alloc,
-                    change,
-                    key,
-                    &self.items,
-                    self.open_at.as_slice(),
-                    new,
-                )
+                let left = rows_left(alloc, change, &self.items, self.open_at.as_slice())?;
+                collide_among(left, key, new)
             }
         }
     }
