@@ -42,8 +42,14 @@ class Ran(NamedTuple):
 def asked(words: str, *more: str, script: str = PAY + DIARY) -> Ran:
     """What a subcommand does with the script; tabs stand for blanks within a word."""
     tool, *others = words.split(" ")
-    given = [tool, "-", *(one.replace("\t", " ") for one in others if one), "--program", str(PROGRAM), *more]
+    program = [] if "--answers" in more else ["--program", str(PROGRAM)]
+    given = [tool, "-", *(one.replace("\t", " ") for one in others if one), *program, *more]
     return Ran(*run(["tools/answers", *given], script))
+
+
+def named(tool: str, question: str) -> str:
+    """The question, with a name where the subcommand makes something that has it."""
+    return f"a={question}" if tool in ("json", "sqlite", "page") else question
 
 
 @unittest.skipUnless(PROGRAM.exists(), "questions as of a day, since no program is built")
@@ -56,8 +62,9 @@ class AsOf(unittest.TestCase):
         for tool, more in TOOLS.items():
             twice = ["--ask", "rows,pay"] if tool == "changed" else []
             with self.subTest(tool):
-                by_number = asked(f"{tool} {more}", *twice, "--ask", "a=rows,pay,asof,3")
-                by_day = asked(f"{tool} {more}", *twice, "--ask", "a=rows,pay,asof,2024-06-28", "--diary", "diary")
+                by_number = asked(f"{tool} {more}", *twice, "--ask", named(tool, "rows,pay,asof,3"))
+                question = named(tool, "rows,pay,asof,2024-06-28")
+                by_day = asked(f"{tool} {more}", *twice, "--ask", question, "--diary", "diary")
                 if tool == "history":
                     by_number = asked(f"{tool} {more}", "--diary", "diary")
                 self.assertEqual(by_day.said, f"answers: asof 2024-06-28 is commit 3, by diary\n{by_number.said}")
@@ -129,7 +136,7 @@ class AsOf(unittest.TestCase):
             twice = ["--ask", "rows,pay"] if tool == "changed" else []
             for name, why in (("notes", none), ("pay", other)):
                 with self.subTest(tool, name=name):
-                    ran = asked(f"{tool} {more}", *twice, "--ask", "a=rows,pay", "--diary", name)
+                    ran = asked(f"{tool} {more}", *twice, "--ask", named(tool, "rows,pay"), "--diary", name)
                     self.assertEqual(ran, (1, "", f"answers: {why}\n"))
 
     def test_what_has_no_diary_is_refused(self) -> None:

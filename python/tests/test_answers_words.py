@@ -285,10 +285,11 @@ class Only(ToolCase):
 
 
 class Folders(ToolCase):
-    NAMELESS = (
-        "answers: @7=august: nothing is made here that has a name; only what `csv --folder`, "
-        "`sqlite`, `json` and `page` make has one: give @7\n"
+    ONLY = (
+        "nothing is made here that has a name; only what `csv --folder`, "
+        "`sqlite`, `json` and `page` make has one: give"
     )
+    NAMELESS = f"answers: @7=august: {ONLY} @7\n"
 
     def test_a_file_is_replaced_only_where_that_is_asked(self) -> None:
         words = ["tools/answers", "csv", EXAMPLE, "--answers", EXAMPLE + ".stdout", "@7=august"]
@@ -302,6 +303,29 @@ class Folders(ToolCase):
             for name in ("a/b", ".a", "a\nb"):
                 self.check([*words[:-1], f"@7={name}", "--folder", folder], "", 1, ": not a file's name")
         self.check([*words, "--replace"], "", 1, "answers: --replace needs --folder, whose files ")
+
+    def test_a_question_s_name_is_refused_where_nothing_has_it(self) -> None:
+        for tool in (
+            "list", "csv", "picture", "changed", "overlaps person", "gaps person", "coalesce", "months --sum euros",
+            "history pay", "refusals", "only pay 2", "raise pay euros --percent 1 --from 2024-01-01", "next --table t",
+        ):
+            name, *more = tool.split()
+            words = ["tools/answers", name, EXAMPLE, *more, "--answers", EXAMPLE + ".stdout"]
+            given = [*words, "--ask", "a b=rows,pay"]
+            self.check(given, "", 1, f"answers: --ask a b=rows,pay: {self.ONLY} rows,pay\n")
+        less = ["tools/answers", "months", EXAMPLE, "--sum", "euros", "--less", "a=rows,pay,asof,2"]
+        wrong = f"answers: --less a=rows,pay,asof,2: {self.ONLY} rows,pay,asof,2\n"
+        self.check([*less, "--answers", EXAMPLE + ".stdout"], "", 1, wrong)
+
+    def test_a_name_is_refused_of_what_is_no_question_or_has_one(self) -> None:
+        with kept("table,t\n") as name, kept("ok,1\nok,2\nend,0\n") as answers:
+            for tool in ("json", "sqlite :memory:", "page"):
+                command, *more = tool.split()
+                words = ["tools/answers", command, name, *more, "--answers", answers]
+                change = [*words, "--ask", "a=table,u", "--ask", "b=rows,u"]
+                self.check(change, "", 1, "answers: --ask a=..: table,u: only questions have names\n")
+                twice = [*words, "--ask", "table,u", "--ask", "b=rows,u", "last=c"]
+                self.check(twice, "", 1, "answers: last=c: --ask: rows,u has the name b already\n")
 
     def test_a_name_is_refused_where_nothing_has_it(self) -> None:
         for tool in (
@@ -355,7 +379,7 @@ class Asked(ToolCase):
             both = "table,rows\nplan,1\nt,1\n"
             self.check(["tools/answers", "sqlite", name, ":memory:", "3=plan", *words[1:], "t=rows,t"], "", 0, both)
             one = "table,rows\nx,1\n"
-            self.check(["tools/answers", "sqlite", name, ":memory:", "last=x", *words[1:], "t=rows,t"], "", 0, one)
+            self.check(["tools/answers", "sqlite", name, ":memory:", "last=x", *words[1:], "rows,t"], "", 0, one)
             self.check(["tools/answers", "csv", *words, "rows,t", "3"], "", 1, "2 answers given, but it takes 1")
             with tempfile.TemporaryDirectory() as folder:
                 self.check(["tools/answers", "csv", *words, "t=rows,t", "3=plan", "--folder", folder], "", 0, "")

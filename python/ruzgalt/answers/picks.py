@@ -6,7 +6,7 @@ from typing import Dict, List, Sequence, Set
 from ruzgalt.answers import Answer
 from ruzgalt.commands import called
 from ruzgalt.errors import Misfit
-from ruzgalt.script.records import short
+from ruzgalt.script.records import short, visible
 
 # What makes something that has a name.
 NAMED_BY = "`csv --folder`, `sqlite`, `json` and `page`"
@@ -45,6 +45,9 @@ def picked(answers: Sequence[Answer], word: str, names: Dict[int, str]) -> Pick:
         raise Misfit(f"{which}: {answer.place}: {short(answer.command.text)} was refused: {answer.refusal.name}")
     if mark and not name:
         raise Misfit(f"{word}: no name after the =")
+    if name and answer.number in names:
+        has_one = f"has the name {visible(names[answer.number])} already"
+        raise Misfit(f"{word}: {answer.place}: {short(answer.command.text)} {has_one}")
     return Pick(name or names.get(answer.number, name_of(answer)), answer)
 
 
@@ -53,8 +56,13 @@ def refuse_names(words: Sequence[str]) -> None:
     for word in words:
         which, mark, _ = word.partition("=")
         if mark:
-            only = f"only what {NAMED_BY} make has one: give {which}"
-            raise Misfit(f"{word}: nothing is made here that has a name; {only}")
+            raise nameless(word, which)
+
+
+def nameless(word: str, bare: str) -> Misfit:
+    """What is said of a name where nothing is made that would have it."""
+    only = f"only what {NAMED_BY} make has one: give {bare}"
+    return Misfit(f"{word}: nothing is made here that has a name; {only}")
 
 
 def refuse_same(picks: Sequence[Pick]) -> None:

@@ -13,7 +13,7 @@ from ruzgalt.answers import asking, changes, databases, divided, export, front, 
 from ruzgalt.checking import marks, overlaps, queries, refusals, single
 from ruzgalt.checking.replay import Replay
 from ruzgalt.commands import called, going_on, over_time, picture, printed, streams
-from ruzgalt.commands.given import Found, bytes_of, chosen, last, read, read_fit, warn
+from ruzgalt.commands.given import Found, bytes_of, chosen, last, read, read_fit, refuse_names, warn
 from ruzgalt.commands.progress import Progress
 from ruzgalt.commands.words import Words, look_of, pair, some_commits, words_of_looks, words_of_where
 from ruzgalt.errors import Misfit
@@ -330,7 +330,7 @@ def words_of_only(parser: ArgumentParser) -> None:
 class Tool(NamedTuple):
     """A subcommand: what it does, which words it has beside the script, and whether it takes answers that are there.
 
-    More is said by its own help alone.
+    More is said by its own help alone. Only some make what has a question's name, by some words.
     """
 
     do: Callable[[Namespace], Optional[int]]
@@ -338,6 +338,11 @@ class Tool(NamedTuple):
     words: Callable[[ArgumentParser], None] = lambda _: None
     has_answers: bool = True
     more: str = ""
+    has_names: Callable[[Namespace], bool] = lambda _: False
+
+
+def always(_: Namespace) -> bool:
+    return True
 
 
 OF_LIST = "A refused command has the refusal's name in place of an answer. The status is then 1, or 0 with --go-on."
@@ -351,9 +356,14 @@ what each table held; with --diary commits have their days. Each answer is compu
 no page is made. The status is that of `list`."""
 TOOLS: Dict[str, Tool] = {
     "list": Tool(do_list, "lists each answer with its number, its line and its command", more=OF_LIST),
-    "csv": Tool(do_csv, "prints an answer (the last) as CSV with a header, or writes files", words_of_csv),
-    "sqlite": Tool(do_sqlite, "makes a table of each answer in an SQLite database", words_of_sqlite),
-    "json": Tool(do_json, "prints answers as JSON", with_picks),
+    "csv": Tool(
+        do_csv, "prints an answer (the last) as CSV with a header, or writes files", words_of_csv,
+        has_names=lambda options: bool(options.folder),
+    ),
+    "sqlite": Tool(
+        do_sqlite, "makes a table of each answer in an SQLite database", words_of_sqlite, has_names=always,
+    ),
+    "json": Tool(do_json, "prints answers as JSON", with_picks, has_names=always),
     "picture": Tool(do_picture, "draws a division, rows, an aggregate or versions, as text or SVG", words_of_picture),
     "changed": Tool(
         do_changed, "lists what really changed between two answers (the last two)", words_of_changed, more=OF_CHANGED,
@@ -374,7 +384,9 @@ TOOLS: Dict[str, Tool] = {
     "front": Tool(
         do_front, "says whether answers that were kept are still the front of the script's", words_of_front, False,
     ),
-    "page": Tool(do_page, "prints one HTML page with all answers, for a browser", words_of_page, more=OF_PAGE),
+    "page": Tool(
+        do_page, "prints one HTML page with all answers, for a browser", words_of_page, more=OF_PAGE, has_names=always,
+    ),
     "refusals": Tool(do_refusals, "explains each refusal by its field and its reason, or by the rows for a key"),
     "only": Tool(do_only, "prints the command that deletes or updates the row of an id, and no other", words_of_only),
     "raise": Tool(
@@ -403,7 +415,7 @@ def parser_of(name: str, tool: Tool) -> ArgumentParser:
         parser.add_argument(
             "--ask", action="append", default=[], metavar="[NAME=]COMMAND",
             help="adds a command after the script, whose answer is taken beside those that are picked; NAME=COMMAND "
-            "gives it a name, which may have blanks, but no comma",
+            f"names what {picks.NAMED_BY} make of it, and may have blanks, but no comma",
         )
         parser.add_argument(
             "--diary", metavar="TABLE",
@@ -436,6 +448,8 @@ def main(words: Sequence[str]) -> int:
     try:
         with Progress(f"{called.ANSWERS_SAY} {words[0]}"):
             printed.refuse_words(options)
+            if tool.has_answers and not tool.has_names(options):
+                refuse_names("--ask", options.ask)
             return tool.do(options) or 0
     except OSError as error:
         why = error.strerror or str(error)

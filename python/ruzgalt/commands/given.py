@@ -107,7 +107,17 @@ def names_of(asked: Sequence[Answer], names: Sequence[str], lines: Sequence[int]
         name = begun.get(answer.line, "")
         if name:
             found[answer.number] = name
+            if not (answer.refusal or picks.is_asked(answer)):
+                raise Misfit(f"--ask {name}=..: {records.short(answer.command.text)}: only questions have names")
     return found
+
+
+def refuse_names(option: str, words: Sequence[str]) -> None:
+    """Refuses a question's name where nothing is made that would have it."""
+    for word in words:
+        name, question = questions.named(word)
+        if name:
+            raise picks.nameless(f"{option} {records.short(word)}", records.short(question))
 
 
 def read_fit(options: Namespace, shows_refusals: bool = False) -> Found:

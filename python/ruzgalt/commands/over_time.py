@@ -5,7 +5,7 @@ from typing import List, Optional, Tuple
 from ruzgalt.answers import Answer, calendar, picks, unions
 from ruzgalt.answers.amounts import Amounts
 from ruzgalt.commands import printed
-from ruzgalt.commands.given import last, read, warn
+from ruzgalt.commands.given import last, read, refuse_names, warn
 from ruzgalt.commands.words import words_of_where
 from ruzgalt.errors import Misfit
 from ruzgalt.periods import pieces
@@ -76,7 +76,10 @@ def summed(options: Namespace) -> Tuple[Answer, Optional[Answer]]:
         return answer, None
     # No pick has a comma, and each question of records does.
     is_question = "," in options.less
-    picks.refuse_names([] if is_question else [options.less])
+    if is_question:
+        refuse_names("--less", [options.less])
+    else:
+        picks.refuse_names([options.less])
     options.ask = [*([options.less] if is_question else []), *options.ask]
     found = read(options)
     less = found.asked[0] if is_question else picks.picked(found.answers, options.less, found.names).answer

@@ -19,7 +19,7 @@ from ruzgalt.script.commands import commands
 from ruzgalt.script.forms import is_name
 from ruzgalt.script.questions import commands_of, named, put_behind
 from ruzgalt.script.reader import Source
-from ruzgalt.script.records import short, visible
+from ruzgalt.script.records import short
 from ruzgalt.script.schemas import PERIOD, Schema, Table, ints, unique
 
 # No commit has a greater number.
@@ -126,13 +126,10 @@ def named_by(found: Sequence[Answer], words: Sequence[str], names: Dict[int, str
     for word in words:
         if "=" not in word:
             raise Misfit(f"{word}: the page has all answers; {word}=NAME gives one a name")
-        one = picks.picked(found, word, names)
+        one = picks.picked(found, word, {**names, **given})
         answer = one.answer
-        shown = f"{word}: {answer.place}: {short(answer.command.text)}"
         if not picks.is_asked(answer):
-            raise Misfit(f"{shown}: only questions have names")
-        if answer.number in given:
-            raise Misfit(f"{shown} has the name {visible(given[answer.number])} already")
+            raise Misfit(f"{word}: {answer.place}: {short(answer.command.text)}: only questions have names")
         given[answer.number] = one.name
     return {**names, **given}
 
