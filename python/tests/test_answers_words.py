@@ -74,6 +74,32 @@ class Reading(ToolCase):
             self.check(["tools/answers", "changed", "-", "--answers", answers], script, 1, note)
 
 
+class Options(ToolCase):
+    def test_an_option_of_one_value_stands_once(self) -> None:
+        given = ["--answers", EXAMPLE + ".stdout"]
+        for tool, option, value in [
+            ("csv", "--folder", "a"), ("csv", "--answers", "a"), ("history pay", "--commit", "2"),
+            ("picture", "--from", "2024-01-01"), ("sqlite :memory:", "--day", "2024-01-01"), ("page", "--title", "a"),
+            ("months --sum euros", "--each", "week"), ("list", "--diary", "a"), ("front a", "--before", "a"),
+        ]:
+            name, *more = tool.split()
+            words = ["tools/answers", name, EXAMPLE, *more, option, value, f"{option}={value}"]
+            self.check(words, "", 2, f"tools/answers {name}: error: argument {option}: given twice\n")
+        self.check(["tools/answers", "csv", EXAMPLE, *given, "--go-on", "--go-on"], "", 0, "number,")
+
+    def test_a_word_that_a_shell_has_left_empty_is_refused(self) -> None:
+        for tool in (
+            "csv --folder", "front kept --before", "picture --by", "picture --label", "picture", "months --sum euros",
+            "next --table t", "list --answers", "list --program",
+        ):
+            name, *more = tool.split()
+            self.check(["tools/answers", name, EXAMPLE, *more, ""], "", 2, ": the word is empty\n")
+
+    def test_answers_of_a_file_need_no_program(self) -> None:
+        words = ["tools/answers", "list", EXAMPLE, "--answers", EXAMPLE + ".stdout", "--program", "dipq"]
+        self.check(words, "", 1, "answers: --program can't be given with --answers: no program is run then\n")
+
+
 class Questions(ToolCase):
     def test_a_refused_question_isn_t_passed_over(self) -> None:
         answered = "ok,1\nend,0\nerror,3,NoTable\n"

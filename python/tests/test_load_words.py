@@ -37,6 +37,17 @@ class Loads(ToolCase):
         self.check(english, CSV.format("0,500", "2024-12-01", "2025-01-01"), 1, "1,234.50; use --german")
         self.check([*english, "--decimals", "Pay=0"], "", 1, "csv-to-load: --decimals Pay: given twice")
 
+    def test_an_option_of_one_value_stands_once_and_is_not_empty(self) -> None:
+        for option, value in [
+            ("--file", "a.csv"), ("--sheet", "2024"), ("--part", "1/2"), ("--table", "a"), ("--check", "-"),
+            ("--dates", "31/12/2024"), ("--decimal-mark", ","),
+        ]:
+            twice = [*LOADS, option, value, f"{option}={value}"]
+            self.check(twice, "", 2, f"tools/csv-to-load: error: argument {option}: given twice\n")
+        for words in (twice, [*LOADS, "--file", ""]):
+            self.check(words, "", 2, "csv-to-load failed\n")
+        self.check([*LOADS, "--file", ""], "", 2, "argument --file: the word is empty\n")
+
     def test_what_is_taken_as_it_is_is_noted(self) -> None:
         self.check(
             LOADS, CSV.format("5", "1.12.2024", "2025-01-01"), 1, "not a date such as 2024-12-31; use --german\n",

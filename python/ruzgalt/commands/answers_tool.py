@@ -15,7 +15,7 @@ from ruzgalt.checking.replay import Replay
 from ruzgalt.commands import called, going_on, over_time, picture, printed, streams
 from ruzgalt.commands.given import Found, bytes_of, chosen, last, read, read_fit, refuse_names, warn
 from ruzgalt.commands.progress import Progress
-from ruzgalt.commands.words import Words, look_of, pair, some_commits, words_of_looks, words_of_where
+from ruzgalt.commands.words import Words, filled, look_of, pair, some_commits, words_of_looks, words_of_where
 from ruzgalt.errors import Misfit
 from ruzgalt.page import contents, document, sources
 from ruzgalt.script import commands, records
@@ -242,12 +242,14 @@ def do_faulty(options: Namespace) -> int:
 
 
 def with_picks(parser: ArgumentParser, count: str = "*") -> None:
-    parser.add_argument("pick", nargs=count, metavar="PICK", default=[], help=picks.HELP)
+    parser.add_argument("pick", type=filled, nargs=count, metavar="PICK", default=[], help=picks.HELP)
 
 
 def words_of_csv(parser: ArgumentParser) -> None:
     with_picks(parser)
-    parser.add_argument("--folder", metavar="FOLDER", help="writes a file NAME.csv for each answer to this folder")
+    parser.add_argument(
+        "--folder", type=filled, metavar="FOLDER", help="writes a file NAME.csv for each answer to this folder",
+    )
     parser.add_argument("--replace", action="store_true", help="replaces files of these names in the folder")
     parser.add_argument("--rows", action="store_true", help="for a division: each row's period and values too")
     parser.add_argument(
@@ -315,7 +317,9 @@ def words_of_history(parser: ArgumentParser) -> None:
 
 def words_of_front(parser: ArgumentParser) -> None:
     parser.add_argument("kept", metavar="KEPT", help="earlier answers")
-    parser.add_argument("--before", metavar="SCRIPT", help="the script of those: what was edited in it is shown")
+    parser.add_argument(
+        "--before", type=filled, metavar="SCRIPT", help="the script of those: what was edited in it is shown",
+    )
 
 
 def words_of_only(parser: ArgumentParser) -> None:
@@ -407,11 +411,13 @@ def parser_of(name: str, tool: Tool) -> ArgumentParser:
     parser.add_argument("script", metavar="SCRIPT", help="a file, or - for standard input")
     tool.words(parser)
     parser.add_argument(
-        "--program", default=which.program(), metavar="PROGRAM",
+        "--program", type=filled, metavar="PROGRAM",
         help=f"the program that answers the script, in place of {called.PROGRAM}",
     )
     if tool.has_answers:
-        parser.add_argument("--answers", metavar="FILE", help="the answers, or - for standard input; no program is run")
+        parser.add_argument(
+            "--answers", type=filled, metavar="FILE", help="the answers, or - for standard input; no program is run",
+        )
         parser.add_argument(
             "--ask", action="append", default=[], metavar="[NAME=]COMMAND",
             help="adds a command after the script, whose answer is taken beside those that are picked; NAME=COMMAND "
@@ -444,13 +450,9 @@ def main(words: Sequence[str]) -> int:
     command = Words(prog=NAME, usage=f"{NAME} COMMAND SCRIPT ..", add_help=False)
     command.add_argument("command", choices=TOOLS, metavar="COMMAND")
     tool = TOOLS[command.parse_args(words[:1]).command]
-    options = parser_of(words[0], tool).parse_intermixed_args(words[1:])
     try:
         with Progress(f"{called.ANSWERS_SAY} {words[0]}"):
-            printed.refuse_words(options)
-            if tool.has_answers and not tool.has_names(options):
-                refuse_names("--ask", options.ask)
-            return tool.do(options) or 0
+            return tool.do(options_of(words[0], words[1:])) or 0
     except OSError as error:
         why = error.strerror or str(error)
         return fail(f"{error.filename}: {why}" if error.filename else why)
@@ -460,6 +462,26 @@ def main(words: Sequence[str]) -> int:
         return fail("out of memory")
     except UnicodeEncodeError as error:
         return fail(f"SQLite takes only UTF-8, which this isn't: {records.visible(error.object)}")
+
+
+def options_of(name: str, words: Sequence[str]) -> Namespace:
+    """What the words of a subcommand say, and which program answers."""
+    tool = TOOLS[name]
+    options = parser_of(name, tool).parse_intermixed_args(words)
+    refuse_words(tool, options)
+    options.program = options.program or which.program()
+    return options
+
+
+def refuse_words(tool: Tool, options: Namespace) -> None:
+    """Refuses what the tool would do nothing with."""
+    printed.refuse_words(options)
+    if not tool.has_answers:
+        return
+    if not tool.has_names(options):
+        refuse_names("--ask", options.ask)
+    if options.program and options.answers is not None:
+        raise Misfit("--program can't be given with --answers: no program is run then")
 
 
 def fail(why: str) -> int:

@@ -6,7 +6,7 @@ from ruzgalt.answers import export, next_script
 from ruzgalt.checking import raises
 from ruzgalt.commands import streams
 from ruzgalt.commands.given import last, read, read_fit, warn
-from ruzgalt.commands.words import pair, words_of_where
+from ruzgalt.commands.words import filled, pair, words_of_where
 from ruzgalt.errors import Misfit
 from ruzgalt.periods.rounding import ROUNDINGS
 from ruzgalt.script import records
@@ -19,7 +19,7 @@ script."""
 
 
 def words_of_next(parser: ArgumentParser) -> None:
-    parser.add_argument("pick", nargs="?", metavar="PICK", help="the answer, if it isn't the last")
+    parser.add_argument("pick", type=filled, nargs="?", metavar="PICK", help="the answer, if it isn't the last")
     parser.add_argument("--table", required=True, metavar="NAME", help="the name of the table that it becomes")
     parser.add_argument(
         "--column", type=named, action="append", default=[], metavar="COLUMN[=NAME]",

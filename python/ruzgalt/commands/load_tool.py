@@ -8,7 +8,7 @@ from typing import Iterator, List, Optional, Sequence, Tuple
 
 from ruzgalt.commands import called, streams
 from ruzgalt.commands.progress import Progress
-from ruzgalt.commands.words import Words, decimals as digits_of
+from ruzgalt.commands.words import Words, decimals as digits_of, filled
 from ruzgalt.errors import Misfit
 from ruzgalt.loading import claims, dates, decimals
 from ruzgalt.loading.columns import mark_of
@@ -59,7 +59,7 @@ def words() -> ArgumentParser:
         "column", nargs="*", metavar="[NAME=]COLUMN",
         help="the file's columns with values, in the order of the table's; grade=Neu takes the file's Neu as grade",
     )
-    parser.add_argument("--file", metavar="FILE", help="the file, if it isn't standard input")
+    parser.add_argument("--file", type=filled, metavar="FILE", help="the file, if it isn't standard input")
     parser.add_argument(
         "--sheet", metavar="NAME", help="the sheet of an Excel workbook (.xlsx) that has several",
     )

@@ -6,7 +6,7 @@ from ruzgalt.answers import Answer, calendar, picks, unions
 from ruzgalt.answers.amounts import Amounts
 from ruzgalt.commands import printed
 from ruzgalt.commands.given import last, read, refuse_names, warn
-from ruzgalt.commands.words import words_of_where
+from ruzgalt.commands.words import filled, words_of_where
 from ruzgalt.errors import Misfit
 from ruzgalt.periods import pieces
 
@@ -19,7 +19,7 @@ OF_COALESCE = """The periods are as long as possible. Without a COLUMN all recor
 
 
 def words_of_months(parser: ArgumentParser) -> None:
-    parser.add_argument("pick", nargs="?", metavar="PICK", help="the answer, if it isn't the last")
+    parser.add_argument("pick", type=filled, nargs="?", metavar="PICK", help="the answer, if it isn't the last")
     parser.add_argument("--sum", required=True, metavar="COLUMN", help="the column of the amounts")
     parser.add_argument(
         "--by", action="append", default=[], metavar="COLUMN", help="sums for each of its values; may be repeated",

@@ -7,7 +7,7 @@ from typing import Sequence
 
 from ruzgalt.answers import Answer
 from ruzgalt.answers.amounts import Amounts
-from ruzgalt.commands.words import decimals, words_of_where
+from ruzgalt.commands.words import decimals, filled, words_of_where
 from ruzgalt.errors import Misfit
 from ruzgalt.pictures import figures, svg, terminal
 from ruzgalt.script.language import Answered
@@ -15,8 +15,10 @@ from ruzgalt.script.language import Answered
 
 def words_of_picture(parser: ArgumentParser) -> None:
     parser.add_argument("--svg", action="store_true", help="prints SVG for a browser, and not text")
-    parser.add_argument("--by", metavar="COLUMN", help="a lane for each of its values (of the first column)")
-    parser.add_argument("--label", metavar="COLUMN", help="the column that labels the bars")
+    parser.add_argument(
+        "--by", type=filled, metavar="COLUMN", help="a lane for each of its values (of the first column)",
+    )
+    parser.add_argument("--label", type=filled, metavar="COLUMN", help="the column that labels the bars")
     words_of_where(parser)
     parser.add_argument("--from", dest="start", metavar="POINT", help="the first point that is shown")
     parser.add_argument("--to", dest="end", metavar="POINT", help="the end of what is shown")

@@ -1,18 +1,44 @@
 """Words of command lines that several tools take, as what they say."""
 import sys
-from argparse import ArgumentParser, ArgumentTypeError, Namespace
-from typing import NoReturn, Optional, Tuple
+from argparse import Action, ArgumentError, ArgumentParser, ArgumentTypeError, Namespace
+from typing import Any, NoReturn, Optional, Tuple
 
 from ruzgalt.answers.amounts import Amounts
 from ruzgalt.answers.shown import Look
 from ruzgalt.commands import screen
 
 
+class Once(Action):
+    """Keeps the value of an option. A second one would take its place in silence, so it is refused."""
+
+    is_given = False
+
+    def __call__(
+        self, parser: ArgumentParser, namespace: Namespace, values: Any, option_string: Optional[str] = None,
+    ) -> None:
+        if option_string and self.is_given:
+            raise ArgumentError(self, "given twice")
+        self.is_given = True
+        setattr(namespace, self.dest, values)
+
+
 class Words(ArgumentParser):
     """The words of a tool. What is wrong with them is said without what would act on a terminal."""
 
+    def __init__(self, **words: Any) -> None:
+        super().__init__(**words)
+        # What an option does that says nothing of it.
+        self.register("action", None, Once)
+
     def error(self, message: str) -> NoReturn:
         super().error(screen.visible(message) if sys.stderr.isatty() else message)
+
+
+def filled(word: str) -> str:
+    """A word that has something: that of a variable which isn't set in a shell would be taken for none."""
+    if not word:
+        raise ArgumentTypeError("the word is empty")
+    return word
 
 
 def pair(word: str) -> Tuple[str, str]:

@@ -152,7 +152,7 @@ class Written:
         words = [f"--title={title}", f"--note={note}", *([] if diary is None else [f"--diary={diary}"])]
         words += [f"--ask={question}" for question in asked]
         with kept(self.book, Path(path).with_suffix(".csv").name) as file, refusing():
-            options = answers_tool.parser_of("page", answers_tool.TOOLS["page"]).parse_intermixed_args([file, *words])
+            options = answers_tool.options_of("page", [file, *words])
             write(path, document.pieces(contents.of(sources.ask(options), diary)))
 
     def picture(self, question: str, *, by: Optional[str] = None, label: Optional[str] = None, where: Where = None,
