@@ -69,6 +69,21 @@ class Ends(unittest.TestCase):
         self.assertIn("<polygon", picture(script + "agg,t,sum,cents\n", answered, "--svg"))
 
 
+class Scales(unittest.TestCase):
+    def test_the_lines_of_steps_begin_below_each_other(self) -> None:
+        for number in (5, -7, 10 ** 15, -(10 ** 15)):
+            script, _ = rows_of([f"2024-01-01,2025-01-01,A,{number}"])
+            listed = f"ok,1\nok,2\nrow,1,2024-01-01,2025-01-01,A,{number}\nend,1\n"
+            for by, value in (("", ""), (",by,flat", "A,")):
+                answered = f"{listed}row,{value}2024-01-01,2025-01-01,{number}\nend,1\n"
+                drawn = picture(f"{script}agg,t,sum,cents{by}\n", answered, "--width", "40", "--decimals", "cents=2")
+                lines = drawn.splitlines()[1 + bool(by):-1]
+                found = [re.fullmatch(r" *(-?[\d,.]+)(?: [-+#.' ]*)?", line) for line in lines]
+                with self.subTest(drawn):
+                    self.assertEqual(len({one and one.end(1) for one in found} - {None}), 1)
+                    self.assertNotIn(None, found)
+
+
 class Labels(unittest.TestCase):
     VERSIONS = "version,1,2024-01-01,2025-01-01,2,3,A,5\n"
 

@@ -4,7 +4,7 @@ A period that goes on past the edge has `<` or `>` there. One that is shorter th
 cell are `*`. Of steps, `#` is a value that reaches the line, `.` one that reaches none, or `'` where it is below zero,
 and `-` a line at zero.
 """
-from typing import Iterator, List, Optional, Sequence
+from typing import Iterator, List, Optional, Sequence, Tuple
 
 from ruzgalt.pictures.cells import front_of, shortened, to_cells, to_width, width_of
 from ruzgalt.pictures.scales import Scale, begun_at
@@ -14,6 +14,8 @@ from ruzgalt.script.forms import seconds
 
 # So many lines has the height of steps at most, and that of each of several groups.
 LINES, LINES_OF_GROUP = 12, 4
+# So many cells steps have at least, however long numbers are.
+LEAST = 10
 
 
 def draw(picture: Picture, width: int) -> str:
@@ -96,9 +98,9 @@ def draw_steps(picture: Steps, width: int) -> str:
     """Columns of `#` from zero to the greatest value of each cell's time; no column where there is no value."""
     scale = Scale(picture.values, LINES)
     names = picture.scale([scale.foot, *scale.levels])
-    margin = margin_for(names, width)
-    marks, texts = axis(picture.span, margin, width - margin)
-    lines = [begun_at(picture, scale), *lines_of(picture, scale, names, margin, width), texts]
+    margin, cells = sides_of(names, width)
+    marks, texts = axis(picture.span, margin, cells)
+    lines = [begun_at(picture, scale), *lines_of(picture, scale, names, margin, cells), texts]
     return "\n".join(line.rstrip() for line in lines) + "\n"
 
 
@@ -106,20 +108,26 @@ def draw_groups(picture: Groups, width: int) -> str:
     """The steps of each group below its name."""
     scale = Scale(picture.values, LINES_OF_GROUP)
     names = picture.groups[0][1].scale([scale.foot, *scale.levels])
-    margin = margin_for(names, width)
+    margin, cells = sides_of(names, width)
     lines = [begun_at(picture, scale)]
     for name, steps in picture.groups:
-        lines.extend([to_width(shortened(name, width, ".."), width), *lines_of(steps, scale, names, margin, width)])
-    lines.append(axis(picture.span, margin, width - margin)[1])
+        lines.extend([to_width(shortened(name, width, ".."), width), *lines_of(steps, scale, names, margin, cells)])
+    lines.append(axis(picture.span, margin, cells)[1])
     return "\n".join(line.rstrip() for line in lines) + "\n"
 
 
-def lines_of(picture: Steps, scale: Scale, names: Sequence[str], margin: int, width: int) -> Iterator[str]:
+def sides_of(names: Sequence[str], width: int) -> Tuple[int, int]:
+    """The width of the levels' names and a space, of which none is shortened, and the cells that it leaves to steps."""
+    margin = max(map(width_of, names)) + 1
+    return margin, max(width - margin, LEAST)
+
+
+def lines_of(picture: Steps, scale: Scale, names: Sequence[str], margin: int, cells: int) -> Iterator[str]:
     """A line for each level of the scale, the highest first, with its name; then the axis without its texts."""
-    columns = columns_of(picture, width - margin)
+    columns = columns_of(picture, cells)
     for level, name in reversed(list(zip(scale.levels, names[1:]))):
         yield name.rjust(margin - 1) + " " + "".join(step_cell(value, level, scale) for value in columns)
-    yield names[0].rjust(margin - 1) + axis(picture.span, margin, width - margin)[0][margin - 1:]
+    yield names[0].rjust(margin - 1) + axis(picture.span, margin, cells)[0][margin - 1:]
 
 
 def step_cell(value: Optional[int], level: int, scale: Scale) -> str:
