@@ -50,16 +50,19 @@ def first_difference(found: Iterable[Texts], wanted: Iterable[Texts]) -> Optiona
 def of_join(replay: Replay, answer: Answer) -> Optional[str]:
     left, right = sides_of(replay, answer)
     ones, others = keys_by_id(left), keys_by_id(right)
-    for start, end, one, other, *values in answer.table.texts():
+    count, before = 0, ("", "", 0, 0)
+    for count, record in enumerate(answer.table.texts(), 1):
+        start, end, one, other, *values = record
         if one not in ones or other not in others or ones[one][0] != others[other][0]:
             return f"rows {one} and {other} don't match, or aren't shown by commit {answer.commit}"
         both = ones[one][1], others[other][1]
         shared = max(row.start for row in both), min(row.end for row in both)
         if not start < end or (start, end) != shared or tuple(values) != both[0].values + both[1].values:
             return f"rows {one} and {other} have other values, or share another period"
-    pairs = {(record[2], record[3]) for record in answer.table.texts()}
+        if before >= (start, end, int(one), int(other)):
+            return f"record {count} of the answer, {short(to_record(record))}, stands there twice, or too late"
+        before = start, end, int(one), int(other)
     wanted = sum(shared_times(left[key], right[key]) for key in left if key in right)
-    count = len(pairs)
     return None if count == wanted else f"it has {count} pairs of rows, but the changes before it give {wanted}"
 
 
