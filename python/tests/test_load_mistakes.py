@@ -52,6 +52,15 @@ class Refused(Case):
             self.refused(f"such as 5000; --decimals Pay={digits} makes", rows(f'A,"{number}",{PERIOD}'), *table)
         self.loaded(f"load,pay\nrow,{PERIOD},A,5\nend\n", rows(f"A,05,{PERIOD}"), *table, "--decimals", "Pay=0")
 
+    def test_a_number_that_is_too_great_is_offered_no_decimals(self) -> None:
+        table = [*WORDS, "--table", "table,pay,name,text,pay,int"]
+        for number in (1 << 63, -(1 << 63) - 1, 10 ** 30):
+            for words in (table, [*table, "--decimals", "Pay=0"]):
+                wrong = f"Pay is '{number}': the store's numbers are from -9223372036854775808 to 9223372036854775807"
+                self.refused(wrong, rows(f"A,{number},{PERIOD}"), *words)
+        for number in ((1 << 63) - 1, -(1 << 63)):
+            self.loaded(f"load,pay\nrow,{PERIOD},A,{number}\nend\n", rows(f"A,{number},{PERIOD}"), *table)
+
     def test_a_file_as_a_column_is_refused_as_that(self) -> None:
         self.refused(f"{__file__} is a file: give it by --file or `<`", rows(f"A,1,{PERIOD}"), *WORDS, __file__)
 

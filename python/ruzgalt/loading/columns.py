@@ -8,8 +8,8 @@ from ruzgalt.checking.looks import LookAlikes, are_plain, doubt_of
 from ruzgalt.errors import Misfit
 from ruzgalt.loading import dates
 from ruzgalt.loading.dates import NO_END
-from ruzgalt.loading.decimals import SPACES, Scale
-from ruzgalt.script.forms import TEXT_LIMIT, in_lines, is_integer, is_short
+from ruzgalt.loading.decimals import NUMBERS, SPACES, Scale
+from ruzgalt.script.forms import INTEGER, TEXT_LIMIT, in_lines, is_integer, is_short
 from ruzgalt.script.records import Printer, visible
 from ruzgalt.script.schemas import Kind
 
@@ -150,12 +150,7 @@ class Text(Column):
     def value(self, text: str) -> str:
         made = text.translate(TO_SPACE) if self.has_plain_spaces else text
         if self.kind is Kind.INT:
-            if not is_integer(made):
-                # Of a number with zeros in front cents are seldom meant.
-                digits = 0 if made.isdecimal() else 2
-                remedy = f"--decimals {self.name}={digits} makes other numbers whole"
-                raise Misfit(f"not a whole number, such as 5000; {remedy}")
-            return made
+            return self.number(made)
         if len(made) > SHORT and not is_short(made):
             raise Misfit("a text can have at most 4,096 bytes")
         why = doubt_of(made, self.mark)
@@ -167,6 +162,16 @@ class Text(Column):
         elif self.is_key and not made:
             self.doubts[text] = Doubt("empty", "it is empty, so all such rows have the same key")
         return made
+
+    def number(self, text: str) -> str:
+        """A whole number of the store, taken as it is."""
+        if is_integer(text):
+            return text
+        if INTEGER.fullmatch(text):
+            raise Misfit(NUMBERS)
+        # Of a number with zeros in front cents are seldom meant.
+        digits = 0 if text.isdecimal() else 2
+        raise Misfit(f"not a whole number, such as 5000; --decimals {self.name}={digits} makes other numbers whole")
 
 
 def point_text(value: str, is_cut: bool) -> str:

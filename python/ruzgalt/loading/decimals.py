@@ -10,6 +10,7 @@ from ruzgalt.script.forms import in_lines, is_integer
 SPACES, APOSTROPHES = " \u00a0\u202f", "'\u2019"
 # All numbers with fewer digits are some of the store's.
 LONGEST_NUMBER = 18
+NUMBERS = "the store's numbers are from -9223372036854775808 to 9223372036854775807"
 # One mark, with three digits after it, parts thousands as well as decimals.
 EITHER = re.compile(r"-?[1-9]\d{0,2}[.,]\d{3}", re.ASCII)
 
@@ -140,7 +141,7 @@ class Scale:
         whole = (number.whole + number.decimals[:self.digits].ljust(self.digits, "0")).lstrip("0")
         made = f"{number.sign}{whole}" if whole else "0"
         if not is_integer(made):
-            raise Misfit("the store's numbers are from -9223372036854775808 to 9223372036854775807")
+            raise Misfit(NUMBERS)
         return made
 
     def bare(self, text: str) -> str:
