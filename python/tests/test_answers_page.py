@@ -14,7 +14,7 @@ from unittest import mock
 
 from ruzgalt.answers import Answer
 from ruzgalt.errors import Misfit
-from ruzgalt.page import contents, document, drawings, sources
+from ruzgalt.page import contents, document, drawings, findings, sources
 from tests.support import TOP, ToolCase, kept, run
 from tests.test_answers import FAKE
 from tests.test_answers_scripts import SCRIPTS, found_in
@@ -314,12 +314,21 @@ class Limits(unittest.TestCase):
         data = data_of(page_of(script, "ok,1\n" + "end,0\n" * 1200))["data"]
         self.assertEqual((len(data["questions"]), data["questions"][0]["shown"]), (1000, 1000))
         self.assertEqual(data["leftOut"], ["200 questions after the first 1,000"])
+        self.assertEqual(data["counts"]["questions"], 1200)
         with mock.patch.object(contents, "AT_ONCE", 22):
             [question, *others] = data_of(example("pay"))["data"]["questions"]
             self.assertEqual(question["shown"], 1000)
         with mock.patch.object(contents, "AT_ONCE", 10):
             [question, *others] = data_of(example("pay"))["data"]["questions"]
             self.assertEqual((question["shown"], len(others)), (2, 3))
+
+    def test_all_findings_are_counted(self) -> None:
+        script = "rows,t\n" * 3 + "table,t,a,int\n" + f"delete,t,{TIME}\n" * 3 + "load,t\nend\n"
+        given = "".join(f"error,{number},NoTable\n" for number in range(1, 4)) + "ok,1\nok,2\nok,3\nok,4\nok,5\n"
+        with mock.patch.object(findings, "LISTED", 1):
+            data = data_of(page_of(script, given))["data"]
+        self.assertEqual([len(data[what]) for what in ("refused", "idle", "doubtful")], [1, 1, 0])
+        self.assertEqual(data["counts"], {"refused": 3, "idle": 4, "doubtful": 0, "questions": 0})
 
     def test_what_is_shown_at_once_is_there_without_room(self) -> None:
         with mock.patch.object(contents, "ROOM", 0):

@@ -64,6 +64,7 @@ def of(sources: Sources, diary: Optional[str]) -> Contents:
         "isOwn": sources.is_own, "isDoneAgain": sources.is_done_again, "hasPrinted": sources.has_printed,
         "tool": called.ANSWERS, "isInstalled": called.IS_INSTALLED, "answers": len(sources.answers),
         "refused": as_objects(found.refused), "idle": as_objects(found.idle), "doubtful": as_objects(doubtful),
+        "counts": counts_of(found, len(doubtful) - len(found.doubtful), len(asked)),
         "diary": diary, "newest": len(commits), "commits": parts.first(commits, COMMITS, "commits"),
         "shown": SHOWN, "questions": list(parts.questions(kept)),
         "pairs": [[then.number, now.number] for then, now in pairs_of(kept)],
@@ -73,6 +74,13 @@ def of(sources: Sources, diary: Optional[str]) -> Contents:
     if found.left_out:
         parts.left_out.append(f"{found.left_out:,} findings: `{called.ANSWERS} refusals` lists all")
     return Contents({**data, "leftOut": parts.left_out}, parts.lists)
+
+
+def counts_of(found: findings.Findings, others: int, questions: int) -> Dict[str, int]:
+    """How many there are of what the page may have in part: findings, beside which others are doubtful, and questions.
+    """
+    refused, idle, doubtful = found.counts
+    return {"refused": refused, "idle": idle, "doubtful": doubtful + others, "questions": questions}
 
 
 Thing = TypeVar("Thing")

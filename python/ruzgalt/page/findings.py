@@ -29,8 +29,13 @@ class Findings(NamedTuple):
     refused: List[Finding]
     idle: List[Finding]
     doubtful: List[Finding]
-    # How many of them aren't listed.
-    left_out: int
+    # How many of each kind there are, listed or not.
+    counts: Tuple[int, int, int]
+
+    @property
+    def left_out(self) -> int:
+        """How many aren't listed."""
+        return sum(self.counts) - len(self.refused) - len(self.idle) - len(self.doubtful)
 
 
 def of(sources: Sources, counts: Tally) -> Findings:
@@ -39,9 +44,8 @@ def of(sources: Sources, counts: Tally) -> Findings:
     changes = [answer for answer in sources.answers if is_idle(answer, counts)]
     idle = [finding(one, "", why_idle(one, sources)) for one in changes[:LOOKED_AT]]
     idle.extend(finding(one, "", "no row that it matches holds in that time") for one in changes[LOOKED_AT:])
-    kinds = refused, idle, doubtful
-    left_out = sum(max(len(kind) - LISTED, 0) for kind in kinds)
-    return Findings(refused[:LISTED], idle[:LISTED], doubtful[:LISTED], left_out)
+    of_each = len(refused), len(idle), len(doubtful)
+    return Findings(refused[:LISTED], idle[:LISTED], doubtful[:LISTED], of_each)
 
 
 def finding(answer: Answer, name: str, reason: str, more: Sequence[str] = ()) -> Finding:

@@ -38,9 +38,10 @@ function showHead() {
   document.querySelector("h1").textContent = title;
   const notes = data.note.split("\n").filter((line) => line.trim());
   document.querySelector("h1").after(...notes.map((line) => make("p", { class: "note" }, line)));
-  const findings = [[data.refused, "refused"], [data.idle, "touched nothing"], [data.doubtful, "may not be meant"]];
-  const short = findings.map(([found, what]) => `${grouped(found.length)} ${what}`).join(", ");
-  const counts = `${counted(data.newest, "commit")}, ${counted(data.questions.length, "question")}; ${short}.`;
+  const { refused, idle, doubtful, questions } = data.counts;
+  const findings = [[refused, "refused"], [idle, "touched nothing"], [doubtful, "may not be meant"]];
+  const short = findings.map(([count, what]) => `${grouped(count)} ${what}`).join(", ");
+  const counts = `${counted(data.newest, "commit")}, ${counted(questions, "question")}; ${short}.`;
   const facts = [["Script", fileText(data.script)], ["Answered by", answeredBy()], ["Done again", [doneAgain()]], ["In short", [counts]]];
   for (const [what, text] of facts) {
     document.getElementById("facts").append(make("dt", {}, what), make("dd", {}, ...text));
@@ -48,23 +49,23 @@ function showHead() {
   document.getElementById("facts").after(savingChoice());
 }
 
-function showFindings(title, found, about, none) {
-  section("first", make("h3", {}, `${title}: ${grouped(found.length)}`), make("p", {}, found.length ? about : none));
+function showFindings(title, found, count, about, none) {
+  section("first", make("h3", {}, `${title}: ${grouped(count)}`), make("p", {}, found.length ? about : none));
   if (found.length) {
     const isNamed = found.some((one) => one.name);
     const name = isNamed ? [["refusal", "bad"]] : [];
     const columns = [["place", "short"], ["command", "code"], ...name, ["reason", "reason"]];
     const records = found.map((one) => [one.place, one.command, ...(isNamed ? [one.name] : []), [one.reason, ...one.more].join("\n")]);
-    section("first", new Grid({ label: title, columns, records }).element);
+    section("first", new Grid({ label: title, columns, records, count }).element);
   }
 }
 
 function showFirst() {
-  showFindings("Refused commands", data.refused,
+  showFindings("Refused commands", data.refused, data.counts.refused,
     "Each changed nothing: none of its rows was taken, and it is no commit.", "No command was refused.");
-  showFindings("Changes that touched nothing", data.idle,
+  showFindings("Changes that touched nothing", data.idle, data.counts.idle,
     "Each is a commit, but no row was made or closed.", "Each change of rows made or closed some.");
-  showFindings("What may not be meant", data.doubtful,
+  showFindings("What may not be meant", data.doubtful, data.counts.doubtful,
     "Each was done as it is written. Whether it is meant, its author knows.", "Nothing else was noticed.");
 }
 
