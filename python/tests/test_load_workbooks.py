@@ -107,6 +107,16 @@ class Workbooks(ToolCase):
         wanted = [["load", "t"], *(row.fields for row in rows), ["end"]]
         self.assertEqual(list(csv.reader(io.StringIO(text, newline=""))), wanted)
 
+    def test_control_characters_are_those_that_excel_has_put_in_other_words(self) -> None:
+        """XML has none but tabs and line ends, so a workbook has their codes."""
+        for written, field in [
+            ("12 Main St_x000D_\nYork", '"12 Main St\r\nYork"'), ("a_x000d_b", '"a\rb"'), ("a_x001F_b", "a\x1fb"),
+            ("a_x0041_b", "a_x0041_b"), ("x000D_", "x000D_"), ("_x0000_", "_x0000_"), ("a_x000D", "a_x000D"),
+        ]:
+            row = [date(2024, 1, 1), date(2024, 2, 1), written]
+            status, text, said = loaded(workbook({"A": [["From", "To", "N"], row]}), ["N"])
+            self.assertEqual((status, text), (0, f"load,t\nrow,2024-01-01,2024-02-01,{field}\nend\n"), said)
+
     @DRAWN
     @given(st.integers(-10**14, 10**14), st.integers(0, 6), st.booleans())
     def test_decimals_are_those_of_the_number(self, number: int, digits: int, is_german: bool) -> None:

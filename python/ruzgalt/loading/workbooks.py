@@ -4,6 +4,7 @@ A date is a date there, and a number a number, so neither is read by its looks. 
 was last computed.
 """
 import io
+import re
 import warnings
 from collections import Counter
 from datetime import date, datetime, time
@@ -18,6 +19,8 @@ from ruzgalt.loading.sheets import PIECE, Piece, composed
 from ruzgalt.script.records import visible
 
 BEGINNING = b"PK\x03\x04"
+# How a workbook has a control character in a text, as the CR of a line that another program ended: XML has no such.
+ESCAPED = re.compile("_x00((?!00)[01][0-9A-Fa-f])_")
 NEEDED = "apt-get install python3-openpyxl, or save the sheet as CSV UTF-8"
 
 
@@ -104,7 +107,7 @@ def text_of(value: Any, mark: str) -> str:
         return value.isoformat().replace("T00:00:00", "") if value.time() == time() else value.isoformat()
     if isinstance(value, float):
         return text_of_number(value, mark)
-    return value if isinstance(value, str) else str(value)
+    return ESCAPED.sub(lambda found: chr(int(found[1], 16)), value) if isinstance(value, str) else str(value)
 
 
 def text_of_number(value: float, mark: str) -> str:
