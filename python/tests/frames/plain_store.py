@@ -124,7 +124,7 @@ def changed(table, before, after):
     for sign, commit in ((-1, before), (1, after)):
         for row in table.shown(commit):
             for day in range(row["start"], row["end"]):
-                more[day, *table.cells(row)] += sign
+                more[(day, *table.cells(row))] += sign
     return Counter({("+" if count > 0 else "-", *key): abs(count) for key, count in more.items() if count})
 
 

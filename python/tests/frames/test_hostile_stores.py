@@ -181,7 +181,7 @@ class Stores(stateful.RuleBasedStateMachine):
         place, found = names.index("change"), Counter()
         for row in got.itertuples(index=False, name=None):
             for day in range(hostile.day(row[place + 1]), form.end(row[place + 2])):
-                found[row[place], day, *row[place + 3:]] += 1
+                found[(row[place], day, *row[place + 3:])] += 1
         return found
 
     @precondition(lambda self: self.forms)
