@@ -63,6 +63,12 @@ def refuse_two_zones(one: Kind, other: Kind, name: Any) -> None:
         raise Refused("WrongKind", f"{reason}; .dt.tz_convert(ZONE) of both, or {WITHOUT_ZONE} of both", name)
 
 
+def refuse_mixed(names: Set[str], column: Any) -> None:
+    """Raises Refused where the points of the column of this name are of both kinds of objects."""
+    if {"date", "datetime"} <= names:
+        raise Refused("WrongKind", "dates and datetimes in one column: pandas.to_datetime makes one kind", column)
+
+
 def joint_kind(*kinds: Kind) -> Kind:
     """The kind of an answer from frames of these: the same one, the coarser unit of two, else period[S]."""
     there = [kind for kind in kinds if kind.name]

@@ -33,6 +33,8 @@ WORDS = inspect.signature(dd.DataFrame.shuffle).parameters
 HOW = {"shuffle_method" if "shuffle_method" in WORDS else "shuffle": "tasks"}
 # Asked of frames of pandas: left, right, on, options.
 Pairs = Callable[[Any, Any, Names, Options], Any]
+# Of each partition of a frame the kinds of its starts and of its ends.
+Looks = Sequence[Sequence[kinds.Kind]]
 
 
 @contextmanager
@@ -152,20 +154,20 @@ def mapped(asked: Asked, rows: Sequence[Any], frames: Sequence[Any]) -> Any:
 
 
 def kinds_of(frames: Sequence[Any], options: Options) -> List[Any]:
-    """A frame of Dask with the kind of all points of these frames, where these are objects.
+    """A frame of Dask with the kind of all points of these frames, where some are objects; without it beside others.
 
-    A partition without a datetime, where others have some, would answer dates.
+    A partition without a datetime, where others have some, would answer dates; and none sees all of a column.
     """
     metas = zip(frames, options.periods)
     columns = [one for frame, period in metas for one in intervals.bounds_of(frame._meta, period)]
-    if options.points_as or any(points.seconds_of(column)[1].name for column in columns):
+    are_known = [bool(points.seconds_of(column)[1].name) for column in columns]
+    if all(are_known):
         return []
     looks = [
-        dask.delayed(sent(kinds_in, period))(part)
+        [dask.delayed(sent(kinds_in, period))(part) for part in frame.to_delayed(optimize_graph=False)]
         for frame, period in zip(frames, options.periods)
-        for part in frame.to_delayed(optimize_graph=False)
     ]
-    joint = dask.delayed(sent(joint_in))(looks)
+    joint = dask.delayed(sent(joint_in, options.periods, not any(are_known)))(looks)
     made = dd.from_delayed([joint], meta=in_cell(kinds.Kind()).iloc[:0], verify_meta=False)
     # Older versions of Dask give a frame as it is made to the first partition alone.
     return [made.partitions[0]]
@@ -176,8 +178,16 @@ def kinds_in(frame: Any, period: Sequence[Any]) -> List[kinds.Kind]:
     return [points.seconds_of(one, is_open=True)[1] for one in intervals.bounds_of(frame, period)]
 
 
-def joint_in(found: Sequence[Sequence[kinds.Kind]]) -> Any:
-    return in_cell(kinds.joint_kind(*chain.from_iterable(found)))
+def joint_in(found: Sequence[Looks], periods: Sequence[Sequence[Any]], is_asked: bool) -> Any:
+    joint = kinds.joint_kind(*map(joint_of, found, periods))
+    return in_cell(joint if is_asked else kinds.Kind())
+
+
+def joint_of(found: Looks, period: Sequence[Any]) -> kinds.Kind:
+    """The kind of the points in the partitions of a frame. Raises Refused of a column with dates and datetimes."""
+    for name, column in zip((period[0], period[-1]), zip(*found)):
+        kinds.refuse_mixed({kind.name for kind in column}, name)
+    return kinds.joint_kind(*chain.from_iterable(found))
 
 
 def in_cell(kind: kinds.Kind) -> Any:
@@ -200,7 +210,7 @@ class Known:
     def __call__(self, *given: Any) -> Any:
         rows, (kind, *others, options) = given[:self.count], given[self.count:]
         name = [*kinds.NAMES, None][int(kind["kind"].iloc[0])]
-        return self.function(*rows, *others, replace(options, points_as=name))
+        return self.function(*rows, *others, replace(options, points_as=options.points_as or name))
 
 
 def by_value(frame: Any, names: Sequence[Any], decimals: Mapping[Any, int], parts: int) -> Any:

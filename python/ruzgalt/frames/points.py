@@ -15,7 +15,7 @@ import pandas as pd
 from ruzgalt.frames import arrow, printing, zones
 from ruzgalt.frames.arrays import Cells, Ints, Marks, of_objects
 from ruzgalt.frames.errors import Refused, label_at, refuse
-from ruzgalt.frames.kinds import DAYS, NS, OFFSETS, UNITS, Kind
+from ruzgalt.frames.kinds import DAYS, NS, OFFSETS, UNITS, Kind, refuse_mixed
 from ruzgalt.frames.printing import FOURS, Printed
 from ruzgalt.frames.zones import DAY
 from ruzgalt.script import forms
@@ -198,8 +198,7 @@ def of_dates(column: Any) -> Tuple[Ints, Kind]:
         raise Refused("WrongKind", reason, column.name)
     codes, found = pd.factorize(np.asarray(column, object))
     kinds = {"datetime" if isinstance(one, datetime.datetime) else "date" for one in found}
-    if len(kinds) > 1:
-        raise Refused("WrongKind", "dates and datetimes in one column: pandas.to_datetime makes one kind", column.name)
+    refuse_mixed(kinds, column.name)
     for place, one in enumerate(found):
         if not is_second(one):
             label = label_at(codes == place, column.index)

@@ -10,7 +10,7 @@ import dask.dataframe as dd
 import numpy as np
 import pandas as pd
 
-from ruzgalt.frames import clipping, doubts, groups, kinds, pairs, split
+from ruzgalt.frames import clipping, doubts, groups, pairs, split
 from ruzgalt.frames.answer import Columns
 from ruzgalt.frames.arrays import NO_INTS, Ints
 from ruzgalt.frames.ask import Found
@@ -18,7 +18,7 @@ from ruzgalt.frames.computed import counted
 from ruzgalt.frames.kinds import Kind
 from ruzgalt.frames.measures import Ask, Measures, asks_of, columns_of, measured_by
 from ruzgalt.frames.options import Options
-from ruzgalt.frames.partitions import PART, by_part, keeping_objects, with_kind
+from ruzgalt.frames.partitions import PART, by_part, joint_of, keeping_objects, kinds_in, with_kind
 from ruzgalt.frames.sides import Side
 from ruzgalt.frames.values import Values
 from ruzgalt.frames.worker import sent
@@ -76,20 +76,24 @@ def cuts_of(frame: Any, asked: Question, parts: int) -> Tuple[Ints, Kind]:
     """Points that part the rows into slices of about as many starts and ends, and the kind of the frame's points."""
     look = counted(sample, asked.options, frame.npartitions)
     samples = dask.compute(*[delayed(look, asked)(part) for part in frame.to_delayed()])
-    kind, times = kinds.joint_kind(*(one for _, one in samples)), np.concatenate([times for times, _ in samples])
+    kind = joint_of([found for _, found in samples], asked.options.period)
+    times = np.concatenate([times for times, _ in samples])
     if not len(times) or parts < 2:
         return NO_INTS, kind
     return np.unique(np.quantile(times, np.arange(1, parts) / parts).astype(np.int64)), kind
 
 
-def sample(frame: Any, asked: Question) -> Tuple[Any, Kind]:
-    """Some of the starts and ends, but of neither the first start nor the last end, as that of all that go on."""
-    side = asked.side_of(frame)
+def sample(frame: Any, asked: Question) -> Tuple[Any, Sequence[Kind]]:
+    """Some of the starts and ends, but of neither the first start nor the last end, as that of all that go on.
+
+    Beside them are the kinds of both.
+    """
+    side, found = asked.side_of(frame), kinds_in(frame, asked.options.period)
     if not len(side):
-        return np.empty(0), side.kind
+        return np.empty(0), found
     times = [side.start[side.start > side.start.min()], side.end[side.end < side.end.max()]]
-    found = np.concatenate(times)
-    return np.quantile(found, QUANTILES) if len(found) else np.empty(0), side.kind
+    ordered = np.concatenate(times)
+    return np.quantile(ordered, QUANTILES) if len(ordered) else np.empty(0), found
 
 
 def pieces(frame: Any, asked: Question, cuts: Ints) -> Any:

@@ -371,6 +371,29 @@ class Spread(unittest.TestCase):
             same = ruzgalt.join(left, left, on="k", how="left", parts=4).compute(scheduler="sync")
             self.assertEqual(set(map(type, same["from"])), {datetime.date})
 
+    def test_dates_and_datetimes_in_one_column_are_refused_as_of_pandas(self):
+        """Also where no partition has both."""
+        days = day_of(column(TEXTS[:4], object))
+        dates, times = (
+            days.assign(**{name: objects_of(days[name], made) for name in ("from", "to")})
+            for made in (pd.Timestamp.date, pd.Timestamp.to_pydatetime)
+        )
+        whole = dates.assign(to=column([*dates["to"][:2], *times["to"][2:]], object))
+        calls = [
+            lambda frame: ruzgalt.join(frame, dates, on="k"), lambda frame: ruzgalt.anti(dates, frame, on="k"),
+            lambda frame: ruzgalt.join(frame, days, on="k", how="left"),
+            lambda frame: ruzgalt.agg(frame, "count"), lambda frame: ruzgalt.agg(frame, "count", by="k"),
+            lambda frame: ruzgalt.coalesce(frame, "k", points_as="S"), lambda frame: ruzgalt.overlaps(frame, "k"),
+        ]
+        for place, asked in enumerate(calls):
+            with self.subTest(place), dask.config.set({"dataframe.convert-string": False}):
+                with self.assertRaises(ruzgalt.Refused) as of_pandas:
+                    asked(whole)
+                with self.assertRaises(ruzgalt.Refused) as of_dask:
+                    asked(dd.from_pandas(whole, npartitions=2)).compute(scheduler="sync")
+                self.assertEqual(of_dask.exception.args, of_pandas.exception.args)
+                self.assertEqual((of_dask.exception.name, of_dask.exception.column), ("WrongKind", "to"))
+
     def test_an_answer_is_a_frame_of_dask_as_others_are(self):
         one = day_of(column(NUMBERS, "int64"))
         spread = dd.from_pandas(one, npartitions=3)
