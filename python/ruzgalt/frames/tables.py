@@ -5,6 +5,7 @@ A column of a frame may have any name, and has one of the language in the store:
 from __future__ import annotations
 
 from dataclasses import dataclass, field, replace
+from types import MappingProxyType
 from typing import Any, Iterable, Iterator, List, Mapping, Optional, Sequence, Tuple
 
 from ruzgalt.frames import checks, instants, intervals, kinds, points, sides, singles, stand_ins, values
@@ -19,6 +20,8 @@ from ruzgalt.frames.singles import Cell
 from ruzgalt.frames.values import Texts, Values
 from ruzgalt.script import forms, naming
 
+# Of a table that isn't made yet.
+NO_COLUMNS: Mapping[Any, Values] = MappingProxyType({})
 # What is done in place of a question about a column that may have missing cells.
 OF_FRAMES = "take rows(), .dropna() to leave such rows out, and ruzgalt.join, anti or agg"
 
@@ -87,7 +90,7 @@ class Table:
         for name in names_of(frame):
             if name not in self.period:
                 self.column(name)
-        side = side_of(frame, names, self.options)
+        side = side_of(frame, names, self.options, self.columns)
         refuse_points(side, self.period)
         for one in side.columns:
             self.refuse_kind(one)
@@ -174,12 +177,21 @@ class Table:
         return intervals.columns_of(self.period, points.series_of(start, kind), form.restored_ends(end, kind))
 
 
-def side_of(frame: Any, names: Sequence[Any], options: Options) -> Side:
-    """A frame's rows with the columns of these names, of a store's table with these options. Raises Refused."""
+def side_of(frame: Any, names: Sequence[Any], options: Options, known: Mapping[Any, Values] = NO_COLUMNS) -> Side:
+    """A frame's rows with the columns of these names, of a store's table with these options. Raises Refused.
+
+    known: the columns that the table has already, and that stand for objects without a row, which say no kind.
+    """
     found = [column_of(frame, name) for name in names]
     side = sides.side_of(frame, [], options.period, options.form, {})
-    given = [(options.decimals.get(name), options.missing.get(name)) for name in map(same, names)]
-    return replace(side, columns=[stand_ins.values_of(one, *words) for one, words in zip(found, given)])
+
+    def values_of(column: Any) -> Values:
+        name = same(column.name)
+        if name in known and column.dtype == object and not len(column):
+            return known[name]
+        return stand_ins.values_of(column, options.decimals.get(name), options.missing.get(name))
+
+    return replace(side, columns=list(map(values_of, found)))
 
 
 def coded(column: Values, cells: Cells) -> Values:

@@ -348,6 +348,22 @@ class Changes(Case):
                 made.delete("t", "2025-01-01", None)
         self.assertEqual([Path(one.filename).name for one in caught], [Path(__file__).name] * 2)
 
+    def test_objects_without_rows_are_taken_in_any_column(self):
+        """They are what pandas.DataFrame(columns=..) has, and a CSV file of a header alone."""
+        cells = {"n": [1, 2], "yes": [True, False], "hours": [1.25, 0.5], "note": pd.array([1, None], "Int64")}
+        rows = frame(**cells)
+        made = store(rows, key="k", decimals={"hours": 2}, missing={"note": -1})
+        none = pd.DataFrame(columns=list(rows))
+        for change in (lambda: made.load("t", none), lambda: made.update_rows("t", none)):
+            changed, doubts = quietly(change)
+            self.assertEqual((changed.added, changed.closed, len(doubts)), (0, 0, 1))
+        made.load("t", rows.assign(k=["c", "d"]))
+        got = made.rows("t").drop(columns="row_id")
+        wanted = pd.concat([rows, rows.assign(k=["c", "d"])], ignore_index=True)
+        pd.testing.assert_frame_equal(got, wanted)
+        known = none.astype({"n": "string"})
+        self.refuses(lambda: made.load("t", known), "WrongKind", "it is text")
+
     def test_empty_settings_are_refused(self):
         made = store(frame())
         self.refuses(lambda: made.update("t", "2024-01-10", None, {}, {"k": "a"}), "BadCommand", "set={}")
