@@ -28,11 +28,27 @@ def rows_at(frame: Any, rows: Ints, is_wide: bool = False) -> Any:
     if not is_wide and not (rows < 0).any():
         made = numbered.take(rows)
     else:
-        made = numbered.reindex(index=np.append(rows, -1)).iloc[:-1]
-        for place in range(len(frame.columns)):
+        labels = np.append(rows, -1)
+        made = numbered.reindex(index=labels)
+        for place, dtype in enumerate(frame.dtypes):
             refuse_rounded(frame.iloc[:, place], rows[rows >= 0], made.dtypes.iloc[place])
+            if isinstance(dtype, pd.SparseDtype):
+                made.isetitem(place, reindexed(numbered.iloc[:, place], labels))
+        made = made.iloc[:-1]
     made.index = pd.RangeIndex(len(rows))
     return made
+
+
+def reindexed(column: Any, labels: Any) -> Any:
+    """The column's cells under these labels, and a missing one under each that it hasn't.
+
+    Of a sparse column all of whose cells are its fill value, pandas makes all missing then.
+    """
+    made = column.reindex(labels)
+    if not isinstance(column.dtype, pd.SparseDtype) or column.array.npoints:
+        return made
+    dense = pd.Series(np.asarray(column), column.index).reindex(labels)
+    return pd.Series(pd.arrays.SparseArray(dense.astype(made.dtype.subtype), dtype=made.dtype), made.index)
 
 
 def labels_at(frame: Any, rows: Ints, is_wide: bool = False) -> Any:

@@ -13,6 +13,7 @@ import pandas as pd
 from ruzgalt.frames import checks, singles, values
 from ruzgalt.frames.arrays import Cells, equal_to
 from ruzgalt.frames.errors import Refused, refuse
+from ruzgalt.frames.missing import reindexed
 from ruzgalt.frames.singles import Cell
 from ruzgalt.frames.values import Texts, Values
 
@@ -70,4 +71,4 @@ def restored(column: Values, cells: Cells, stand_in: Optional[Cell]) -> Any:
         found = np.full(len(cells), None, object)
         found[~is_missing] = there
         return found
-    return pd.Series(there, np.flatnonzero(~is_missing)).reindex(range(len(cells)))
+    return reindexed(pd.Series(there, np.flatnonzero(~is_missing)), range(len(cells)))

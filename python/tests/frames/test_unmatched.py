@@ -2,6 +2,7 @@
 import datetime
 import unittest
 
+import numpy as np
 import pandas as pd
 
 import ruzgalt
@@ -104,6 +105,15 @@ class Unmatched(unittest.TestCase):
                     store.table(name, rows, decimals={"k": 1})
                 found = store.join("l", "r", on="k", how=how)["k"]
                 self.assertEqual((found.dtype, found.tolist()), ("float64", wanted))
+
+    def test_sparse_columns_of_their_fill_value_keep_it(self):
+        """Of these pandas itself makes missing cells of all, where one is missing."""
+        for cells in (np.zeros(2, "i8"), np.zeros(2), np.zeros(2, bool), np.array([0, 3]), np.array([0.0, np.nan])):
+            with self.subTest(cells.dtype):
+                sparse = frame({"k": [1, 2], "x": pd.arrays.SparseArray(cells, fill_value=cells.dtype.type(0))})
+                got = ruzgalt.join(sparse, frame({"k": [2, 3]}), on="k", how="outer")
+                self.assertEqual(list(got["x"].dropna()), list(cells[~np.isnan(cells)]))
+                self.assertIsInstance(got["x"].dtype, pd.SparseDtype)
 
     def test_objects_without_rows_meet_nothing_of_any_kind(self):
         """They are what pandas.DataFrame(columns=..) has."""
