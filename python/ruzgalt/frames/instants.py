@@ -60,13 +60,29 @@ def second_of(point: Any) -> int:
 
 
 def second_in(point: Any, zone: Any) -> int:
-    """The point's second of UTC; of one without a zone that at which clocks show it in the zone, a day its begin."""
+    """The point's second of UTC; of one without a zone that at which clocks show it in the zone, a day its begin.
+
+    9999-12-31 is no end in each zone.
+    """
     own = getattr(point, "tzinfo", None)
     if own is None:
-        return second_of(point) if zone is None else second_shown(second_of(point), point, zone)
+        wall = second_of(point)
+        return wall if zone is None or wall == points.NO_END else second_shown(wall, point, zone)
     if zone is None:
         raise Refused("WrongKind", f"{point!r}: dates and times here have no time zone; .tz_localize(None) removes it")
-    return second_of(pd.Timestamp(point).tz_convert(None))
+    return second_of(in_utc(point))
+
+
+def in_utc(point: Any) -> Any:
+    """A datetime of a zone as clocks show it in UTC. Raises Refused (BadPoint) outside of their years."""
+    if isinstance(point, pd.Timestamp):
+        return point.tz_convert(None)
+    if not isinstance(point, datetime.datetime):
+        return point
+    try:
+        return point.astimezone(datetime.timezone.utc).replace(tzinfo=None)
+    except OverflowError:
+        raise Refused("BadPoint", f"{point!r}: {REMEDIES['BadPoint']}") from None
 
 
 def second_shown(wall: int, point: Any, zone: Any) -> int:
@@ -93,7 +109,10 @@ def day_behind(point: Any, form: Form, zone: Any) -> int:
     """The second at which the day after a last day begins. That may be a day which was left out, and has no second."""
     if zone is None:
         return behind_of(point, form)
-    return int(zones.begins_of(np.array([wall_of(point, zone) + zones.DAY], np.int64), zone)[0])
+    wall = wall_of(point, zone)
+    if wall >= points.LAST_BUT_ONE:
+        return behind_of(points.EPOCH + datetime.timedelta(seconds=wall), form)
+    return int(zones.begins_of(np.array([wall + zones.DAY], np.int64), zone)[0])
 
 
 def span(start: Any, end: Any, form: Form, zone: Any) -> Tuple[int, int]:
@@ -102,7 +121,7 @@ def span(start: Any, end: Any, form: Form, zone: Any) -> Tuple[int, int]:
     behind = points.NO_END if end is None else second_in(end, zone)
     if form.has_last_days:
         seconds = np.array([first, *([] if end is None else [behind])], np.int64)
-        if zones.has_time(seconds, zone).any():
+        if zones.has_time(seconds[seconds != points.NO_END], zone).any():
             raise Refused("BadPoint", f"{start!r} to {end!r}: with last_day=True, both must be days, without times")
         behind = behind if end is None else day_behind(end, form, zone)
     if first >= behind:

@@ -12,15 +12,22 @@ import pandas as pd
 from ruzgalt.frames.arrays import Ints, Marks
 
 DAY = 86_400
+# Before pandas 2 its points are of nanoseconds: from the one second on and up to the other it has clocks.
+HAS_SECONDS = np.datetime_data(pd.DatetimeIndex(np.zeros(1, "M8[s]")).dtype)[0] == "s"
+FIRST, LAST = (np.datetime64(year, "s").astype(np.int64) for year in ("1678", "2262"))
 
 
 def walls_of(seconds: Ints, zone: Any) -> Ints:
-    """What clocks show at these seconds, as seconds from 1970 on."""
+    """What clocks show at these seconds, as seconds from 1970 on.
+
+    Outside of what pandas has they are as far from UTC as at its edge: no row of a frame is there.
+    """
     if zone is None:
         return seconds
-    points = pd.DatetimeIndex(np.ascontiguousarray(seconds).view("M8[s]")).tz_localize("UTC")
+    known = seconds if HAS_SECONDS else np.clip(seconds, FIRST, LAST)
+    points = pd.DatetimeIndex(np.ascontiguousarray(known).view("M8[s]")).tz_localize("UTC")
     shown = points.tz_convert(zone).tz_localize(None).to_numpy()
-    walls: Ints = shown.astype("M8[s]").view("i8")
+    walls: Ints = shown.astype("M8[s]").view("i8") + (seconds - known)
     return walls
 
 

@@ -41,6 +41,19 @@ def rows_in(got):
             for row in zip(*columns)]
 
 
+def walls_in(got):
+    """The points of an answer, as clocks show them."""
+    return [[str(cell)[:19] for cell in got[name]] for name in got]
+
+
+def outcome(call, rows, form):
+    """What it answers, or the name of its refusal."""
+    try:
+        return call(rows, **form)
+    except ruzgalt.Refused as refused:
+        return refused.name
+
+
 def night(random, count):
     """Rows of an hour to twelve of one night, in UTC."""
     begin, rows = random.choice(NIGHTS), []
@@ -265,6 +278,34 @@ class LastDays(unittest.TestCase):
         open_end = days.assign(to=pd.Series([pd.NaT], dtype=days["to"].dtype))
         got = ruzgalt.agg(open_end, "count", last_day=True, open_end=True)
         self.assertEqual((got["to"].tolist(), got["to"].dtype), ([pd.NaT], days["to"].dtype))
+
+    def test_far_points_are_taken_as_without_a_zone(self):
+        """Also those that datetime64[ns] can't have; 9999-12-31 is no end in each zone."""
+        starts, ends = map(pd.to_datetime, (["2024-01-05", "2024-03-05"], ["2024-02-07", None]))
+        plain = pd.DataFrame({"from": starts, "to": ends})
+        both = plain, plain.apply(lambda column: column.dt.tz_localize("Europe/Berlin"))
+        spans = [("1600-01-01", "9999-12-31"), ("0001-01-01", "2024-02-15"), ("2024-02-15", "9999-12-30"),
+                 ("2500-01-01", None), ("2024-02-15", "2600-01-01"), ("9999-12-31", "9999-12-31")]
+        calls = [lambda one, span=span, **given: ruzgalt.during(one, *span, **given).index.tolist() for span in spans]
+        calls += [lambda one, at=at, **given: ruzgalt.at(one, at, **given).index.tolist() for at, _ in spans]
+        calls += [lambda one, end=end, **given: walls_in(ruzgalt.gaps(one, within=("2024-01-01", end), **given))
+                  for end in ("9999-12-31", None)]
+        for form in ({"open_end": True}, {"last_day": True}, {"open_end": True, "last_day": True}):
+            for place, call in enumerate(calls):
+                with self.subTest(place, **form):
+                    found = [outcome(call, one if "open_end" in form else one[:1], form) for one in both]
+                    self.assertEqual(found[0], found[1])
+
+    def test_far_points_of_a_zone_are_taken(self):
+        start, behind = (midnights("Europe/Berlin", day) for day in ("2024-01-05", "2024-02-07"))
+        rows = pd.DataFrame({"from": start, "to": behind})
+        end = datetime.datetime(9999, 12, 31, tzinfo=UTC)
+        self.assertEqual(len(ruzgalt.during(rows, datetime.datetime(1, 1, 2, tzinfo=UTC), end)), 1)
+        before = datetime.datetime(1, 1, 1, tzinfo=datetime.timezone(5 * HOUR))
+        for point, name in ((before, "BadPoint"), (datetime.time(1, tzinfo=UTC), "WrongKind")):
+            with self.assertRaises(ruzgalt.Refused) as caught:
+                ruzgalt.at(rows, point)
+            self.assertEqual(caught.exception.name, name)
 
     def test_what_looks_like_last_days_is_doubted_by_the_zone_s_days(self):
         days = pd.DataFrame({
