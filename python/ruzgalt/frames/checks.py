@@ -50,6 +50,11 @@ def is_whole(given: Any) -> bool:
     return isinstance(given, (int, np.integer)) and not isinstance(given, bool)
 
 
+def is_number(given: Any) -> bool:
+    """Whether a script has it as a whole number."""
+    return is_whole(given) or is_flag(given)
+
+
 def whole(option: str, given: Any, least: int, most: Optional[int] = None) -> int:
     if not is_whole(given) or given < least or (most is not None and given > most):
         bounds = f"from {least} to {most}" if most is not None else f"of at least {least}"
@@ -98,6 +103,12 @@ def period(option: str, given: Any) -> Tuple[Any, ...]:
     return both
 
 
+def text(option: str, given: Any) -> str:
+    if not isinstance(given, str):
+        raise wrong(option, given, "must be a text")
+    return given
+
+
 def texts(option: str, given: Any) -> List[str]:
     if not isinstance(given, (list, tuple)) or not all(isinstance(one, str) for one in given):
         raise wrong(option, given, "must be a list of texts")
@@ -123,6 +134,14 @@ def digits(option: str, given: Any) -> Mapping[Any, int]:
     if not isinstance(given, Mapping) or not all(map(is_name, given)):
         raise wrong(option, given, "must be a dict of columns with their numbers of decimals, such as {'pay': 2}")
     return {same(one): whole(f"{option}[{one!r}]", count, 0, MOST_DIGITS) for one, count in given.items()}
+
+
+def records(option: str, given: Any) -> List[Tuple[Any, str]]:
+    """Columns with the values that records of a script are to have, as they stand in it: of True and False 1 and 0."""
+    if not isinstance(given, Mapping) or not all(isinstance(one, str) or is_number(one) for one in given.values()):
+        wanted = "must be a dict of columns with texts or whole numbers, as the script has them"
+        raise wrong(option, given, f"{wanted}, such as {{'person': 'Ada'}}")
+    return [(one, str.__str__(value) if isinstance(value, str) else str(int(value))) for one, value in given.items()]
 
 
 def stand_ins(option: str, given: Any) -> Mapping[Any, Any]:

@@ -149,7 +149,8 @@ class Written:
         asked = checks.texts("questions", questions)
         for question in asked:
             answered(self.book, question)
-        words = [f"--title={title}", f"--note={note}", *([] if diary is None else [f"--diary={diary}"])]
+        given = {"title": title, "note": note, **({} if diary is None else {"diary": diary})}
+        words = [f"--{option}={checks.text(option, one)}" for option, one in given.items()]
         words += [f"--ask={question}" for question in asked]
         with kept(self.book, Path(path).with_suffix(".csv").name) as file, refusing():
             options = answers_tool.options_of("page", [file, *words])
@@ -169,7 +170,7 @@ class Written:
         label : str, optional
             The column that stands in the bars.
         where : dict, optional
-            Columns with the values that records are to have.
+            Columns with the values that records are to have, as the script has them: of True 1.
         start, end : str, date, datetime, Timestamp or Period, optional
             The first point that is shown, and the end of what is shown.
         width : int, optional
@@ -196,7 +197,7 @@ class Written:
         if width is not None:
             width = checks.whole("width", width, 40, 100_000)
         limits = [None if point is None else instants.text_of(point) for point in (start, end)]
-        wanted = [(name, str(value)) for name, value in ({} if where is None else where).items()]
+        wanted = [] if where is None else checks.records("where", where)
         with refusing():
             wish = figures.Wish(by, label, wanted, limits[0], limits[1])
             return Picture(svg.draw(figures.of(found, found[-1], wish), width, None))

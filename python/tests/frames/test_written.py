@@ -48,6 +48,9 @@ class Written(unittest.TestCase):
         for asked in (["rows,none"], ["rows,pay", "delete,pay,2024-01-01,2024-02-01"], "rows,pay"):
             with self.subTest(asked), self.assertRaises(ruzgalt.Refused):
                 self.store.page(self.folder / "other.html", asked)
+        for words in ({"title": None}, {"title": 5}, {"note": ["x"]}, {"diary": 5}):
+            with self.subTest(words), self.assertRaises(ruzgalt.Refused):
+                self.store.page(self.folder / "other.html", **words)
         with self.assertRaises(ruzgalt.Refused):
             ruzgalt.Store().page(self.folder / "other.html")
         self.assertEqual(os.listdir(self.folder), ["pay.html"])
@@ -63,6 +66,10 @@ class Written(unittest.TestCase):
         words = {"by": "person", "label": "cents", "start": DAY("2024-04-01"), "width": 300}
         shown = self.store.picture("rows,pay", **words, **where).svg
         self.assertTrue('width="300"' in shown and "4800" in shown and "5000" not in shown, shown)
+        flags = ruzgalt.Store()
+        flags.table("t", self.store.rows("pay").assign(cents=[True, False]).drop(columns="row_id"))
+        self.assertEqual(*(flags.picture("rows,t", where={"cents": one}).svg for one in (True, 1)))
+        self.assertNotEqual(*(flags.picture("rows,t", where={"cents": one}).svg for one in (True, False)))
 
     def test_a_picture_in_a_batch_is_of_its_changes(self):
         with self.store.batch():
@@ -82,7 +89,8 @@ class Written(unittest.TestCase):
         with self.assertRaises(ruzgalt.Refused) as caught:
             self.store.picture("between,pay,0,9")
         self.assertIn("where=", str(caught.exception))
-        for words in ({"by": "none"}, {"width": 5}, {"start": "x"}, {"where": {"none": 1}}):
+        for words in ({"by": "none"}, {"width": 5}, {"start": "x"}, {"where": {"none": 1}}, {"where": "cents"},
+                      {"where": {"cents": 4800.5}}, {"where": {"person": None}}):
             with self.subTest(words), self.assertRaises(ruzgalt.Refused):
                 self.store.picture("rows,pay", **words)
         self.assertEqual(len(self.store.log()), 2)
