@@ -111,6 +111,7 @@ def agg(frame: Any, measures: Measures, options: Options) -> Any:
 
 def parted(frame: Any, asked: Callable[..., Any], *given: Any) -> Any:
     """Of each partition some of its rows."""
+    refuse_names(frame)
     with keeping_objects(frame._meta):
         return frame.map_partitions(sent(asked, *given), meta=frame._meta)
 
@@ -217,7 +218,7 @@ def by_value(frame: Any, names: Sequence[Any], decimals: Mapping[Any, int], part
     """The rows, those of equal values in one partition."""
     meta = frame._meta
     labelled = with_label_column(meta)
-    refuse_names(frame, labelled)
+    refuse_names(frame, PART, LABEL, OF_DASK, *intervals.names_of_sides(labelled))
     tagged = frame.map_partitions(
         sent(with_part, list(names), dict(decimals), parts),
         meta=intervals.by_sides(labelled).assign(**{PART: np.empty(0, np.int64)}),
@@ -231,9 +232,9 @@ def by_part(tagged: Any, parts: int) -> Any:
     return tagged.set_index(PART, divisions=[*range(parts), parts - 1], **HOW)
 
 
-def refuse_names(frame: Any, labelled: Any) -> None:
-    """Dask finds no column of the name NaN, and others are added while rows are sent."""
-    for name in (PART, LABEL, OF_DASK, np.nan, *intervals.names_of_sides(labelled)):
+def refuse_names(frame: Any, *added: str) -> None:
+    """Dask finds no column of the name NaN, and others may be added while rows are sent."""
+    for name in (np.nan, *added):
         if name in names_of(frame):
             raise Refused("BadName", "Dask can't take a column of this name: .rename(columns=..) it", name)
 

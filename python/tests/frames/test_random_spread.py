@@ -236,6 +236,9 @@ class Spread(unittest.TestCase):
                 with self.assertRaises(ruzgalt.Refused) as caught:
                     asked()
                 self.assertEqual(caught.exception.name, "BadName")
+        with self.assertRaises(ruzgalt.Refused) as caught:
+            ruzgalt.at(spread, "2024-01-01")
+        self.assertEqual(caught.exception.name, "BadName")
 
     def test_no_groups_are_all_rows(self):
         one = day_of(column(NUMBERS, "int64"))
