@@ -45,7 +45,7 @@ Shown = Tuple[str, Tuple[str, ...]]
 
 
 class Row(NamedTuple):
-    """A row: the instants at which it holds, its values, and what a person is told of where it comes from."""
+    """A row: the instants at which it holds, its values, and what a person reads of where it comes from."""
 
     instants: Instants
     values: Values

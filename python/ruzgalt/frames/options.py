@@ -26,7 +26,7 @@ Commit = Union[int, str, datetime.date, np.datetime64, pd.Period]
 AsOf = Optional[Commit]
 # Of both frames of a pair, or of one of them alone.
 OneSided = Union[bool, Literal["left", "right"]]
-Told = Optional[Tuple[Any, ...]]
+GivenNames = Optional[Tuple[Any, ...]]
 # What a call has where nothing else is given.
 PERIOD: Tuple[Any, Any] = ("from", "to")
 SUFFIXES: Suffixes = ("_left", "_right")
@@ -53,9 +53,9 @@ class Options:
     """Options of a call, by its name, each of which was looked at. What each means stands with the calls."""
 
     call: str = ""
-    left_on: Told = None
-    right_on: Told = None
-    by: Told = None
+    left_on: GivenNames = None
+    right_on: GivenNames = None
+    by: GivenNames = None
     period: Period = PERIOD
     left_period: Optional[Period] = None
     right_period: Optional[Period] = None
