@@ -21,7 +21,7 @@ use Rattle.book_core.specs.declared.change.Change.TheVariants.{Make}
 use Rattle.version_core.proofs.ListLemmas.{at_some}
 use Rattle.book_core.specs.State.{changed}
 use Rattle.book_core.specs.StoredTables.{kept_table, IsWellKept, StoredTable, added_in, at_kept, closed_in, kept_table_after, table_at}
-use Rattle.book_core.proofs.Applying.{absent_from, place}
+use Rattle.book_core.proofs.Applying.{place}
 use Rattle.book_core.proofs.Shown.{shown-current}
 
 find-absent_from : (name : List ℕ) (ts : List StoredTable) (i : ℕ)
@@ -40,12 +40,6 @@ pub find-absent : (name : List ℕ) (ts : List StoredTable) → position (λ t. 
     → kept_table name ts ≡ None
 find-absent name ts e = find-absent_from name ts 0 (sym (position_from-zero (λ t. bytes_eq t.name name) ts) ∙ e)
 
--- and nothing changes
-pub at_kept-absent : (name : List ℕ) (f : StoredTable → StoredTable) (ts : List StoredTable)
-    → position (λ t. bytes_eq t.name name) ts ≡ None → ts ≡ at_kept name f ts
-at_kept-absent name f ts e =
-    sym (absent_from name f ts 0 (sym (position_from-zero (λ t. bytes_eq t.name name) ts) ∙ e))
-
 -- the table at the place is the one that is found
 pub find-place : (name : List ℕ) (ts : List StoredTable) (at : ℕ) (t : StoredTable)
     → position (λ t. bytes_eq t.name name) ts ≡ Some at → t ≡ get_or ts at t → kept_table name ts ≡ Some t
@@ -62,7 +56,7 @@ pub at_kept-place : (name : List ℕ) (f : StoredTable → StoredTable) (ts : Li
     → set ts at new ≡ at_kept name f ts
 at_kept-place name f ts at t new e g h = ap (set ts at) (h ∙ ap f g) ∙ sym ((place name ts at e).changes f t)
 
-none_counted : (rows : List Row) → count_by (λ row. false) rows ≡ 0
+pub none_counted : (rows : List Row) → count_by (λ row. false) rows ≡ 0
 none_counted [] = refl
 none_counted (row ∷ rows) = count-cons (λ row. false) row rows ∙ omega (arith, none_counted rows)
 

@@ -1,51 +1,115 @@
 -- A change that is made in the tables.
-use Rattle.std.proofs.Common.{◌≡◌, ℕ, ◌+◌, ◌≤◌, List, [], ◌∷◌, ◌++◌, true, false, Option, Some, None, length, get_or, set, refl, ap, sym, subst, ◌∙◌}
-use Rattle.std.specs.Prelude.{◌≢◌, Result, Ok, IfErr, IfOk, IfSome, MatchOption, OnErr, OnOk, option_map, position, count_by, bytes_eq}
-use Rattle.std.proofs.lemmas.List.{set-get_or}
+use Rattle.std.proofs.Common.{◌≡◌, ℕ, ◌+◌, ◌≤◌, List, [], ◌∷◌, ◌++◌, Bool, true, false, ◌&&◌, not, cond, map, Option, Some, None, length, get_or, set, refl, ap, sym, subst, ◌∙◌}
+use Rattle.std.specs.Prelude.{◌≢◌, filter, is_none, Result, Ok, IfErr, IfOk, IfSome, MatchOption, OnErr, OnOk, option_map, position, count_by, bytes_eq}
+use Rattle.std.proofs.lemmas.List.{append-nil, set-get_or}
 use Rattle.std.proofs.lemmas.Result.{IfErr-weaker, IfOk-weaker, on_err_weaker, on_ok_weaker}
 use Rattle.row_core.specs.Schema.{key_of}
 use Rattle.row_core.specs.declared.failure.Failure.{Failure}
 use Rattle.row_core.specs.declared.failure.Failure.TheVariants.{NoMemory}
+use Rattle.row_core.specs.declared.row.Row.{Row}
 use Rattle.row_core.specs.declared.schema.Column.{Column}
-use Rattle.version_core.specs.Keys.{overlap_after}
+use Rattle.table_core.specs.Numbered.{unnumbered}
+use Rattle.version_core.specs.Keys.{break_key, overlap_after}
 use Rattle.version_core.specs.Limits.{version_limit}
-use Rattle.version_core.specs.OpenVersions.{current, versions_after}
+use Rattle.version_core.specs.OpenVersions.{closed, current, versions_after}
 use Rattle.version_core.specs.Rows as by_place
 use Rattle.version_core.specs.declared.change.RowsChange.{RowsChange}
 use Rattle.version_core.specs.declared.change.RowsChange.TheVariants as rows
 use Rattle.version_core.specs.declared.keys.KeyOverlap.{KeyOverlap}
 use Rattle.version_core.specs.declared.version.Version.{Version}
 use Rattle.version_core.specs.declared.versions.VersionCounts.{VersionCounts}
-use Rattle.book_core.specs.Bound.{DoesTheSame, IsBound, IsMade, IsOfRows, rows_loaded}
+use Rattle.book_core.specs.Bound.{DoesTheSame, IsBound, IsMade, IsOfRows}
 use Rattle.portion_core.specs.declared.portion_change.PortionChange.{PortionChange}
 use Rattle.book_core.specs.History.{History, state_after}
 use Rattle.book_core.specs.State.{Table, changed, table_named, table_of}
-use Rattle.book_core.specs.StoredTables.{AreKept, HasRoom, HasRoomIn, IsUnbroken, IsWellKept, StoredTable, added_in, closed_in, kept_table, kept_table_after, overlap_in, table_at}
+use Rattle.book_core.specs.StoredTables.{AreKept, HasRoom, HasRoomIn, IsUnbroken, IsWellKept, StoredTable, added_in, at_kept, closed_in, kept_table, kept_table_after, overlap_in, table_at}
 use Rattle.book_core.specs.declared.change.Change.{Change}
 use Rattle.book_core.specs.declared.change.Change.TheVariants.{Make, Load, Update, Delete}
 use Rattle.book_core.proofs.Applying.{found_in, newest_of}
 use Rattle.book_core.proofs.BoundLemmas.{changes-rows}
-use Rattle.book_core.proofs.ChangedTables.{added-current, at_kept-absent, at_kept-place, closed_in-make, find-absent, find-place, room-current, versions_after-kept, taken-current}
+use Rattle.book_core.proofs.ChangedTables.{added-current, at_kept-place, closed_in-make, find-absent, find-place, none_counted, room-current, versions_after-kept, taken-current}
 use Rattle.book_core.proofs.KeyFound.{overlap-in}
-
--- without its table nothing changes
-pub made-absent : (n : ℕ) (c : Change) (ts : List StoredTable) → IsOfRows c
-    → position (λ t. bytes_eq t.name (table_named c)) ts ≡ None
-    → IsMade n c ts ts (Ok (record { added = 0; closed = 0 }))
-made-absent n c ts of none =
-    let absent = find-absent (table_named c) ts none in
-    record {
-      ok = at_kept-absent (table_named c) (kept_table_after n c) ts none ∙ changes-rows n ts c of;
-      added = sym (ap (added_in n c) absent);
-      closed = sym (ap (closed_in n c) absent);
-      apart = ap (overlap_in n c) absent;
-      overlap = tt;
-      kept = tt;
-    }
 
 -- the table with other versions
 abbrev pub with_versions : StoredTable → List Version → StoredTable
 with_versions t versions = record t { versions = versions }
+
+-- ---- a change of no rows
+
+none-closed : (n : ℕ) (vs : List Version) → map (closed n (by_place.removes (rows.Load []))) vs ≡ vs
+none-closed n [] = refl
+none-closed n (v ∷ vs) =
+    ap (λ left. left ∷ map (closed n (by_place.removes (rows.Load []))) vs) (left (is_none v.systo))
+    ∙ ap (λ l. v ∷ l) (none-closed n vs)
+  where
+    left : (b : Bool) → cond (b && false) (record v { systo = Some n }) v ≡ v
+    left true = refl
+    left false = refl
+
+all-left : (now : List Row) → filter (λ row. not (by_place.removes (rows.Load []) row)) now ≡ now
+all-left [] = refl
+all-left (row ∷ now) = ap (λ l. row ∷ l) (all-left now)
+
+-- what it leaves of a table, if there is one
+record IsUntouched (n : ℕ) (c : Change) (o : Option StoredTable) : Type 0 where
+  after : IfSome o (λ t. kept_table_after n c t ≡ t)
+  added : 0 ≡ added_in n c o
+  closed : 0 ≡ closed_in n c o
+  apart : overlap_in n c o ≡ false
+
+untouched : (n : ℕ) (c : Change) (o : Option StoredTable) → IsOfRows c
+    → IfSome o (λ t. DoesTheSame c t.schema (rows.Load [])) → IfSome o (IsWellKept n) → IfSome o IsUnbroken
+    → IsUntouched n c o
+untouched n c None of same well unbroken = record { after = tt; added = refl; closed = refl; apart = refl }
+untouched n c (Some t) of same well unbroken = record {
+  after = sym (versions_after-kept n c (rows.Load []) t same well)
+      ∙ ap (with_versions t)
+      (append-nil (map (closed (n + 1) (by_place.removes (rows.Load []))) t.versions) ∙ none-closed (n + 1) t.versions);
+  added = added-current n c (rows.Load []) t (Some t) same well refl;
+  closed = sym (none_counted (current t.versions)) ∙ taken-current n c (rows.Load []) t (Some t) same well refl;
+  apart = sym (overlap-in n c (rows.Load []) t (Some t) of same well unbroken refl)
+      ∙ ap (break_key (key_of t.schema))
+      (append-nil (map unnumbered (filter (λ row. not (by_place.removes (rows.Load []) row)) (current t.versions)))
+      ∙ ap (map unnumbered) (all-left (current t.versions)))
+      ∙ unbroken;
+}
+
+-- the tables with one that is left as it is
+kept-same : (name : List ℕ) (f : StoredTable → StoredTable) (ts : List StoredTable)
+    → IfSome (kept_table name ts) (λ t. f t ≡ t) → at_kept name f ts ≡ ts
+kept-same name f [] = λ h. refl
+kept-same name f (t ∷ ts) =
+    elim (bytes_eq t.name name) as
+    (λ b. IfSome (cond b (Some t) (kept_table name ts)) (λ t. f t ≡ t)
+    → cond b (f t ∷ ts) (t ∷ at_kept name f ts) ≡ t ∷ ts) [
+      | true ↦ λ h. ap (λ t. t ∷ ts) h
+      | false ↦ λ h. ap (λ l. t ∷ l) (kept-same name f ts h)
+    ]
+
+pub made-nothing : (n : ℕ) (c : Change) (ts : List StoredTable) (counts : VersionCounts) → IsOfRows c
+    → IfSome (kept_table (table_named c) ts) (λ t. DoesTheSame c t.schema (rows.Load []))
+    → IfSome (kept_table (table_named c) ts) (IsWellKept n) → IfSome (kept_table (table_named c) ts) IsUnbroken
+    → counts.added ≡ 0 → counts.closed ≡ 0 → IsMade n c ts ts (Ok counts)
+made-nothing n c ts counts of same well unbroken none_added none_closed =
+    let left = untouched n c (kept_table (table_named c) ts) of same well unbroken in
+    record {
+      ok = sym (kept-same (table_named c) (kept_table_after n c) ts left.after) ∙ changes-rows n ts c of;
+      added = none_added ∙ left.added;
+      closed = none_closed ∙ left.closed;
+      apart = left.apart;
+      overlap = tt;
+      kept = tt;
+    }
+
+-- without its table nothing changes
+pub made-absent : (n : ℕ) (c : Change) (ts : List StoredTable) (counts : VersionCounts) → IsOfRows c
+    → position (λ t. bytes_eq t.name (table_named c)) ts ≡ None → counts.added ≡ 0 → counts.closed ≡ 0
+    → IsMade n c ts ts (Ok counts)
+made-absent n c ts counts of none none_added none_closed =
+    let absent = find-absent (table_named c) ts none in
+    made-nothing n c ts counts of (rw absent tt) (rw absent tt) (rw absent tt) none_added none_closed
+
+-- ---- a change of a table's rows
 
 -- the versions of the table are those after a change by places that does the same
 pub made-place : (n : ℕ) (c : Change) (r : RowsChange) (ts : List StoredTable) (at : ℕ) (t : StoredTable)
@@ -102,14 +166,6 @@ pub of-some : (P Q : StoredTable → Type 0) (o : Option StoredTable) → ((t : 
     → IfSome o Q
 of-some P Q None f h = tt
 of-some P Q (Some t) f h = f t h
-
--- a load, or a change of no rows, is a load of its rows
-pub loaded-same : (c : Change) (schema : List Column) → IsOfRows c → IsBound c schema None
-    → DoesTheSame c schema (rows.Load (rows_loaded c))
-loaded-same (Make table made) schema of bound = absurd of
-loaded-same (Load table drafts) schema of bound = record { out = λ row. refl; new = λ now. refl }
-loaded-same (Update table portion sets conds) schema of bound = bound
-loaded-same (Delete table portion conds) schema of bound = bound
 
 -- the room for a change of rows
 pub room-rows : (n : ℕ) (c : Change) → IsOfRows c → (t : StoredTable) → HasRoomIn n c t

@@ -44,13 +44,6 @@ abbrev pub rows_changed : Option PortionChange → RowsChange
 rows_changed None = rows.Load []
 rows_changed (Some change) = rows.Portion change
 
--- the rows of a load, and none of another change
-abbrev pub rows_loaded : Change → List Draft
-rows_loaded (Make table made) = []
-rows_loaded (Load table drafts) = drafts
-rows_loaded (Update table portion sets conds) = []
-rows_loaded (Delete table portion conds) = []
-
 -- what a change of a table with these columns is bound to: one of a portion to the same by places, or to
 -- nothing where no row meets all its conditions
 abbrev pub IsBound : Change → List Column → Option PortionChange → Type 0

@@ -13,7 +13,7 @@ ghost use Rattle.version_core.specs.Limits.{version_limit};
 ghost use Rattle.version_core.specs.OpenVersions.{current, versions_after};
 ghost use Rattle.version_core.specs.Rows as by_place;
 ghost use Rattle.version_core.specs.Shown.{shown};
-ghost use Rattle.book_core.specs.Bound.{Does, DoesTheSame, IsBound, IsMade, IsOfRows, portion_parts, portion_tests, rows_changed, rows_loaded};
+ghost use Rattle.book_core.specs.Bound.{Does, DoesTheSame, IsBound, IsMade, IsOfRows, portion_parts, portion_tests, rows_changed};
 ghost use Rattle.book_core.specs.Limits.{commit_limit};
 ghost use Rattle.book_core.specs.Rows.{is_touched};
 ghost use Rattle.book_core.specs.State.{tests_of, pair_tests, table_named};
@@ -23,7 +23,6 @@ ghost use Rattle.book_core.specs.declared.change.Change.TheVariants.{Load};
 
 use crate::bind::{bind_conds, bind_sets};
 use crate::change::Change;
-use crate::log::table_of;
 use crate::refusal::BookRefused;
 use crate::table::{Table, place_of};
 use crate::table_columns::TableColumns;
@@ -135,7 +134,8 @@ fn is_full(commits: usize, versions: usize, more: usize) -> bool
 }
 
 /// Makes the tables after one more commit of a change that isn't bound to one of a portion, and answers how
-/// many versions it made and closed. Only the test of keys and want of memory are left to refuse it.
+/// many versions it made and closed. Only the test of keys and want of memory are left to refuse it. An update
+/// or a delete that is bound to nothing has conditions that contradict each other, which no row meets.
 pub(crate) fn change_tables(
     alloc: Global,
     tables: &mut Vec<Table>,
@@ -151,11 +151,25 @@ pub(crate) fn change_tables(
         (λ t. IsBound change t.schema None) }
     ensures { IsMade commits change tables.old.items tables.new.items result }
 {
-    match &change {
-        Change::Make { table, schema } => Ok(add_table(alloc, tables, *table, schema)?),
-        Change::Load { .. } => load_rows(alloc, tables, commits, change),
-        Change::Update { .. } => load_rows(alloc, tables, commits, change),
-        Change::Delete { .. } => load_rows(alloc, tables, commits, change),
+    match change {
+        Change::Make { table, schema } => Ok(add_table(alloc, tables, table, schema)?),
+        Change::Load { table, rows } => {
+            let mut load = RowsChange::Load(rows);
+            change_table(alloc, tables, commits, table, &mut load)
+        }
+        Change::Update { .. } => Ok(no_versions()),
+        Change::Delete { .. } => Ok(no_versions()),
+    }
+}
+
+/// Of a change that touches no row.
+fn no_versions() -> VersionCounts
+    ensures added { result.added ≡ 0 }
+    ensures closed { result.closed ≡ 0 }
+{
+    VersionCounts {
+        added: 0,
+        closed: 0,
     }
 }
 
@@ -164,10 +178,10 @@ fn add_table(
     alloc: Global,
     tables: &mut Vec<Table>,
     name: Name,
-    schema: &Schema,
+    schema: Schema,
 ) -> Result<VersionCounts, NoMemory>
     ensures ok { OnOk result (tables.new.items
-        ≡ tables.old.items ++ record { name = name; schema = schema.now; versions = [] } ∷ []) }
+        ≡ tables.old.items ++ record { name = name; schema = schema; versions = [] } ∷ []) }
     ensures counts { IfOk result (λ counts. (counts.added ≡ 0) × (counts.closed ≡ 0)) }
     ensures err { OnErr result (tables.new.items ≡ tables.old.items) }
 {
@@ -178,44 +192,7 @@ fn add_table(
         columns,
         versions,
     })?;
-    Ok(VersionCounts {
-        added: 0,
-        closed: 0,
-    })
-}
-
-/// Adds the rows of a load to its table. A change of a portion has none.
-fn load_rows(
-    alloc: Global,
-    tables: &mut Vec<Table>,
-    commits: u64,
-    change: Change,
-) -> Result<VersionCounts, Failure<KeyOverlap>>
-    requires rows { IsOfRows change }
-    requires few { commits < commit_limit }
-    requires room { HasRoom commits change tables.old.items }
-    requires well { IfSome (kept_table (table_named change) tables.old.items)
-        (IsWellKept commits) }
-    requires unbroken { IfSome (kept_table (table_named change) tables.old.items) IsUnbroken }
-    requires bound { IfSome (kept_table (table_named change) tables.old.items)
-        (λ t. IsBound change t.schema None) }
-    ensures { IsMade commits change tables.old.items tables.new.items result }
-{
-    let name = table_of(&change);
-    let mut load = RowsChange::Load(rows_of(alloc, change));
-    change_table(alloc, tables, commits, name, &mut load)
-}
-
-/// The rows of a load, and none of another change.
-fn rows_of(alloc: Global, change: Change) -> Drafts
-    ensures { result ≡ rows_loaded change }
-{
-    match change {
-        Change::Load { table: _, rows } => rows,
-        Change::Make { .. } => Drafts::new(alloc),
-        Change::Update { .. } => Drafts::new(alloc),
-        Change::Delete { .. } => Drafts::new(alloc),
-    }
+    Ok(no_versions())
 }
 
 /// Changes the rows of the table of that name.
@@ -238,10 +215,7 @@ pub(crate) fn change_table(
         → IsMade commits c tables.old.items tables.new.items result }
 {
     let Some(at) = place_of(tables, name) else {
-        return Ok(VersionCounts {
-            added: 0,
-            closed: 0,
-        });
+        return Ok(no_versions());
     };
     let table = &mut tables[at];
     let commit = next_commit(commits);

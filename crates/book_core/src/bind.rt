@@ -83,7 +83,7 @@ pub(crate) fn bind_conds<'a>(
     if agree { Ok(Some(wanted)) } else { Ok(None) }
 }
 
-/// Wants the value in the column, and answers whether another was wanted there.
+/// Wants the value in the column, and answers whether no other value was wanted there before.
 fn want<'a>(wanted: &mut ByColumn<'a>, column: usize, value: &'a Value) -> bool
     requires { column < length wanted.old }
     ensures width { length wanted.new ≡ length wanted.old }

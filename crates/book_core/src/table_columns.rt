@@ -29,14 +29,12 @@ impl Model for TableColumns {
 }
 
 impl TableColumns {
-    /// Those of a schema, which are copied.
-    pub fn of(alloc: Global, schema: &Schema) -> Result<TableColumns, NoMemory>
-        ensures { IfOk result (λ columns. columns ≡ schema.now) }
+    /// Those of a schema.
+    pub fn of(alloc: Global, schema: Schema) -> Result<TableColumns, NoMemory>
+        ensures { IfOk result (λ columns. columns ≡ schema) }
     {
-        Ok(TableColumns {
-            schema: schema.copy(alloc)?,
-            key: schema.key_places(alloc)?,
-        })
+        let key = schema.key_places(alloc)?;
+        Ok(TableColumns { schema, key })
     }
 
     /// The columns.

@@ -17,7 +17,8 @@ pub returns-in_default : goal.returns-in_default
 returns-in_default c = λ by_names named of same.
     let none = sym (c.place_of.ensures ∙ ap (position (λ t. bytes_eq t.name c.args.name)) c.deref.ensures.value)
     ∙ c.in_default.is in
-    made-absent c.args.commits by_names c.args.tables.now.items of (rw named none)
+    made-absent c.args.commits by_names c.args.tables.now.items c.no_versions.result of (rw named none)
+    c.no_versions.ensures.added c.no_versions.ensures.closed
 
 pub change_versions-requires-clause-room : goal.change_versions-requires-clause-room
 change_versions-requires-clause-room c =
