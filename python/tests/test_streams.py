@@ -142,6 +142,10 @@ class Files(unittest.TestCase):
 
 
 class CtrlC(unittest.TestCase):
+    def setUp(self) -> None:
+        """A shell's background job ignores the signal, and so would the tools that it begins."""
+        self.addCleanup(signal.signal, signal.SIGINT, signal.signal(signal.SIGINT, signal.default_int_handler))
+
     def ended(self, words: List[str], status: int, said: str) -> None:
         """A tool that waits for its input ends so by the signal."""
         with subprocess.Popen(
