@@ -28,7 +28,7 @@ def rows_at(frame: Any, rows: Ints, is_wide: bool = False) -> Any:
     if not is_wide and not (rows < 0).any():
         made = numbered.take(rows)
     else:
-        labels = np.append(rows, -1)
+        labels, numbered = np.append(rows, -1), with_floats(numbered)
         made = numbered.reindex(index=labels)
         for place, dtype in enumerate(frame.dtypes):
             refuse_rounded(frame.iloc[:, place], rows[rows >= 0], made.dtypes.iloc[place])
@@ -36,6 +36,20 @@ def rows_at(frame: Any, rows: Ints, is_wide: bool = False) -> Any:
                 made.isetitem(place, reindexed(numbered.iloc[:, place], labels))
         made = made.iloc[:-1]
     made.index = pd.RangeIndex(len(rows))
+    return made
+
+
+def with_floats(frame: Any) -> Any:
+    """The frame with floats in its sparse columns of bool, as pandas makes of them beside a missing cell.
+
+    It leaves them False as their fill value, of which newer ones warn.
+    """
+    made = frame.copy(deep=False)
+    for place, dtype in enumerate(frame.dtypes):
+        if isinstance(dtype, pd.SparseDtype) and dtype.subtype == bool:
+            floats = np.asarray(frame.iloc[:, place]).astype(float)
+            cells = pd.arrays.SparseArray(floats, fill_value=float(dtype.fill_value))
+            made.isetitem(place, pd.Series(cells, frame.index))
     return made
 
 

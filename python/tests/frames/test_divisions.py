@@ -26,7 +26,7 @@ class Divisions(unittest.TestCase):
         months = FIRST.to_period("M")
         for start, end in (
             (FIRST, LAST), (FIRST.tz_localize("Europe/Berlin"), LAST.tz_localize("Europe/Berlin")),
-            (FIRST.to_period("D"), LAST.to_period("D")), (FIRST.to_period("S"), LAST.to_period("S")),
+            (FIRST.to_period("D"), LAST.to_period("D")), (FIRST.to_period("s"), LAST.to_period("s")),
             (months, months + 1), (objects(FIRST.date), objects(LAST.date)),
             (objects(FIRST.to_pydatetime()), objects(LAST.to_pydatetime())),
         ):

@@ -108,8 +108,11 @@ class Unmatched(unittest.TestCase):
 
     def test_sparse_columns_of_their_fill_value_keep_it(self):
         """Of these pandas itself makes missing cells of all, where one is missing."""
-        for cells in (np.zeros(2, "i8"), np.zeros(2), np.zeros(2, bool), np.array([0, 3]), np.array([0.0, np.nan])):
-            with self.subTest(cells.dtype):
+        for cells in (
+            np.zeros(2, "i8"), np.zeros(2), np.zeros(2, bool), np.array([0, 3]), np.array([0.0, np.nan]),
+            np.array([False, True]),
+        ):
+            with self.subTest(cells):
                 sparse = frame({"k": [1, 2], "x": pd.arrays.SparseArray(cells, fill_value=cells.dtype.type(0))})
                 got = ruzgalt.join(sparse, frame({"k": [2, 3]}), on="k", how="outer")
                 self.assertEqual(list(got["x"].dropna()), list(cells[~np.isnan(cells)]))
