@@ -97,7 +97,11 @@ def on_terminal(command: str) -> bytes:
     ours, theirs = pty.openpty()
     # So that line ends stay as they are written.
     tty.setraw(theirs)
-    with subprocess.Popen(["bash", "-c", command], cwd=TOP, stdin=subprocess.DEVNULL, stdout=theirs, stderr=theirs):
+    # From 3.14 on Python colours how a tool is used.
+    plain = {**os.environ, "NO_COLOR": "1"}
+    with subprocess.Popen(
+        ["bash", "-c", command], cwd=TOP, env=plain, stdin=subprocess.DEVNULL, stdout=theirs, stderr=theirs,
+    ):
         os.close(theirs)
         read = b""
         with open(ours, "rb", buffering=0) as terminal:
