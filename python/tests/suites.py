@@ -1,6 +1,6 @@
-"""The tests of the tools, and those of frames: a warning is an error in all, and what can't run here says why.
+"""The suites of tests: of the tools, and of frames. A warning is an error in all. A test that can't run here says why.
 
-Frames need pandas and a built program. How much is drawn at random, variables of the environment say, as
+Frames need pandas and a built program. Variables of the environment say how much is drawn at random:
 tools/check-answers and tools/check-frames set them.
 """
 import importlib.util
@@ -9,22 +9,21 @@ import sys
 import unittest
 import warnings
 from pathlib import Path
+from typing import Dict, List, Type
 
 from ruzgalt import which
 
 HERE = Path(__file__).resolve().parent
 TOP = HERE.parents[1]
 PROGRAM = TOP / "crates" / "dipq" / "out" / "dipq"
-OF_TOOLS = sorted(HERE.glob("test_*.py"))
-OF_FRAMES = sorted(HERE.glob("frames/test_*.py"))
-# What of frames needs neither pandas nor a program.
+# The tests of frames that need neither pandas nor a program.
 ALONE = "test_without_pandas"
-# Where frames are random, what may not be meant comes too.
+# Random frames bring warnings of possible mistakes too.
 RANDOM = "test_random_|test_split|test_hostile|test_rows|test_classes|test_slices|test_standing"
 
 
 class LeftOut(unittest.TestCase):
-    """Stands for tests that can't run here."""
+    """Takes the place of tests that can't run here."""
 
     def __init__(self, name: str, reason: str) -> None:
         super().__init__()
@@ -50,7 +49,7 @@ class OfTools(unittest.TestSuite):
 
 
 class OfFrames(OfTools):
-    """Tests in which a warning that comes of a line of the package is an error: other packages may warn of theirs."""
+    """Tests in which a warning is an error if a line of the package causes it: other packages may warn of theirs."""
 
     def set_filters(self) -> None:
         warnings.filterwarnings("error", module=r"ruzgalt\.")
@@ -60,17 +59,21 @@ class OfFrames(OfTools):
             warnings.filterwarnings("ignore", category=Doubt, module=RANDOM)
 
 
+KINDS: Dict[str, Type[unittest.TestSuite]] = {"tools": OfTools, "frames": OfFrames}
+
+
 def has_pandas() -> bool:
     return importlib.util.find_spec("pandas") is not None
 
 
 def of_all(loader: unittest.TestLoader) -> unittest.TestSuite:
+    """The tests of the tools and of frames, as unittest discovers them."""
     set_environment()
-    return unittest.TestSuite([of_tools(loader), of_frames(loader)])
+    return unittest.TestSuite(of_module(kind, module, loader) for kind in KINDS for module in modules_of(kind))
 
 
 def set_environment() -> None:
-    """As tools/check-frames sets it, also for processes that tests start."""
+    """Sets what tools/check-frames sets, also for the processes that tests start."""
     path = [str(TOP / "python"), *filter(None, [os.environ.get("PYTHONPATH")])]
     os.environ["PYTHONPATH"] = os.pathsep.join(path)
     for threads in ("OMP_NUM_THREADS", "OPENBLAS_NUM_THREADS"):
@@ -79,28 +82,31 @@ def set_environment() -> None:
         os.environ.setdefault("DIPQ", str(PROGRAM))
 
 
-def of_tools(loader: unittest.TestLoader) -> unittest.TestSuite:
-    return OfTools(loaded(loader, f"tests.{file.stem}") for file in OF_TOOLS)
+def modules_of(kind: str) -> List[str]:
+    """The modules of a suite, the largest first, since these take longest."""
+    if kind == "frames" and missing_to_frames():
+        return [ALONE, kind]
+    files = HERE.glob("test_*.py" if kind == "tools" else "frames/test_*.py")
+    found = sorted(files, key=lambda file: -file.stat().st_size)
+    return [f"tests.{file.stem}" if kind == "tools" else file.stem for file in found]
 
 
-def of_frames(loader: unittest.TestLoader) -> unittest.TestSuite:
-    """Their modules find one another by the folder."""
-    sys.path.insert(0, str(HERE / "frames"))
-    missing = missing_to_frames()
-    if missing:
-        return OfFrames([loaded(loader, ALONE), LeftOut("frames", missing)])
-    return OfFrames(loaded(loader, file.stem) for file in OF_FRAMES)
+def of_module(kind: str, module: str, loader: unittest.TestLoader = unittest.defaultTestLoader) -> unittest.TestSuite:
+    """The tests of a module of a suite. A module may leave itself out if a package isn't installed."""
+    if kind == "frames" and str(HERE / kind) not in sys.path:
+        # Modules of these tests find one another by their folder.
+        sys.path.insert(0, str(HERE / kind))
+    suite = KINDS[kind]
+    if module == kind:
+        return suite([LeftOut(kind, missing_to_frames())])
+    try:
+        return suite([loader.loadTestsFromName(module)])
+    except unittest.SkipTest as reason:
+        return suite([LeftOut(module, str(reason))])
 
 
 def missing_to_frames() -> str:
+    """What is missing for tests of frames, and how to have it. Empty if nothing is missing."""
     if not has_pandas():
-        return "pandas isn't here: apt-get install python3-pandas"
+        return "pandas isn't installed: apt-get install python3-pandas"
     return "" if "DIPQ" in os.environ else "no program is built: ./dipq </dev/null builds it"
-
-
-def loaded(loader: unittest.TestLoader, name: str) -> unittest.TestSuite:
-    """The tests of a module, which may leave itself out for want of a package."""
-    try:
-        return loader.loadTestsFromName(name)
-    except unittest.SkipTest as reason:
-        return unittest.TestSuite([LeftOut(name, str(reason))])

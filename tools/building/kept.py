@@ -28,6 +28,10 @@ def sum_of_files(folder: Path, files: List[Path]) -> str:
     return found.hexdigest()
 
 
+class NothingKept(Exception):
+    """The toolchain's gate keeps no libraries that a build can take. The message says why."""
+
+
 class Kept:
     """The libraries that builds of this repository keep, and where each lies that this build has."""
 
@@ -90,23 +94,31 @@ def module_of(program: Path) -> ModuleType:
     return module
 
 
-def give_of_gate(copy: Path, crates: Crates, toolchain: Toolchain) -> Dict[str, Path]:
-    """Puts into a copy of the repository what the toolchain's gate proved on this machine from the same files.
+def give_of_gate(copy: Path, toolchain: Toolchain) -> Dict[str, Path]:
+    """Puts into a copy of the repository the libraries that the toolchain's gate proved here, and returns where they are.
 
-    The gate keeps libraries by sums of its own, so its program is asked. A toolchain that is otherwise inside gives
-    none, and all is proved here. Nothing that is proved here goes to the gate.
+    The gate keeps libraries under sums of its own, so its program is asked. Nothing that is proved here goes to the gate.
+
+    Raises `NothingKept` if this toolchain's gate keeps no libraries, or keeps them in another way.
     """
+    try:
+        # The gate's program prints its own messages and ends if a crate is faulty. The compiler reports that fault.
+        with contextlib.redirect_stderr(io.StringIO()):
+            return given_by(module_of(toolchain.folder / "bin" / "rt"), copy)
+    except (Exception, SystemExit) as why:
+        raise NothingKept(f"this toolchain's rt hands on nothing that its gate proved: {why!r}") from why
+
+
+def given_by(rt: Any, copy: Path) -> Dict[str, Path]:
+    """The libraries that the gate's program puts into the copy. A crate gets one if all crates below it have theirs."""
     given: Dict[str, Path] = {}
-    # It would end the program, with words of its own, where a crate isn't as it should be: the compiler reports that.
-    with contextlib.suppress(Exception, SystemExit), contextlib.redirect_stderr(io.StringIO()):
-        rt: Any = module_of(toolchain.folder / "bin" / "rt")
-        rt.Crate.allowed, rt.Crate.cuts_libraries = rt.handles_of(str(copy)), True
-        listed = rt.crates_of(str(copy))
-        kept = rt.Kept(listed)
-        for crate in listed:
-            if not all(library.name in given for library in crate.below()):
-                continue
-            if not crate.is_program and kept.give(crate, False, kept.key(crate)):
-                kept.is_built(crate)
-                given[crate.name] = Path(crate.rlib)
+    rt.Crate.allowed, rt.Crate.cuts_libraries = rt.handles_of(str(copy)), True
+    listed = rt.crates_of(str(copy))
+    kept = rt.Kept(listed)
+    for crate in listed:
+        if not all(library.name in given for library in crate.below()):
+            continue
+        if not crate.is_program and kept.give(crate, False, kept.key(crate)):
+            kept.is_built(crate)
+            given[crate.name] = Path(crate.rlib)
     return given
