@@ -7,6 +7,8 @@ from typing import Iterable, List, Mapping
 
 from building.crates import Crate, Crates
 
+# The kits by which the repository was proved and built. Their logic is the same.
+TRIED = ("rattle-kit-13b", "rattle-kit-13f")
 # C's part of the library, which programs are linked with.
 OF_C = ("libos_c.a", "liblibc_c.a")
 Words = List[str]
@@ -41,6 +43,12 @@ class Toolchain:
         compiler = (self.folder / "bin" / "rattle").stat()
         named = self.folder / "KIT-ID"
         return f"{named.read_text() if named.is_file() else ''} {compiler.st_size} {compiler.st_mtime_ns}"
+
+    def doubt(self) -> str:
+        """What a message about a failed build adds if this kit wasn't tried. Empty for a kit that was."""
+        named = self.folder / "KIT-ID"
+        kit = named.read_text().strip() if named.is_file() else "a kit without a name"
+        return "" if kit.split(" ")[0] in TRIED else f"this toolchain is {kit}; {' and '.join(TRIED)} were tried\n"
 
     def of_crate(self, crate: Crate, crates: Crates, at: Mapping[str, Path]) -> Words:
         """The words that name a crate, and the libraries that it is proved over: the repository's as they lie there."""
