@@ -1,6 +1,6 @@
 //! Divisions: items in the least number of parts without overlaps.
 
-ghost use Rattle.std.specs.Prelude.{◌≡◌, ◌<◌, ◌≤◌, ◌↔◌, List, [], length, All, IsNone, IfSome, IfOk, IsPermutation, IsSorted};
+ghost use Rattle.std.specs.Prelude.{◌≡◌, ◌<◌, ◌≤◌, ◌↔◌, List, [], length, All, IsNone, IfSome, IfOk, IsSorted};
 ghost use Rattle.dip_core.specs.declared.item.Item.{Item};
 ghost use Rattle.dip_core.specs.Item.{IsChain, IsRising, HasDistinctIds, item_cmp, item_limit};
 ghost use Rattle.dip_core.specs.Division.{all_of, part_at, IsDip, IsDivision, IsInstant, IsInstantOf, IsLeast, IsLeastDivision};
@@ -91,17 +91,25 @@ fn instant_of(parts: &[PartItems]) -> Option<Point>
     Some(items[0].period.from)
 }
 
-/// Places items that stand in their order, one after another.
-fn place_all(alloc: Global, sorted: &[Item]) -> Result<Placer, NoMemory>
+/// Divides items that are already in their order, at most 1,000,000, into the least number of parts without overlaps.
+/// Items of distinct ids are placed one after another, as `Placer::place` does.
+///
+/// # Errors
+///
+/// `NoMemory` if a growth is refused.
+pub fn divide_sorted(alloc: Global, sorted: &[Item]) -> Result<Division, NoMemory>
     requires sorted { IsSorted item_cmp sorted.now }
     requires few { length sorted.now ≤ item_limit }
-    ensures { IfOk result (λ placer. IsPermutation sorted.now (all_of placer.parts)) }
+    ensures least { IfOk result (IsLeastDivision sorted.now) }
+    ensures dip { IfOk result (λ division. HasDistinctIds sorted.now
+        → IsDip sorted.now division) }
+    ensures empty { IfOk result (λ division. (division ≡ []) ↔ (sorted.now ≡ [])) }
 {
     let mut placer = Placer::new(alloc);
     for item in sorted {
         placer.place(*item)?;
     }
-    Ok(placer)
+    Ok(placer.finish())
 }
 
 /// Divides the items, which are at most 1,000,000, into the least number of parts without overlaps. Items
@@ -120,6 +128,5 @@ pub fn create_dip<R: Threads + Sync>(
     ensures empty { IfOk result (λ division. (division ≡ []) ↔ (items.items ≡ [])) }
 {
     sort_unstable(rt, &mut items, workers);
-    let placer = place_all(alloc, &items)?;
-    Ok(placer.finish())
+    divide_sorted(alloc, &items)
 }

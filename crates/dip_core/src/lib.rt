@@ -15,7 +15,7 @@ mod parts;
 mod placement;
 mod placer;
 
-pub use division::{Division, create_dip};
+pub use division::{Division, create_dip, divide_sorted};
 pub use ids::ids_rise;
 pub use item::Item;
 pub use laws::{

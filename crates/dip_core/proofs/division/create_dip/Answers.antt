@@ -1,31 +1,41 @@
-use Rattle.std.proofs.Common.{subst}
+use Rattle.std.proofs.Common.{◌≡◌, List, sym, subst}
 use Rattle.std.specs.Prelude.{IsPermutation}
-use Rattle.std.proofs.lemmas.List.Sorted.{IsPermutation-trans}
-use Rattle.dip_core.specs.Division.{all_of}
+use Rattle.std.proofs.lemmas.Result.{IfOk-weaker}
+use Rattle.dip_core.specs.declared.item.Item.{Item}
+use Rattle.dip_core.specs.Item.{HasDistinctIds}
+use Rattle.dip_core.specs.Division.{IsDip, IsLeastDivision}
 use Rattle.dip_core.proofs.DivisionLemmas.{no_parts, IsLeastDivision-permutation, HasDistinctIds-permutation}
 use Rattle.dip_core.proofs.division.create_dip.Goals as goal
 use Rattle.dip_core.proofs.division.create_dip.Given.{Over}
-use Rattle.dip_core.proofs.division.create_dip.Goals.{After-drop-items-2}
+use Rattle.dip_core.proofs.division.create_dip.Goals.{After-drop-items}
 
--- all items are placed
-moved : (g : Over) (c : After-drop-items-2 g) → IsPermutation c.args.items.items (all_of c.in_ok-placer.placer.parts)
-moved g c =
-    let parts = all_of c.in_ok-placer.placer.parts in
-    let placed : IsPermutation c.sort_unstable.new.items.items parts =
-    subst (λ xs. IsPermutation xs parts) c.deref.ensures.value c.in_ok-placer.ensures in
-    IsPermutation-trans c.args.items.items c.sort_unstable.new.items.items parts c.sort_unstable.ensures.permutation
-    placed
+-- the items that are divided are the sorted ones
+sorted_items : (g : Over) (c : After-drop-items g) → IsPermutation c.args.items.items c.deref.result.now
+sorted_items g c =
+    subst (λ (xs : List Item). IsPermutation c.args.items.items xs) (sym c.deref.ensures.value)
+    c.sort_unstable.ensures.permutation
 
 pub returns-clause-least : goal.returns-clause-least
 returns-clause-least g c =
-    IsLeastDivision-permutation c.args.items.items (all_of c.in_ok-placer.placer.parts) c.finish.result (moved g c)
-    c.finish.ensures.least
+    IfOk-weaker c.divide_sorted.result _ _
+    (λ (division : List (List Item)) (least : IsLeastDivision c.deref.result.now division).
+    IsLeastDivision-permutation c.args.items.items c.deref.result.now division (sorted_items g c) least)
+    c.divide_sorted.ensures.least
 
 pub returns-clause-dip : goal.returns-clause-dip
-returns-clause-dip g c = λ distinct.
-    let parts = all_of c.in_ok-placer.placer.parts in
-    let dip = c.finish.ensures.dip (HasDistinctIds-permutation c.args.items.items parts (moved g c) distinct) in
-    record { divided = returns-clause-least g c; placed = dip.placed }
+returns-clause-dip g c =
+    IfOk-weaker c.divide_sorted.result _ _
+    (λ (division : List (List Item)) (dip : HasDistinctIds c.deref.result.now → IsDip c.deref.result.now division) distinct.
+    let moved = sorted_items g c in
+    let is = dip (HasDistinctIds-permutation c.args.items.items c.deref.result.now moved distinct) in
+    record {
+      divided = IsLeastDivision-permutation c.args.items.items c.deref.result.now division moved is.divided;
+      placed = is.placed;
+    })
+    c.divide_sorted.ensures.dip
 
 pub returns-clause-empty : goal.returns-clause-empty
-returns-clause-empty g c = no_parts c.args.items.items c.finish.result (returns-clause-least g c).division
+returns-clause-empty g c =
+    IfOk-weaker c.divide_sorted.result _ _
+    (λ (division : List (List Item)) least. no_parts c.args.items.items division least.division)
+    (returns-clause-least g c)

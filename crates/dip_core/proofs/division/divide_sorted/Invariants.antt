@@ -1,7 +1,7 @@
 use Rattle.std.proofs.Common.{◌≡◌, ◌-◌, ◌<◌, take, get_or}
 use Rattle.std.specs.Prelude.{IsPermutation, MatchOption}
 use Rattle.dip_core.specs.Division.{all_of}
-use Rattle.dip_core.proofs.division.place_all.Given as goal
+use Rattle.dip_core.proofs.division.divide_sorted.Given as goal
 
 -- the items so far are placed, and the last of them is the last one
 abbrev pub invariant-loop-item : goal.invariant-loop-item

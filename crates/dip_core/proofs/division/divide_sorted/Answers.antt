@@ -6,8 +6,10 @@ use Rattle.std.proofs.lemmas.List.Sorted.{length_permutation}
 use Rattle.dip_core.specs.declared.item.Item.{Item}
 use Rattle.dip_core.specs.Item.{item_limit}
 use Rattle.dip_core.specs.Division.{all_of}
+use Rattle.dip_core.proofs.DivisionLemmas.{no_parts, IsLeastDivision-permutation, HasDistinctIds-permutation}
 use Rattle.dip_core.proofs.SortedLemmas.{sorted_step, placed_more}
-use Rattle.dip_core.proofs.division.place_all.Goals as goal
+use Rattle.dip_core.proofs.division.divide_sorted.Goals as goal
+use Rattle.dip_core.proofs.division.divide_sorted.Goals.{After-finish}
 
 back : (n : ℕ) → n ≡ n + 1 - 1
 back n = omega arith
@@ -51,8 +53,23 @@ loop-item-preserved c =
           );
     }
 
-pub returns : goal.returns
-returns c =
+-- all items are placed
+placed_all : (c : After-finish) → IsPermutation c.args.sorted.now (all_of c.loop-item.placer.parts)
+placed_all c =
     let all : take c.loop-item.item-index c.args.sorted.now ≡ c.args.sorted.now =
     take_all c.loop-item.item-index c.args.sorted.now c.loop-item-test.false in
     subst (λ xs. IsPermutation xs (all_of c.loop-item.placer.parts)) all c.loop-item.invariant.placed
+
+pub returns-clause-least : goal.returns-clause-least
+returns-clause-least c =
+    IsLeastDivision-permutation c.args.sorted.now (all_of c.loop-item.placer.parts) c.finish.result (placed_all c)
+    c.finish.ensures.least
+
+pub returns-clause-dip : goal.returns-clause-dip
+returns-clause-dip c = λ distinct.
+    let parts = all_of c.loop-item.placer.parts in
+    let dip = c.finish.ensures.dip (HasDistinctIds-permutation c.args.sorted.now parts (placed_all c) distinct) in
+    record { divided = returns-clause-least c; placed = dip.placed }
+
+pub returns-clause-empty : goal.returns-clause-empty
+returns-clause-empty c = no_parts c.args.sorted.now c.finish.result (returns-clause-least c).division
