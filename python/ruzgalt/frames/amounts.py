@@ -73,9 +73,8 @@ def spread(frame: Frame, column: Any, *, each: str = MONTH, by: Names = None, wi
     parts : int, optional
         Of Dask, how many partitions the answer has, where not as many as the frame.
     progress : bool, optional
-        Whether standard error has a line that says how far the call is, by tqdm where that is installed, from two
-        seconds on. Where it isn't given, a terminal has, but no call of Dask. True is for a notebook or a pipe too, and
-        of Dask says how many partitions are done, while they are computed by threads of this process.
+        Whether standard error shows how far the call is, after two seconds. The default is True on a terminal, but
+        False with Dask. True is also for notebooks and pipes, and counts the partitions that this process computes.
 
     Returns
     -------

@@ -36,8 +36,7 @@ class Asking:
         name : str
             The table.
         as_of : int, str, date, datetime, Timestamp or Period, optional
-            The commit as of which it is asked, where not the newest: its number, its label, or a day, at whose midnight
-            it was the newest. log() and diary() list them.
+            The commit to ask, if not the newest: its number, label or day (from midnight). log() and diary() list them.
         points_as : str, optional
             ns, us, ms, s, D, S, date or datetime: the answer's points, where not of the table's kind.
 
@@ -74,8 +73,7 @@ class Asking:
         point : str, date, datetime, Timestamp or Period
             A day is its midnight.
         as_of : int, str, date, datetime, Timestamp or Period, optional
-            The commit as of which it is asked, where not the newest: its number, its label, or a day, at whose midnight
-            it was the newest. log() and diary() list them.
+            The commit to ask, if not the newest: its number, label or day (from midnight). log() and diary() list them.
         points_as : str, optional
             ns, us, ms, s, D, S, date or datetime: the answer's points, where not of the table's kind.
 
@@ -186,8 +184,7 @@ class Asking:
         points_as : str, optional
             ns, us, ms, s, D, S, date or datetime: the answer's points, where not of the tables' kind.
         as_of : int, str, date, datetime, Timestamp or Period, optional
-            The commit as of which it is asked, where not the newest: its number, its label, or a day, at whose midnight
-            it was the newest. log() and diary() list them.
+            The commit to ask, if not the newest: its number, label or day (from midnight). log() and diary() list them.
 
         Returns
         -------
@@ -241,8 +238,7 @@ class Asking:
         points_as : str, optional
             ns, us, ms, s, D, S, date or datetime: the answer's points, where not of the tables' kind.
         as_of : int, str, date, datetime, Timestamp or Period, optional
-            The commit as of which it is asked, where not the newest: its number, its label, or a day, at whose midnight
-            it was the newest. log() and diary() list them.
+            The commit to ask, if not the newest: its number, label or day (from midnight). log() and diary() list them.
 
         Returns
         -------
@@ -289,8 +285,7 @@ class Asking:
         by : name or list of names, optional
             Columns whose equal values are a group; without any all rows are one.
         as_of : int, str, date, datetime, Timestamp or Period, optional
-            The commit as of which it is asked, where not the newest: its number, its label, or a day, at whose midnight
-            it was the newest. log() and diary() list them.
+            The commit to ask, if not the newest: its number, label or day (from midnight). log() and diary() list them.
         mean_as : str, default "float"
             As what a mean comes: the nearest float, the Fraction that it is, or the Decimal as Decimals divide.
         points_as : str, optional
@@ -331,8 +326,7 @@ class Asking:
         name : str
             The table.
         as_of : int, str, date, datetime, Timestamp or Period, optional
-            The commit as of which it is asked, where not the newest: its number, its label, or a day, at whose midnight
-            it was the newest. log() and diary() list them.
+            The commit to ask, if not the newest: its number, label or day (from midnight). log() and diary() list them.
 
         Returns
         -------
@@ -372,8 +366,7 @@ class Asking:
         instant : str, date, datetime, Timestamp or Period, optional
             A point at which as many rows hold: of a frame that has rows; of a Division where not as it says.
         as_of : int, str, date, datetime, Timestamp or Period, optional
-            The commit as of which it is asked, where not the newest: its number, its label, or a day, at whose midnight
-            it was the newest. log() and diary() list them.
+            The commit to ask, if not the newest: its number, label or day (from midnight). log() and diary() list them.
 
         Returns
         -------

@@ -91,9 +91,8 @@ def join(left: Any, right: Any, on: Names = None, *, left_on: Names = None, righ
     parts : int, optional
         Of Dask, how many partitions the answer has, where not as many as the larger frame.
     progress : bool, optional
-        Whether standard error has a line that says how far the call is, by tqdm where that is installed, from two
-        seconds on. Where it isn't given, a terminal has, but no call of Dask. True is for a notebook or a pipe too, and
-        of Dask says how many partitions are done, while they are computed by threads of this process.
+        Whether standard error shows how far the call is, after two seconds. The default is True on a terminal, but
+        False with Dask. True is also for notebooks and pipes, and counts the partitions that this process computes.
 
     Returns
     -------
@@ -205,9 +204,8 @@ def anti(left: Any, right: Any, on: Names = None, *, left_on: Names = None, righ
     parts : int, optional
         Of Dask, how many partitions the answer has, where not as many as the larger frame.
     progress : bool, optional
-        Whether standard error has a line that says how far the call is, by tqdm where that is installed, from two
-        seconds on. Where it isn't given, a terminal has, but no call of Dask. True is for a notebook or a pipe too, and
-        of Dask says how many partitions are done, while they are computed by threads of this process.
+        Whether standard error shows how far the call is, after two seconds. The default is True on a terminal, but
+        False with Dask. True is also for notebooks and pipes, and counts the partitions that this process computes.
 
     Returns
     -------
@@ -298,9 +296,8 @@ def agg(frame: Any, function: Functions, column: Any = None, *, by: Names = None
     parts : int, optional
         Of Dask, how many partitions the answer has, where not as many as the frame.
     progress : bool, optional
-        Whether standard error has a line that says how far the call is, by tqdm where that is installed, from two
-        seconds on. Where it isn't given, a terminal has, but no call of Dask. True is for a notebook or a pipe too, and
-        of Dask says how many partitions are done, while they are computed by threads of this process.
+        Whether standard error shows how far the call is, after two seconds. The default is True on a terminal, but
+        False with Dask. True is also for notebooks and pipes, and counts the partitions that this process computes.
 
     Returns
     -------
@@ -378,9 +375,8 @@ def dip(frame: pd.DataFrame, by: Names = None, *, period: PeriodNames = PERIOD, 
     workers : int, default 4
         Threads of the program, 1 to 64.
     progress : bool, optional
-        Whether standard error has a line that says how far the call is, by tqdm where that is installed, from two
-        seconds on. Where it isn't given, a terminal has, but no call of Dask. True is for a notebook or a pipe too, and
-        of Dask says how many partitions are done, while they are computed by threads of this process.
+        Whether standard error shows how far the call is, after two seconds. The default is True on a terminal, but
+        False with Dask. True is also for notebooks and pipes, and counts the partitions that this process computes.
 
     Returns
     -------

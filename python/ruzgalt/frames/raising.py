@@ -62,10 +62,9 @@ class Raising:
         dry_run : bool, default False
             Changes nothing, and answers a frame of what each update would do.
         label : str, optional
-            What the change's commit is called, of several the last one: as_of= takes it. No other commit has it.
+            A name for the change's last commit, which no other commit has; as_of= takes it.
         day : str, date, datetime, Timestamp or Period, optional
-            The day of the change, from whose midnight on its commits are there. No earlier one than that of a commit
-            before.
+            The day from whose midnight on the change's commits are there, not before the day of an earlier commit.
 
         Returns
         -------

@@ -195,10 +195,9 @@ class Store(Asking, Raising, Written):
             What stands in the store for a missing cell of a column, as `{"note": "?"}`: a value that no cell has. It
             comes back as missing; such a column isn't compared, added up or raised.
         label : str, optional
-            What the change's commit is called, of several the last one: as_of= takes it. No other commit has it.
+            A name for the change's last commit, which no other commit has; as_of= takes it.
         day : str, date, datetime, Timestamp or Period, optional
-            The day of the change, from whose midnight on its commits are there. No earlier one than that of a commit
-            before.
+            The day from whose midnight on the change's commits are there, not before the day of an earlier commit.
 
         Returns
         -------
@@ -238,10 +237,9 @@ class Store(Asking, Raising, Written):
         frame : DataFrame
             Of pandas, with the period's columns and the table's.
         label : str, optional
-            What the change's commit is called, of several the last one: as_of= takes it. No other commit has it.
+            A name for the change's last commit, which no other commit has; as_of= takes it.
         day : str, date, datetime, Timestamp or Period, optional
-            The day of the change, from whose midnight on its commits are there. No earlier one than that of a commit
-            before.
+            The day from whose midnight on the change's commits are there, not before the day of an earlier commit.
 
         Returns
         -------
@@ -284,10 +282,9 @@ class Store(Asking, Raising, Written):
         where : dict, optional
             Columns with the values that rows are to have.
         label : str, optional
-            What the change's commit is called, of several the last one: as_of= takes it. No other commit has it.
+            A name for the change's last commit, which no other commit has; as_of= takes it.
         day : str, date, datetime, Timestamp or Period, optional
-            The day of the change, from whose midnight on its commits are there. No earlier one than that of a commit
-            before.
+            The day from whose midnight on the change's commits are there, not before the day of an earlier commit.
 
         Returns
         -------
@@ -330,10 +327,9 @@ class Store(Asking, Raising, Written):
         where : dict, optional
             Columns with the values that rows are to have.
         label : str, optional
-            What the change's commit is called, of several the last one: as_of= takes it. No other commit has it.
+            A name for the change's last commit, which no other commit has; as_of= takes it.
         day : str, date, datetime, Timestamp or Period, optional
-            The day of the change, from whose midnight on its commits are there. No earlier one than that of a commit
-            before.
+            The day from whose midnight on the change's commits are there, not before the day of an earlier commit.
 
         Returns
         -------
@@ -377,10 +373,9 @@ class Store(Asking, Raising, Written):
         where : name or list of names, optional
             The columns in which rows are to be equal, where not the table's key.
         label : str, optional
-            What the change's commit is called, of several the last one: as_of= takes it. No other commit has it.
+            A name for the change's last commit, which no other commit has; as_of= takes it.
         day : str, date, datetime, Timestamp or Period, optional
-            The day of the change, from whose midnight on its commits are there. No earlier one than that of a commit
-            before.
+            The day from whose midnight on the change's commits are there, not before the day of an earlier commit.
 
         Returns
         -------

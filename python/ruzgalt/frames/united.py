@@ -59,9 +59,8 @@ def coalesce(frame: Frame, by: Names = None, *, period: PeriodNames = PERIOD, op
     parts : int, optional
         Of Dask, how many partitions the answer has, where not as many as the frame.
     progress : bool, optional
-        Whether standard error has a line that says how far the call is, by tqdm where that is installed, from two
-        seconds on. Where it isn't given, a terminal has, but no call of Dask. True is for a notebook or a pipe too, and
-        of Dask says how many partitions are done, while they are computed by threads of this process.
+        Whether standard error shows how far the call is, after two seconds. The default is True on a terminal, but
+        False with Dask. True is also for notebooks and pipes, and counts the partitions that this process computes.
 
     Returns
     -------
@@ -132,9 +131,8 @@ def gaps(frame: Frame, by: Names = None, *, within: Any = None, period: PeriodNa
     parts : int, optional
         Of Dask, how many partitions the answer has, where not as many as the frame.
     progress : bool, optional
-        Whether standard error has a line that says how far the call is, by tqdm where that is installed, from two
-        seconds on. Where it isn't given, a terminal has, but no call of Dask. True is for a notebook or a pipe too, and
-        of Dask says how many partitions are done, while they are computed by threads of this process.
+        Whether standard error shows how far the call is, after two seconds. The default is True on a terminal, but
+        False with Dask. True is also for notebooks and pipes, and counts the partitions that this process computes.
 
     Returns
     -------
@@ -260,9 +258,8 @@ def overlaps(frame: Frame, by: Names = None, *, keep_periods: bool = False, labe
     parts : int, optional
         Of Dask, how many partitions the answer has, where not as many as the frame.
     progress : bool, optional
-        Whether standard error has a line that says how far the call is, by tqdm where that is installed, from two
-        seconds on. Where it isn't given, a terminal has, but no call of Dask. True is for a notebook or a pipe too, and
-        of Dask says how many partitions are done, while they are computed by threads of this process.
+        Whether standard error shows how far the call is, after two seconds. The default is True on a terminal, but
+        False with Dask. True is also for notebooks and pipes, and counts the partitions that this process computes.
 
     Returns
     -------
