@@ -50,7 +50,7 @@ def opened(name: str) -> Iterator[sqlite3.Connection]:
             with transaction(name) as database:
                 yield database
         else:
-            with files.beside([Path(name)], False) as [path], transaction(str(path)) as database:
+            with files.whole([Path(name)], False) as [path], transaction(str(path)) as database:
                 yield database
     except sqlite3.Error as error:
         raise Misfit(f"{error} ({name})") from None

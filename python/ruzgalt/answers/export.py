@@ -41,7 +41,7 @@ def to_folder(picks: Sequence[Pick], folder: Path, is_replacing: bool, printed: 
         if file.exists() and not is_replacing:
             raise Misfit(f"{file} already exists, so no file was written: --replace replaces it")
     folder.mkdir(parents=True, exist_ok=True)
-    with files.beside(places, is_replacing) as paths:
+    with files.whole(places, is_replacing) as paths:
         for pick, path in zip(picks, paths):
             with path.open("wb") as written:
                 written.writelines(printed(pick.answer.table))

@@ -11,7 +11,7 @@ from typing import TYPE_CHECKING, Any, Iterator, Mapping, Optional, Sequence, Un
 
 from ruzgalt import answers
 from ruzgalt.answers import Answer
-from ruzgalt.commands import answers_tool
+from ruzgalt.commands import answers_tool, files
 from ruzgalt.errors import Misfit
 from ruzgalt.frames import checks, instants, running
 from ruzgalt.frames.ask import refusal
@@ -98,7 +98,13 @@ class Written:
         Returns
         -------
         None
-            An error of the system comes as Python's OSError; the file is there whole, or as it was.
+            An error of the system comes as Python's OSError; the file is complete then, or as it was. It keeps its
+            mode. A symbolic link is followed. A device, a pipe or a file with a second hard link is written into.
+
+        Raises
+        ------
+        Refused
+            In a batch: save after its end.
 
         Examples
         --------
@@ -246,14 +252,8 @@ def kept(book: Book, name: str) -> Iterator[str]:
 
 
 def write(path: Any, pieces: Any) -> None:
-    """Writes a file beside its place, and puts it there when it is whole."""
+    """Writes a file, which is complete or as it was."""
     if not isinstance(path, (str, os.PathLike)):
         raise checks.wrong("path", path, "must be the path of a file")
-    place = Path(path)
-    beside = place.with_name(f".{place.name}.{os.getpid()}")
-    try:
-        with beside.open("wb") as file:
-            file.writelines(pieces)
-        beside.replace(place)
-    finally:
-        beside.unlink(missing_ok=True)
+    with files.whole([Path(path)]) as [made], made.open("wb") as file:
+        file.writelines(pieces)

@@ -3,6 +3,7 @@ import os
 import tempfile
 import unittest
 from pathlib import Path
+from concurrent.futures import ThreadPoolExecutor
 
 import pandas as pd
 
@@ -32,13 +33,57 @@ class Written(unittest.TestCase):
             ruzgalt.Store.from_script(file).rows("pay").astype({"from": str, "to": str}),
             self.store.rows("pay").astype({"from": str, "to": str}),
         )
-        with self.assertRaises(OSError):
+        with self.assertRaisesRegex(FileNotFoundError, "none/pay.csv'"):
             self.store.save(self.folder / "none" / "pay.csv")
         with self.assertRaises(ruzgalt.Refused):
+        with self.assertRaises(IsADirectoryError):
+            self.store.save(self.folder)
             self.store.save(5)
         self.assertEqual(os.listdir(self.folder), ["pay.csv"])
 
     def test_a_page_has_tables_and_answers(self):
+    def test_a_file_keeps_its_mode_and_its_links(self):
+        script, other = bytes(self.store.script()), self.folder / "other.csv"
+        other.write_text("older")
+        other.chmod(0o600)
+        link, hard = self.folder / "link.csv", self.folder / "hard.csv"
+        link.symlink_to("other.csv")
+        for file in (link, hard):
+            with self.subTest(file.name):
+                other.write_text("older")
+                self.store.save(file)
+                self.assertEqual((file.read_bytes(), other.read_bytes()), (script, script))
+                self.assertEqual((other.stat().st_mode & 0o777, link.is_symlink()), (0o600, True))
+            if not hard.exists():
+                hard.hardlink_to(other)
+        self.store.save(self.folder / "new.csv")
+        (self.folder / "plain").touch()
+        self.assertEqual((self.folder / "new.csv").stat().st_mode, (self.folder / "plain").stat().st_mode)
+
+    def test_a_pipe_and_a_device_are_written_into(self):
+        pipe = self.folder / "pipe"
+        os.mkfifo(pipe)
+        with ThreadPoolExecutor() as threads:
+            read = threads.submit(pipe.read_bytes)
+            self.store.save(pipe)
+            self.assertEqual(read.result(), bytes(self.store.script()))
+        self.store.save("/dev/null")
+        self.assertTrue(pipe.is_fifo() and Path("/dev/null").is_char_device())
+
+    def test_threads_save_to_one_file(self):
+        """Processes of one number may share a folder too, each in a container of its own."""
+        small, file = ruzgalt.Store(), self.folder / "pay.csv"
+        small.table("pay", self.store.rows("pay").iloc[:0])
+        self.store.save(file)
+        stores = [self.store, small] * 200
+        scripts = {bytes(store.script()) for store in stores[:2]}
+        with ThreadPoolExecutor(5) as threads:
+            saved = [threads.submit(store.save, file) for store in stores]
+            while not all(one.done() for one in saved):
+                self.assertTrue(file.read_bytes() in scripts, "the file is mixed or empty")
+        self.assertEqual([one.exception() for one in saved if one.exception()], [])
+        self.assertEqual(os.listdir(self.folder), ["pay.csv"])
+
         asked = [*QUESTIONS[:2], f"cost={QUESTIONS[2]}"]
         self.store.page(str(self.folder / "pay.html"), asked, title="Wages", note="-x")
         page = (self.folder / "pay.html").read_text()
