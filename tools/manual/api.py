@@ -10,7 +10,7 @@ from manual.numpydoc import Docstring, Entry
 WIDTH = 110
 NO_CALLS = ("frames", "__version__")
 # Methods of a store that its own modules call.
-INNER = ("accept", "asked", "change", "known", "seen")
+INNER = ("accept", "asked", "change", "known", "seen", "settled")
 HEAD = [
     "# API", "",
     "For who calls `ruzgalt` from Python: what it offers, call by call. [FRAMES](FRAMES.md) is the page to read first: "

@@ -130,7 +130,7 @@ class Store(Asking, Raising, Written):
         return store
 
     def __repr__(self) -> str:
-        book = self.book
+        book = self.seen()
         return f"<Store of {len(book.commands)} commits, tables: {', '.join(book.tables) or 'none'}>"
 
     def __deepcopy__(self, _: Any) -> Store:
@@ -138,10 +138,7 @@ class Store(Asking, Raising, Written):
         return copy.copy(self)
 
     def __getstate__(self) -> Dict[str, Any]:
-        with self.lock:
-            if self.draft is not None:
-                raise Refused("BadCommand", "a batch hasn't ended: copy after its end")
-            return {"book": replace(self.book, rows={})}
+        return {"book": replace(self.settled(), rows={})}
 
     def __setstate__(self, state: Mapping[str, Any]) -> None:
         self.book, self.lock, self.draft = state["book"], RLock(), None
@@ -163,9 +160,17 @@ class Store(Asking, Raising, Written):
         return dict(self.seen().tables)
 
     def seen(self) -> Book:
-        """What a question sees: in a batch its changes too."""
+        """What a question sees, in a batch its changes too."""
         with self.lock:
             return self.draft.book if self.draft is not None else self.book
+
+    def settled(self) -> Book:
+        """What is written to files. Raises Refused in a batch, whose changes may still be refused."""
+        with self.lock:
+            if self.draft is not None:
+                reason = "the batch hasn't ended, and its changes may still be refused"
+                raise Refused("BadCommand", f"{reason}: copy, save and make pages after its end")
+            return self.book
 
     # Changes. Each answers what it did, or within a batch None. It warns of what may not be meant (ruzgalt.Doubt).
 

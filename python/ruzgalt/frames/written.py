@@ -62,12 +62,13 @@ class Picture:
 class Written:
     """What a store has of its script, beside changes and questions."""
 
-    book: Book
-
     def seen(self) -> Book:
         raise NotImplementedError
 
     def script(self) -> Script:
+    def settled(self) -> Book:
+        raise NotImplementedError
+
         """All changes that were accepted, as ./dipq and tools/answers read them.
 
         Returns
@@ -76,6 +77,11 @@ class Written:
             Bytes: a script of the language, CSV in UTF-8. Its `names` say what its columns are called in frames.
 
         Examples
+        Raises
+        ------
+        Refused
+            In a batch, as do save and page.
+
         --------
         >>> print(store.script().decode().strip())
         table,pay,person,text,cents,int,key,person
@@ -85,7 +91,7 @@ class Written:
         end
         update,pay,2024-07-01,2025-01-01,set,cents,5400,where,person,Ada
         """
-        return self.book.script
+        return self.settled().script
 
     def save(self, path: AnyPath) -> None:
         """Writes the script to a file, in place of what was there.
@@ -137,12 +143,12 @@ class Written:
         Returns
         -------
         None
-            An error of the system comes as Python's OSError; the file is there whole, or as it was.
+            As of save().
 
         Raises
         ------
         Refused
-            Where the store is empty, or a question can't be asked.
+            If the store is empty, a question can't be asked, or a batch hasn't ended.
         Stopped
             If the program ended without all answers.
 
@@ -152,13 +158,14 @@ class Written:
         >>> with tempfile.TemporaryDirectory() as folder:
         ...     store.page(f"{folder}/pay.html", ["agg,pay,sum,cents"])
         """
-        asked = checks.texts("questions", questions)
+        asked, book = checks.texts("questions", questions), self.settled()
+        book.run()
         for question in asked:
-            answered(self.book, question)
+            answered(book, question)
         given = {"title": title, "note": note, **({} if diary is None else {"diary": diary})}
         words = [f"--{option}={checks.text(option, one)}" for option, one in given.items()]
         words += [f"--ask={question}" for question in asked]
-        with kept(self.book, Path(path).with_suffix(".csv").name) as file, refusing():
+        with kept(book, Path(path).with_suffix(".csv").name) as file, refusing():
             options = answers_tool.options_of("page", [file, *words])
             write(path, document.pieces(contents.of(sources.ask(options), diary)))
 
@@ -220,7 +227,10 @@ def answered(book: Book, question: Any) -> Sequence[Answer]:
     if len(begun) != len(book.commands) + 1 or begun[-1].word in CHANGES:
         raise checks.wrong("question", question, "must be one question, not a change")
     output = running.answer([text], book.workers).tobytes()
-    found = answers.of_commands(begun, output, is_own=True)
+    try:
+        found = answers.of_commands(begun, output, is_own=True)
+    except Misfit as misfit:
+        raise unreadable(misfit) from None
     for place, one in enumerate(found[:-1]):
         # Of a batch, whose changes aren't accepted yet.
         if one.refusal:

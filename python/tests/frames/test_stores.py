@@ -522,7 +522,8 @@ class Batches(Case):
             made.table("u", frame())
             self.assertEqual((len(made.rows("t")), len(made.rows("u")), len(made.rows("t", as_of=2))), (4, 2, 2))
             self.assertEqual(made.log()["kind"].tolist(), ["table", "load", "load", "table", "load"])
-            self.assertEqual(made.script().count(b"load"), 1)
+            self.refuses(made.script, "BadCommand", "after its end")
+        self.assertEqual(made.script().count(b"load"), 3)
 
     def test_a_question_in_a_batch_raises_what_refuses_a_change(self):
         made = store(frame(), key=["k"])

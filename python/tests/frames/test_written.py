@@ -1,4 +1,5 @@
 """Files of a store: its script, a page of it, and pictures."""
+import copy
 import os
 import tempfile
 import unittest
@@ -126,6 +127,22 @@ class Written(unittest.TestCase):
             self.store.picture("rows,pay", by="person")
         self.assertEqual(caught.exception.name, "KeyOverlap")
         self.assertIn("both hold at", caught.exception.reason)
+
+    def test_in_a_batch_no_file_is_written(self):
+        """Files would have another state than questions, or changes that are refused later."""
+        page, file = self.folder / "pay.html", self.folder / "pay.csv"
+        with self.store.batch():
+            self.store.update("pay", "2024-01-01", None, {"cents": 77777}, {"person": "Grace"})
+            for call in (lambda: self.store.save(file), lambda: self.store.page(page), self.store.script,
+                         lambda: self.store.page(page, ["rows,pay"]), lambda: copy.copy(self.store)):
+                with self.assertRaises(ruzgalt.Refused) as caught:
+                    call()
+                self.assertIn("after its end", str(caught.exception))
+            self.assertEqual(repr(self.store), "<Store of 3 commits, tables: pay>")
+        self.store.save(file)
+        self.store.page(page, ["rows,pay"])
+        for one in (file, page):
+            self.assertIn("77777", one.read_text())
 
     def test_what_is_no_picture_is_refused(self):
         for question in (*NO_QUESTIONS, 5):
