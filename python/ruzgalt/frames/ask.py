@@ -6,8 +6,8 @@ from typing import List, Optional, Sequence, Tuple
 
 from ruzgalt.frames import classes, running, script
 from ruzgalt.frames.arrays import NO_INTS, Cells, Ints
-from ruzgalt.frames.errors import Refused, Stopped
-from ruzgalt.frames.output import Output
+from ruzgalt.frames.errors import Refused
+from ruzgalt.frames.output import Output, unreadable
 from ruzgalt.frames.script import Command
 from ruzgalt.frames.sides import Side
 from ruzgalt.script import forms, records
@@ -52,7 +52,7 @@ def first_refused(output: Output, changes: Sequence[Command]) -> Optional[Tuple[
 def refusal(command: Command, record: Sequence[str]) -> Exception:
     """Of an answer that is neither ok nor what was asked for."""
     if record[0] != "error" or len(record) < 3:
-        return Stopped(f"the program answered {records.visible(records.to_record(record))} to {command.word}")
+        return unreadable(f"the program answered {records.visible(records.to_record(record))} to {command.word}")
     return Refused(record[2], REMEDIES.get(record[2], f"see {command.word} in docs/LANGUAGE.md"), label=command.label)
 
 
@@ -71,9 +71,9 @@ def pair(word: str, sides: Sequence[Side]) -> Command:
 
 
 def rows_of(side: Side, ids: Ints) -> Ints:
-    """The rows with these ids, which count from 1 on. Raises Stopped where there aren't so many."""
+    """The rows with these ids, which count from 1 on. Raises Stopped if there is no such row."""
     if len(ids) and not 1 <= ids.min() <= ids.max() <= len(side):
-        raise Stopped("the answers have a row that isn't one of the script")
+        raise unreadable("they have a row that isn't one of the script")
     return ids - 1
 
 

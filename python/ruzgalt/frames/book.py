@@ -11,7 +11,7 @@ from ruzgalt.frames.arrays import Ints
 from ruzgalt.frames.changes import Change, Changed
 from ruzgalt.frames.diaries import Diary
 from ruzgalt.frames.errors import Refused, Stopped
-from ruzgalt.frames.output import Output
+from ruzgalt.frames.output import Output, unreadable
 from ruzgalt.frames.progress import OfCall
 from ruzgalt.frames.script import Command, Script
 from ruzgalt.frames.standing import Standing
@@ -120,7 +120,7 @@ class Book:
         """Of a commit that was accepted, and of which the program says something else."""
         wanted = "{} added, {} closed".format(*self.counts[place])
         command = f"commit {place + 1}, {self.commands[place].word}"
-        return Stopped(f"{command}: {wanted}, and now the program says: {answered}")
+        return unreadable(f"{command}: {wanted}, and now the program says: {answered}")
 
 
 def counts_of(output: Output) -> Ints:

@@ -19,6 +19,7 @@ from ruzgalt.frames.book import LOG, Book, counts_of
 from ruzgalt.frames.errors import Refused, Stopped, doubt
 from ruzgalt.frames.named import same
 from ruzgalt.frames.options import OF_TABLE, options_of
+from ruzgalt.frames.output import unreadable
 from ruzgalt.frames.script import Command, Script
 from ruzgalt.frames.sides import Side
 from ruzgalt.frames.tables import Table, coded, listed, refuse_stand_ins
@@ -57,7 +58,7 @@ def answers_of(data: bytes, workers: int) -> List[Answer]:
         try:
             found = answers.of_commands(commands.commands(Source(data)), output, is_own=True)
         except Misfit as misfit:
-            raise Stopped(f"the program's answers aren't those of the script: {misfit}") from None
+            raise unreadable(misfit) from None
         reason = reason_of([one for one in found if one.refusal and not one.command.form.is_query])
     if reason:
         doubt(reason)

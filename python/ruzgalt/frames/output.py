@@ -56,14 +56,17 @@ def line_ends(data: Bytes) -> Ints:
     return np.concatenate(ends)
 
 
+def unreadable(reason: object) -> Stopped:
+    return Stopped(f"the answers can't be read: {reason}; is the program that DIPQ names a dipq of this version?")
+
+
 @contextmanager
 def reading() -> Iterator[None]:
-    """Within, what can't be read is said to be answers of no dipq."""
+    """Raises Stopped for what numpy and Python say of bytes that are no answers."""
     try:
         yield
     except (IndexError, ValueError, OverflowError) as error:
-        reason = "the answers can't be read: is the program that DIPQ names a dipq of this version?"
-        raise Stopped(f"{reason} ({error})") from None
+        raise unreadable(error) from None
 
 
 class Output:
@@ -77,7 +80,7 @@ class Output:
     def record(self) -> Sequence[str]:
         """The next one, which has no texts: words, numbers and points, so no quotes."""
         if self.place >= len(self.ends):
-            raise Stopped("the answers end too early")
+            raise unreadable("they end too early")
         data = self.data[self.starts[self.place]:self.ends[self.place]].tobytes()
         self.place += 1
         with reading():
@@ -85,13 +88,15 @@ class Output:
 
     def block(self, kinds: str) -> List[Cells]:
         """The columns of a list of records, which its `end` counts; by kinds of READERS, from the second field on."""
-        first = self.data[self.starts[self.place:]]
-        count = int((first == END).argmax())
+        is_end = self.data[self.starts[self.place:]] == END
+        if not is_end.any():
+            raise unreadable("a list has no end")
+        count = int(is_end.argmax())
         steps = range(self.place, self.place + count, RECORDS)
         parts = [self.part(begin, min(RECORDS, self.place + count - begin), kinds) for begin in steps]
         self.place += count
         if list(self.record()) != ["end", str(count)]:
-            raise Stopped("a list of the answers has the wrong end")
+            raise unreadable("a list has the wrong end")
         if not parts:
             return [EMPTY[kind] for kind in kinds if kind in EMPTY]
         return [joined(list(column)) for column in zip(*parts)]
@@ -101,10 +106,10 @@ class Output:
         marks = marks_of(self.data[low:high]) + low
         is_even = len(marks) % many == 0 and (self.data[marks.reshape(many, -1)[:, -1]] == LINE).all()
         if not is_even:
-            raise Stopped("records of a list of the answers have different numbers of fields")
+            raise unreadable("records of a list have different numbers of fields")
         marks = marks.reshape(many, -1)
         if marks.shape[1] <= len(kinds):
-            raise Stopped("records of a list of the answers have too few fields")
+            raise unreadable("records of a list have too few fields")
         fields = [(kind, marks[:, place] + 1, marks[:, place + 1]) for place, kind in enumerate(kinds)]
         with reading():
             return [READERS[kind](self.data, start, stop) for kind, start, stop in fields if kind in READERS]

@@ -16,6 +16,7 @@ from ruzgalt.errors import Misfit
 from ruzgalt.frames import checks, instants, running
 from ruzgalt.frames.ask import refusal
 from ruzgalt.frames.errors import Refused
+from ruzgalt.frames.output import unreadable
 from ruzgalt.frames.script import Command, Script
 from ruzgalt.page import contents, document, sources
 from ruzgalt.pictures import figures, svg
@@ -65,10 +66,10 @@ class Written:
     def seen(self) -> Book:
         raise NotImplementedError
 
-    def script(self) -> Script:
     def settled(self) -> Book:
         raise NotImplementedError
 
+    def script(self) -> Script:
         """All changes that were accepted, as ./dipq and tools/answers read them.
 
         Returns
@@ -76,12 +77,12 @@ class Written:
         Script
             Bytes: a script of the language, CSV in UTF-8. Its `names` say what its columns are called in frames.
 
-        Examples
         Raises
         ------
         Refused
             In a batch, as do save and page.
 
+        Examples
         --------
         >>> print(store.script().decode().strip())
         table,pay,person,text,cents,int,key,person

@@ -123,6 +123,23 @@ class Program(unittest.TestCase):
         self.command("echo ok,1; echo ok,2")
         self.says("too early")
 
+    def test_a_program_that_answers_nothing_is_reported(self):
+        store, whole = ruzgalt.Store(), ruzgalt.Store()
+        whole.table("t", FRAME)
+        calls = [
+            store.log, lambda: store.table("t", FRAME), whole.log, lambda: whole.rows("t"), lambda: whole.dip("t"),
+            lambda: whole.load("t", FRAME), lambda: whole.picture("rows,t"), lambda: whole.history("t"),
+            lambda: ruzgalt.Store.from_script(whole.script()), lambda: ruzgalt.agg(FRAME, "count"),
+            lambda: ruzgalt.join(FRAME, FRAME, on="k"), lambda: ruzgalt.anti(FRAME, FRAME, on="k"),
+            lambda: whole.page(self.folder / "t.html", ["rows,t"]), lambda: whole.page(self.folder / "t.html"),
+        ]
+        for program in ("/bin/true", "/bin/echo", "/bin/false"):
+            for place, call in enumerate(calls):
+                with self.subTest(program=program, call=place), mock.patch.dict(os.environ, DIPQ=program):
+                    with self.assertRaises(ruzgalt.Stopped) as caught:
+                        call()
+                    self.assertIn("DIPQ names a dipq", str(caught.exception))
+
     def test_another_program_is_reported(self):
         joined = "ok,1; echo ok,2; echo ok,3; echo ok,4; echo"
         cases = [
