@@ -93,11 +93,28 @@ def side_of(frame: Any, asked: Measures, options: Options) -> Side:
     return side
 
 
+def by_category(column: Values) -> Values:
+    """A category's values as numbers in the order of its categories, as groupby has them; other columns unchanged.
+
+    Values that aren't categories come last: a store's change may have added some.
+    """
+    if not isinstance(column.dtype, pd.CategoricalDtype):
+        return column
+    cells: Any = column.texts.cells
+    codes = column.codes
+    if column.kind == "int":
+        cells, codes = np.unique(codes, return_inverse=True)
+    ranks = {cell: rank for rank, cell in enumerate(column.dtype.categories.tolist())}
+    for cell in sorted(cells):
+        ranks.setdefault(cell, len(ranks))
+    return Values(None, "int", np.array([ranks[cell] for cell in cells], np.int64)[codes])
+
+
 def group_codes(side: Side, count: int) -> Tuple[Values, Ints]:
     """The rank of each row's group, by its first so many values from the left, and the first row of each group."""
     if not count:
         return Values(None, "int", np.zeros(len(side), np.int64)), np.zeros(1, np.int64)
-    numbers, bound = classes.together(([column] for column in side.columns[:count]), sort=True)
+    numbers, bound = classes.together(([by_category(column)] for column in side.columns[:count]), sort=True)
     is_there = np.zeros(bound, bool)
     is_there[numbers] = True
     codes = (np.cumsum(is_there) - 1)[numbers]

@@ -160,7 +160,9 @@ def agg(asked: Asked, name: str, function: Any, column: Any) -> Any:
             table.refuse_missing(one.column, "would be counted as a value")
     amounts = {one: table.column(one) for one in measures.amounts_of(measured)}
     measures.refuse_texts(measured, amounts)
-    is_alone = len(by) < 2 and len(measured) == 1 and measured[0].function != "mean"
+    # The program sorts groups by text or number, frames by the order of categories.
+    is_simple = len(by) < 2 and not any(isinstance(one.dtype, pd.CategoricalDtype) for one in by)
+    is_alone = is_simple and len(measured) == 1 and measured[0].function != "mean"
     groups_of, (start, end, *values) = (by_one if is_alone else by_several)(asked, table, measured, by)
     doubts.of_groups(
         coded(one, pd.unique(cells)) for one, cells in zip(by, groups_of) if table.stand_in(one.name) is None

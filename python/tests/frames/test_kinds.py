@@ -85,6 +85,28 @@ class Bools(unittest.TestCase):
                 made.load("t", frame([(0, 1)], [2]))
                 self.assertEqual(sorted(map(int, made.rows("t")["k"].tolist())), [0, 0, 0, 1, 1, 2])
 
+    def test_groups_of_a_category_are_in_its_order(self):
+        """As groupby has them, of texts and of numbers, ordered or not; values of a store's changes come last."""
+        for values, is_ordered in ((["S", "M", "L"], True), ([30, 4, 5], False)):
+            dtype = pd.CategoricalDtype([*values, values[0] * 2], is_ordered)
+            days = frame([(0, 5), (1, 3), (2, 9), (4, 6)], [*values[::-1], values[2]], dtype).assign(n=[1, 2, 3, 4])
+            wanted = [k for k, sum in days.groupby("k", observed=False)["n"].sum().items() if sum]
+            store = ruzgalt.Store()
+            store.table("t", days)
+            answers = [
+                ruzgalt.agg(days, "count", by="k"), ruzgalt.coalesce(days, "k"),
+                ruzgalt.gaps(days, "k", within=(BEGIN, BEGIN + 90 * DAY)),
+                ruzgalt.spread(days, "n", amount="per day", by="k"),
+                ruzgalt.dip(days, "k").count.index.to_frame(name="k"), store.agg("t", "count", by="k"),
+                store.agg("t", "sum", "n", by=["k"]), store.agg("t", {"n": ["sum", "max"]}, by="k"),
+            ]
+            for place, answer in enumerate(answers):
+                with self.subTest(values, place=place):
+                    self.assertEqual(answer["k"].drop_duplicates().tolist(), wanted)
+                    self.assertEqual(answer["k"].dtype, dtype)
+            store.update("t", BEGIN, None, {"k": values[0] * 7}, {"k": values[0]})
+            self.assertEqual(store.agg("t", "count", by="k")["k"].unique().tolist(), [*values[1:], values[0] * 7])
+
     def test_what_is_missing_is_refused_where_it_is_compared_alone(self):
         cells = [True, None, True, False]
         for dtype in ("boolean", "category", object):
