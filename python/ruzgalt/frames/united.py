@@ -13,7 +13,6 @@ import pandas as pd
 
 from ruzgalt.frames import groups, instants, measures, pairs, split
 from ruzgalt.frames.answer import Columns
-from ruzgalt.frames.arrays import Ints
 from ruzgalt.frames.ask import Found
 from ruzgalt.frames.checks import are_spread
 from ruzgalt.frames.errors import Refused
@@ -24,6 +23,7 @@ from ruzgalt.frames.options import (
 )
 from ruzgalt.frames.progress import OfCall
 from ruzgalt.frames.sides import Side
+from ruzgalt.frames.values import Values
 
 if TYPE_CHECKING:
     import dask.dataframe as dd
@@ -138,7 +138,8 @@ def gaps(frame: Frame, by: Names = None, *, within: Any = None, period: PeriodNa
     -------
     DataFrame
         Of Dask where the frame is. It has the columns of `by` and the period's two in their dtypes. Rows are by group,
-        then start; of Dask partitions are in no order. A group of which the frame has no row isn't there.
+        then start; with Dask partitions are in no order. With `by` a group without a row in the frame isn't there.
+        Without `by` a frame of no rows has no gap, but `within` is one gap then, as it is if all rows are outside it.
 
     Raises
     ------
@@ -206,22 +207,24 @@ def gaps_in(frame: Any, side: Side, span: Optional[Span], options: Options) -> A
     by = options.by or ()
     codes, firsts = groups.group_codes(side, len(by))
     rows = replace(side, columns=[codes])
-    start, end, group = unheld(rows, firsts[:len(side)], span, options)
+    # If no row is there, all of the span is a gap of the one group that there is without `by`.
+    count = len(firsts) if span else min(len(firsts), len(side))
+    start, end, group = unheld(rows, count, span, options)
     columns = Columns(groups.groups_at(frame, by, firsts[group]))
     columns.add(pairs.period_of(start, end, [side], options, options.form))
     return columns.frame()
 
 
-def unheld(rows: Side, firsts: Ints, span: Optional[Span], options: Options) -> Found:
-    """Start, end and group of the time in which no row holds: the anti-join of all of the time that is looked at."""
-    numbers = np.arange(len(firsts))
-    start, end = (np.full(len(firsts), second, np.int64) for second in span or (0, 0))
-    if span is None:
+def unheld(rows: Side, count: int, span: Optional[Span], options: Options) -> Found:
+    """Start, end and group of the time in which no row holds: an anti-join, whose left rows are each group's time."""
+    numbers = np.arange(count)
+    start, end = (np.full(count, second, np.int64) for second in span or (0, 0))
+    if span is None and count:
         order = np.argsort(rows.columns[0].codes, kind="stable")
         begins = np.searchsorted(rows.columns[0].codes[order], numbers)
         start, end = np.minimum.reduceat(rows.start[order], begins), np.maximum.reduceat(rows.end[order], begins)
-    looked_at = replace(rows.take(firsts), start=start, end=end, places=numbers)
-    return split.anti([looked_at, rows], options.workers)
+    whole = Side(start, end, [Values(None, "int", numbers)], rows.kind, places=numbers)
+    return split.anti([whole, rows], options.workers)
 
 
 def overlaps(frame: Frame, by: Names = None, *, keep_periods: bool = False, labels: bool = False,

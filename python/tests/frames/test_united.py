@@ -22,7 +22,12 @@ class United(unittest.TestCase):
         for by in (None, "k"):
             for call in (ruzgalt.coalesce, ruzgalt.gaps, ruzgalt.overlaps):
                 self.assertEqual(len(call(none, by)), 0, call)
-            self.assertEqual(len(ruzgalt.gaps(none, by, within=("2024-01-01", "2024-02-01"))), 0)
+        # As if all rows were outside; but nothing says which groups there are.
+        words = {"within": ("2024-01-01", "2024-02-01")}
+        got = ruzgalt.gaps(none, **words)
+        pd.testing.assert_frame_equal(got, ruzgalt.gaps(frame(("2025-01-01", "2025-01-02", "a")), **words))
+        self.assertEqual(got.astype(str).values.tolist(), [list(words["within"])])
+        self.assertEqual(ruzgalt.gaps(none, "k", **words).shape, (0, 3))
 
     def test_months_stay_months(self):
         months = pd.PeriodIndex(["2024-01", "2024-02", "2024-05"], freq="M")
