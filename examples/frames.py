@@ -149,7 +149,7 @@ days = {"period": ("Von", "Bis"), "last_day": True}
 print(ruzgalt.dip(desk, **days))
 floors = ruzgalt.dip(desk, by="Etage", **days)
 print(pd.DataFrame({"desks": floors.count, "day": floors.instant}))
-print(desk.assign(part=floors).sort_values(["Etage", "part", "Von"]).head(4))
+print(desk.assign(part=floors.parts).sort_values(["Etage", "part", "Von"]).head(4))
 # | 4 parts of 10 rows, as many as hold at 2024-03-07 00:00:00
 # |        desks        day
 # | Etage

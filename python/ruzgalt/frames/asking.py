@@ -331,8 +331,8 @@ class Asking:
         Returns
         -------
         Division
-            Its parts are a frame of part, from 0 on, and row_id, both in int64, by part and start. It has count and
-            instant as of ruzgalt.dip, and can be used as the frame.
+            Its parts are a frame of part, from 0 on, and row_id, both in int64, sorted by part and start. Its count and
+            instant are as in ruzgalt.dip.
 
         Raises
         ------

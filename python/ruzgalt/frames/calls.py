@@ -381,10 +381,9 @@ def dip(frame: pd.DataFrame, by: Names = None, *, period: PeriodNames = PERIOD, 
     Returns
     -------
     Division
-        Its parts are a Series, the number of each row's part, from 0 on, under its label: int64, of the name part. It
-        has count, how many parts there are, and instant, the first point at which as many rows hold: why there can't be
-        fewer. It can be used as the Series. With `by` each group has its own parts, from 0 on, and count and instant
-        are Series by group.
+        Its `parts` are a Series with the frame's index: the number of each row's part, from 0 on, an int64 named part.
+        `count` is the number of parts; `instant` is the first point at which that many rows hold, so that fewer parts
+        aren't enough. With `by` each group has its own parts, from 0 on, and count and instant are Series by group.
 
     Raises
     ------

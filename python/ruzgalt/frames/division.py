@@ -20,23 +20,29 @@ from ruzgalt.script import forms
 # So many tables a run has, and of so many groups each is shown.
 TABLES, SHOWN = 64, 10
 OTHERWISE = "agg(frame, 'count') has the number of parts, its greatest count, and the instant, at which that begins"
-# A Series of a frame's division, a DataFrame of a store's.
+REMEDY = "its parts are division.parts, as in frame.assign(part=division.parts)"
+OPERATIONS = """eq ne lt le gt ge add radd sub rsub mul rmul truediv rtruediv floordiv rfloordiv mod rmod pow rpow
+and rand or ror xor rxor neg pos abs invert bool int float index len iter getitem setitem contains array"""
+# The parts of a frame's division are a Series, those of a store's a DataFrame.
 Parts = TypeVar("Parts")
 
 
 @dataclass(frozen=True, eq=False, repr=False)
 class Division(Generic[Parts]):
-    """Rows in the fewest parts of which no two rows hold at one time. It can be used as its parts.
+    """Rows divided into the fewest parts, so that no two rows of a part hold at one time.
+
+    It isn't a Series: `parts` is one. Each operation of a Series with the Division itself raises Refused.
 
     Attributes
     ----------
     parts : Series or DataFrame
-        The part of each row, from 0 on: of ruzgalt.dip a Series, of Store.dip a frame of part and row_id.
+        The part of each row, from 0 on. From ruzgalt.dip it is a Series with the frame's index, from Store.dip a frame
+        of part and row_id.
     count : int
-        How many parts there are; of groups a Series of them, by group.
+        How many parts there are. With groups it is a Series of them, by group.
     instant : point or None
-        The first point at which as many rows hold: why there can't be fewer parts. It is as the rows' starts are, and
-        None where there is no row; of groups a Series.
+        The first point at which that many rows hold, so that fewer parts aren't enough. It has the type of the rows'
+        starts, and is None if there are no rows. With groups it is a Series.
 
     Examples
     --------
@@ -47,8 +53,8 @@ class Division(Generic[Parts]):
     2 parts of 2 rows, as many as hold at 2024-01-03 00:00:00
     >>> division.count, division.instant, division.parts.tolist()
     (2, Timestamp('2024-01-03 00:00:00'), [0, 1])
-    >>> stay.assign(part=division)["part"].tolist(), len(division)
-    ([0, 1], 2)
+    >>> stay.assign(part=division.parts)["part"].tolist()
+    [0, 1]
     >>> ruzgalt.dip(stay.assign(ward=["A", "B"]), by="ward")
     2 rows in 2 groups of 1 part
     'A': 1 part, as many as hold at 2024-01-01 00:00:00
@@ -59,33 +65,30 @@ class Division(Generic[Parts]):
     count: Any
     instant: Any
 
-    def __repr__(self) -> str:
-        if isinstance(self.count, pd.Series):
-            return "\n".join(lines_of_groups(len(self), self.count, self.instant))
-        parts = f"{many(self.count, 'part')} of {many(len(self), 'row')}"
-        return parts if self.instant is None else f"{parts}, as many as hold at {self.instant}"
+    # So that arrays leave `array == division` to the division, and don't compare it as one object.
+    __array_priority__ = 1000
 
-    # What else is asked of it is asked of its parts. What pandas asks each object by names of its own isn't.
+    def __repr__(self) -> str:
+        parts: Any = self.parts
+        if isinstance(self.count, pd.Series):
+            return "\n".join(lines_of_groups(len(parts), self.count, self.instant))
+        text = f"{many(self.count, 'part')} of {many(len(parts), 'row')}"
+        return text if self.instant is None else f"{text}, as many as hold at {self.instant}"
 
     def __getattr__(self, name: str) -> Any:
-        if name.startswith("_") or name == "parts":
-            raise AttributeError(f"a Division has no {name}")
-        return getattr(self.parts, name)
+        raise AttributeError(f"a Division has no {name}; {REMEDY}")
 
-    def __getitem__(self, name: Any) -> Any:
-        found: Any = self.parts
-        return found[name]
 
-    def __len__(self) -> int:
-        found: Any = self.parts
-        return len(found)
+def refuse_use(division: Division[Any], *_: Any, **__: Any) -> Any:
+    """Every operation of a Series. Without it pandas would put the division itself into each row, or compare with it.
 
-    def __iter__(self) -> Iterator[Any]:
-        found: Any = self.parts
-        return iter(found)
+    Raises Refused, since pandas takes a TypeError of a comparison for False.
+    """
+    raise Refused("BadCommand", f"a Division isn't a Series or an array; {REMEDY}")
 
-    def __array__(self, dtype: Any = None, copy: Any = None) -> Any:
-        return np.array(self.parts, dtype)
+
+for word in OPERATIONS.split():
+    setattr(Division, f"__{word}__", refuse_use)
 
 
 def many(number: int, word: str) -> str:

@@ -46,29 +46,57 @@ class Divisions(unittest.TestCase):
 
     def test_of_no_rows_there_is_none(self):
         for division in (ruzgalt.dip(frame(FIRST, LAST).iloc[:0]),):
-            self.assertEqual((division.count, division.instant, len(division)), (0, None, 0))
+            self.assertEqual((division.count, division.instant, len(division.parts)), (0, None, 0))
             self.assertEqual(repr(division), "0 parts of 0 rows")
 
-    def test_it_is_used_as_its_parts(self):
+    def test_its_parts_have_the_index_of_the_frame(self):
         found = frame(FIRST, LAST)
         division = ruzgalt.dip(found)
         self.assertEqual(repr(division), "2 parts of 2 rows, as many as hold at 2024-02-01 00:00:00")
         self.assertIsInstance(division.parts, pd.Series)
-        self.assertEqual((division["y"], division.tolist(), list(division), len(division)), (1, [0, 1], [0, 1], 2))
-        for whole in (found.assign(part=division), found.assign(part=division.parts)):
-            self.assertEqual(whole["part"].dtype, np.int64)
-            self.assertEqual(whole["part"].tolist(), [0, 1])
-        self.assertFalse(isinstance(division, pd.Series) or pd.api.types.is_dict_like(division))
+        whole = found.iloc[::-1].assign(part=division.parts)
+        self.assertEqual((whole["part"].dtype, whole["part"].to_dict()), (np.int64, {"x": 0, "y": 1}))
         for other in (copy.copy(division), copy.deepcopy(division), pickle.loads(pickle.dumps(division))):
-            self.assertEqual((other.tolist(), other.count, other.instant), ([0, 1], 2, FIRST[1]))
-        self.assertRaises(AttributeError, lambda: division.part_count)
+            self.assertEqual((other.parts.tolist(), other.count, other.instant), ([0, 1], 2, FIRST[1]))
+
+    def test_it_is_no_series(self):
+        """Some calls of pandas and numpy take any object for a single value, and would answer without an error."""
+        found = frame(FIRST, LAST).assign(x=[1, 2], text=["a", "b"], small=pd.array([1, 2], "Int8"))
+        division = ruzgalt.dip(found)
+        uses = [
+            lambda: found.assign(part=division), lambda: found.__setitem__("part", division),
+            lambda: found.loc.__setitem__((slice(None), "part"), division), lambda: found.insert(0, "part", division),
+            lambda: pd.Series(division), lambda: pd.DataFrame({"part": division}), lambda: pd.Index(division),
+            lambda: np.asarray(division), lambda: np.array([division, division]), lambda: np.unique(division),
+            lambda: np.where(division, "x", "y"), lambda: np.add(division, 1), lambda: np.equal(division, 0),
+            lambda: division == 0, lambda: 0 != division, lambda: division < 1, lambda: division + 1,
+            lambda: 1 - division, lambda: ~division, lambda: division & True, lambda: not division,
+            *(lambda name=name: found[name] == division for name in found),
+            *(lambda name=name: found[name].isin(division) for name in found),
+            lambda: found["x"].to_numpy() == division, lambda: found["x"].to_numpy() + division,
+            lambda: found["x"] + division, lambda: found[division], lambda: found.loc[division],
+            lambda: found["x"].where(division), lambda: found.join(division), lambda: list(division),
+            lambda: len(division), lambda: 0 in division, lambda: division[0], lambda: dict(enumerate(division)),
+            lambda: sum(division), lambda: max(division),
+        ]
+        for place, use in enumerate(uses):
+            with self.subTest(place), self.assertRaisesRegex(ruzgalt.Refused, "division.parts"):
+                use()
+        for name in ("tolist", "iloc", "index", "part", "values", "merge", "sum"):
+            with self.subTest(name), self.assertRaisesRegex(AttributeError, "division.parts"):
+                getattr(division, name)
+        # These say in pandas' words that it is no key.
+        self.assertRaises(KeyError, lambda: found.set_index(division))
+        self.assertRaises(TypeError, lambda: found.groupby(division).sum())
+        self.assertFalse(pd.api.types.is_dict_like(division))
 
     def test_that_of_a_store_is_a_frame_and_is_checked_as_it_is(self):
         store = ruzgalt.Store()
         store.table("t", frame(FIRST, LAST))
         division = store.dip("t")
         self.assertEqual(list(division.parts), ["part", "row_id"])
-        self.assertEqual(division["row_id"].tolist(), [1, 2])
+        self.assertEqual(division.parts["row_id"].tolist(), [1, 2])
+        self.assertRaisesRegex(ruzgalt.Refused, "division.parts", lambda: division["row_id"])
         self.assertTrue(store.check("t", division))
         self.assertFalse(store.check("t", division, count=1))
 

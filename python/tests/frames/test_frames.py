@@ -47,7 +47,7 @@ class Frames(unittest.TestCase):
     def test_one_row(self):
         one = pay(1)
         pd.testing.assert_frame_equal(ruzgalt.join(one, one, on="person"), one)
-        self.assertEqual(ruzgalt.dip(one).tolist(), [0])
+        self.assertEqual(ruzgalt.dip(one).parts.tolist(), [0])
 
     def test_both_frames_columns_have_suffixes(self):
         frame = pay(1).assign(cents=1)

@@ -233,11 +233,11 @@ class Stores(stateful.RuleBasedStateMachine):
         as_of = self.as_of(data)
         got = self.store.dip(name, as_of)
         parts, count = plain_store.dip(self.shown(name, as_of))
-        assert (got.values.tolist(), got.count) == (parts, count)
+        assert (got.parts.values.tolist(), got.count) == (parts, count)
         assert self.store.check(name, got, as_of=as_of)
-        assert self.store.check(name, got.iloc[::-1], got.count, got.instant, as_of=as_of)
+        assert self.store.check(name, got.parts.iloc[::-1], got.count, got.instant, as_of=as_of)
         if parts:
-            assert not self.store.check(name, got.iloc[1:], got.count, got.instant, as_of=as_of)
+            assert not self.store.check(name, got.parts.iloc[1:], got.count, got.instant, as_of=as_of)
 
     # Wrong calls.
 

@@ -106,8 +106,8 @@ class Page(unittest.TestCase):
             '`spread(frame, COLUMN, each="M", by=..)`': lambda: (
                 ruzgalt.spread(frame(x=[31, 62]), "x")["x"].tolist()
             ) == [14 + 2 * 17],
-            "`dip(frame)`": lambda: (lambda parts: (
-                parts.tolist(), parts.count, str(parts.instant),
+            "`dip(frame)`": lambda: (lambda division: (
+                division.parts.tolist(), division.count, str(division.instant),
             ))(ruzgalt.dip(left)) == ([0, 0], 1, "2024-01-01 00:00:00"),
         })
 

@@ -180,11 +180,12 @@ class RandomStores(unittest.TestCase):
     def divides(self, case, rows):
         division = case.store.dip("t")
         parts, count, _ = plainly.dip(plainly.periods(rows, random_frames.PERIOD, case.is_last_day))
-        self.assertEqual(dict(zip(division.row_id, division.part)), dict(zip(rows["row_id"].tolist(), parts)))
+        found = division.parts
+        self.assertEqual(dict(zip(found.row_id, found.part)), dict(zip(rows["row_id"].tolist(), parts)))
         self.assertEqual(division.count, count)
         self.assertTrue(case.store.check("t", division))
-        if len(division):
-            verdict = case.store.check("t", division.iloc[1:], division.count, division.instant)
+        if len(found):
+            verdict = case.store.check("t", found.iloc[1:], division.count, division.instant)
             self.assertFalse(verdict)
             self.assertIn(verdict.reason, ("WrongCount", "Missing", "NotCrowded"))
 

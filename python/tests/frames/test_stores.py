@@ -60,7 +60,7 @@ class Names(Case):
         for got in (made.rows("t"), made.at("t", "2024-01-15"), made.anti("t", "t", left_on="k", right_on="k")):
             self.assertEqual(list(got.columns), ["row_id", "from", "to", "k", "row_id_"])
         self.assertEqual(made.rows("t")[["row_id", "row_id_"]].values.tolist(), [[1, 4711], [2, 77]])
-        merged = made.dip("t").merge(made.rows("t"), on="row_id")
+        merged = made.dip("t").parts.merge(made.rows("t"), on="row_id")
         self.assertEqual(merged["row_id_"].tolist(), [4711, 77])
 
     def test_versions_have_their_commits_and_columns_of_these_names(self):
@@ -420,7 +420,8 @@ class Changes(Case):
 
     def test_what_is_no_frame_is_refused_in_words(self):
         made = store(frame(n=[1, 2]), key=["k"])
-        parts = made.dip("t")
+        division = made.dip("t")
+        parts = division.parts
         for given in (frame()["k"], [1], {"a": 1}, "pay.csv", None, Path("pay.csv"), b"x", 5):
             for call in (lambda: made.load("t", given), lambda: made.update_rows("t", given),
                          lambda: made.table("u", given), lambda: made.check("t", given)):
@@ -434,7 +435,7 @@ class Changes(Case):
         self.refuses(lambda: made.check("t", parts.assign(part=[0, None])), "WrongKind", "'part'")
         named = parts.assign(part=["desk b", "desk a"])
         self.refuses(lambda: made.check("t", named), "BadCommand", "count=")
-        self.assertTrue(made.check("t", named, parts.count, parts.instant))
+        self.assertTrue(made.check("t", named, division.count, division.instant))
 
     def test_an_overlap_by_an_update_names_both_rows(self):
         made = store(frame(n=[1, 2]), key=["k"])
