@@ -48,7 +48,8 @@ print(ruzgalt.anti(pay, contract, **of_contract, **ends))
 # | 5  Noether, Emmy      Bindung 2024-11-01 2024-11-15      2975.90
 
 # %% Pay by month and department, exactly: cents are whole, and the months of a department add up.
-autumn = {"each": "M", "by": "Kostenstelle", "within": ("2024-09-01", "2024-11-30"), "decimals": {"Monatsgehalt": 2}}
+autumn = {"by": "Kostenstelle", "within": ("2024-09-01", "2024-11-30"), "decimals": {"Monatsgehalt": 2}}
+autumn["amount"] = "per month"
 before = ruzgalt.spread(pay, "Monatsgehalt", **autumn, **ends)
 print(before)
 # |   Kostenstelle        Von        Bis Monatsgehalt

@@ -1,22 +1,21 @@
-"""What rows of a frame come to in each piece of the calendar: spread, of what the program answers as sums."""
+"""The amounts of a frame's rows in each piece of the calendar: spread."""
 from __future__ import annotations
 
 from dataclasses import replace
-from fractions import Fraction
 from typing import TYPE_CHECKING, Any, Mapping, Optional, Union
 
 import pandas as pd
 
 from ruzgalt.frames import checks, groups, instants, pairs, shares, split, zones
 from ruzgalt.frames.answer import Columns
-from ruzgalt.frames.arrays import of_objects
+from ruzgalt.frames.arrays import Cells, of_objects
 from ruzgalt.frames.checks import are_spread
 from ruzgalt.frames.errors import Refused, label_at
 from ruzgalt.frames.kinds import Kind
 from ruzgalt.frames.measures import Measure
 from ruzgalt.frames.named import with_levels
 from ruzgalt.frames.options import (
-    MONTH, NO_DECIMALS, PERIOD, PIECES, WORKERS, Names, Options, PeriodNames, options_of,
+    AMOUNTS, IN_TOTAL, MONTH, NO_DECIMALS, PERIOD, PIECES, WORKERS, Names, Options, PeriodNames, options_of,
 )
 from ruzgalt.frames.progress import OfCall
 from ruzgalt.frames.shares import Shares
@@ -33,16 +32,18 @@ if TYPE_CHECKING:
 NO_END = instants.second_of("9999-01-01")
 
 
-def spread(frame: Frame, column: Any, *, each: str = MONTH, by: Names = None, within: Any = None, exact: bool = False,
-           period: PeriodNames = PERIOD, open_end: bool = False, last_day: bool = False,
-           decimals: Mapping[Any, int] = NO_DECIMALS, points_as: Optional[str] = None, workers: int = WORKERS,
-           parts: Optional[int] = None, progress: Optional[bool] = None) -> Frame:
-    """What the rows of a group come to in each month, quarter, year or week, by days.
+def spread(frame: Frame, column: Any, *, amount: Optional[str] = None, each: str = MONTH, by: Names = None,
+           within: Any = None, exact: bool = False, period: PeriodNames = PERIOD, open_end: bool = False,
+           last_day: bool = False, decimals: Mapping[Any, int] = NO_DECIMALS, points_as: Optional[str] = None,
+           workers: int = WORKERS, parts: Optional[int] = None, progress: Optional[bool] = None) -> Frame:
+    """The amounts of a group's rows in each month, quarter, year, week or day.
 
-    An amount is what a row comes to in each whole piece that it holds, as a pay by the month. Of a piece that it holds
-    in part it comes to that part, by days, or where a point has a time by seconds. So a sum is a fraction; the whole
-    numbers of a group add up to its exact sum, rounded once, half up: those with the largest remainders count one more,
-    of equal ones the first.
+    Amounts are divided by days, or by seconds if a point has a time of day. An amount "per month" is a row's amount in
+    each whole month, and in a part of a month that part of it. The whole numbers of a group add up to its exact sum,
+    rounded once, half up: those with the largest remainders count one more, of equal ones the first.
+
+    An amount "in total" is divided over all of a row's own period. Up to an instant a row has that part of its amount,
+    rounded half up, so that its pieces add up to the amount, months to quarters, and two answers to one of both times.
 
     Parameters
     ----------
@@ -50,8 +51,11 @@ def spread(frame: Frame, column: Any, *, each: str = MONTH, by: Names = None, wi
         A frame of pandas, or with `by` of Dask.
     column : name
         The column of amounts.
+    amount : str
+        What an amount is: "per day", "per week", "per month", "per quarter", "per year", or "in total". It must be
+        given.
     each : str, default "M"
-        The pieces of the calendar: M for months, Q for quarters, Y for years, W for weeks from Monday on.
+        The pieces of the calendar: D for days, W for weeks from Monday on, M for months, Q for quarters, Y for years.
     by : name or list of names, optional
         Columns whose equal values are a group; without any all rows are one.
     within : pair of points, optional
@@ -86,8 +90,8 @@ def spread(frame: Frame, column: Any, *, each: str = MONTH, by: Names = None, wi
     Raises
     ------
     Refused
-        If the frame or an option can't be taken, or a value would be lost or changed; of a row without an
-        end where `within` has none; and of times in a time zone.
+        If `amount` or another option is missing or wrong, the frame can't be taken, or a value would be lost or
+        changed; if a row has no end, and `within` has none or the amount is in total; and if times have a time zone.
     Stopped
         If the program ended without all answers.
 
@@ -101,14 +105,20 @@ def spread(frame: Frame, column: Any, *, each: str = MONTH, by: Names = None, wi
     >>> day = pd.to_datetime
     >>> pay = pd.DataFrame({"from": day(["2024-06-01", "2024-06-11"]), "to": day(["2024-06-11", None]),
     ...                     "person": "Ada", "euros": [5000, 5400]})
-    >>> ruzgalt.spread(pay, "euros", by="person", within=("2024-01-01", "2024-08-01"), open_end=True)
+    >>> until_july = {"by": "person", "within": ("2024-01-01", "2024-08-01"), "open_end": True}
+    >>> ruzgalt.spread(pay, "euros", amount="per month", **until_july)
       person       from         to  euros
     0    Ada 2024-06-01 2024-07-01   5267
     1    Ada 2024-07-01 2024-08-01   5400
+    >>> premium = pd.DataFrame({"from": day(["2024-01-15"]), "to": day(["2025-01-15"]), "euros": 1200})
+    >>> ruzgalt.spread(premium, "euros", amount="in total", each="Y")
+            from         to  euros
+    0 2024-01-01 2025-01-01   1154
+    1 2025-01-01 2026-01-01     46
     """
     options = options_of(
-        "spread", each=each, by=by, within=within, exact=exact, period=period, open_end=open_end, last_day=last_day,
-        decimals=decimals, points_as=points_as, workers=workers, parts=parts, progress=progress,
+        "spread", amount=amount, each=each, by=by, within=within, exact=exact, period=period, open_end=open_end,
+        last_day=last_day, decimals=decimals, points_as=points_as, workers=workers, parts=parts, progress=progress,
     )
     checks.name("column", column)
     if are_spread(frame=frame):
@@ -139,27 +149,42 @@ def side_of(frame: Any, column: Any, options: Options) -> Side:
 
 def spread_in(frame: Any, side: Side, options: Options) -> Any:
     by, zone, amount = options.by or (), side.kind.zone, side.columns[-1]
-    rows = shown(counted(side, options), options)
+    rows = counted(side, options)
     codes, firsts = groups.group_codes(rows, len(by))
-    found = split.agg(replace(rows, columns=[codes, rows.columns[-1]]), "sum", options.workers)
-    sums = shares.of_sums(found, pieces.calendar(PIECES[options.each]))
+    sums = sums_of(side, replace(shown(rows, options), columns=[codes, rows.columns[-1]]), options)
     columns = Columns(groups.groups_at(frame, by, rows.places[firsts[sums.group]]))
     times = [zones.begins_of(walls, zone) for walls in (sums.start, sums.end)]
     columns.add(pairs.period_of(times[0], times[1], [side], options, options.form))
-    columns.add([(amount.name, (fractions if options.exact else wholes)(sums, amount))])
+    columns.add([(amount.name, (fractions if options.exact else wholes)(sums.value, amount))])
     return columns.frame()
 
 
+def sums_of(side: Side, rows: Side, options: Options) -> Shares:
+    """The sums of the rows that count, of a group's rank and an amount. Raises Refused if one in total has no end."""
+    each = pieces.calendar(PIECES[options.each])
+    if options.amount != IN_TOTAL:
+        found = split.agg(rows, "sum", options.workers)
+        return shares.per_piece(found, each, pieces.calendar(AMOUNTS[options.amount]), options.exact)
+    whole = side.take(rows.places)
+    refuse_endless(whole, "no end is known, up to which the amount is divided; give one, or drop the row", options)
+    whole, (group, amount) = shown(whole, options), rows.columns
+    rows_of_groups = rows.start, rows.end, group.codes, amount.codes
+    return shares.in_total(rows_of_groups, whole.start, whole.end, each, options.exact)
+
+
 def counted(side: Side, options: Options) -> Side:
-    """The rows in the time that counts. Raises Refused of a row whose end isn't known."""
+    """The rows in the time that counts. Raises Refused if a row's end isn't known."""
     if options.within is not None:
         start, end = options.within
         side = side.clipped(*instants.span(start, end, options.form, side.kind.zone))
+    refuse_endless(side, "no end is known; give within=(START, END), up to whose end it counts", options)
+    return side
+
+
+def refuse_endless(side: Side, reason: str, options: Options) -> None:
     is_endless = side.end >= NO_END
     if is_endless.any():
-        reason = "no end is known; give within=(START, END), up to whose end it counts"
         raise Refused("BadPoint", reason, options.period[-1], label_at(is_endless, side.labels[side.places]))
-    return side
 
 
 def shown(side: Side, options: Options) -> Side:
@@ -179,11 +204,10 @@ def shown(side: Side, options: Options) -> Side:
     return side.during(*(one - one % zones.DAY for one in walls))
 
 
-def fractions(found: Shares, amount: Values) -> Any:
-    scale = 10 ** (amount.digits or 0)
-    return of_objects([Fraction(one, many * scale) for one, many in zip(found.above.tolist(), found.below.tolist())])
+def fractions(sums: Cells, amount: Values) -> Any:
+    return of_objects([one / 10 ** (amount.digits or 0) for one in sums])
 
 
-def wholes(found: Shares, amount: Values) -> Any:
-    """As agg has sums: of the column's dtype where it has decimals, else int64 or longer."""
-    return found.whole if amount.digits is None else amount.restored(found.whole)
+def wholes(sums: Cells, amount: Values) -> Any:
+    """As agg has sums: in the column's dtype if it has decimals, otherwise int64 or Python's numbers."""
+    return sums if amount.digits is None else amount.restored(sums)

@@ -38,8 +38,11 @@ WORKERS = 4
 HOWS = ("inner", "left", "right", "outer")
 INNER = HOWS[0]
 # Pieces of the calendar.
-PIECES = {"M": "month", "Q": "quarter", "Y": "year", "W": "week"}
+PIECES = {"D": "day", "W": "week", "M": "month", "Q": "quarter", "Y": "year"}
 MONTH = "M"
+# What an amount is: one for each piece of the calendar, or for all of a row's time.
+IN_TOTAL = "in total"
+AMOUNTS = {**{f"per {word}": word for word in PIECES.values()}, IN_TOTAL: ""}
 # As what a mean comes.
 MEANS = ("float", "Fraction", "Decimal")
 FLOAT = MEANS[0]
@@ -65,6 +68,7 @@ class Options:
     decimals: Mapping[Any, int] = field(default_factory=dict)
     missing: Mapping[Any, Any] = field(default_factory=dict)
     within: Optional[Pair] = None
+    amount: str = ""
     each: str = MONTH
     exact: bool = False
     suffixes: Suffixes = SUFFIXES
@@ -128,6 +132,13 @@ def piece_named(option: str, given: Any) -> str:
     return checks.one_of(option, given, tuple(PIECES))
 
 
+def amount_named(option: str, given: Any) -> str:
+    if given is None:
+        reason = "amount= is missing: give amount='in total' if an amount is for all of a row's time, such as a premium"
+        raise Refused("BadCommand", f"{reason}, or 'per month' (or day, week, quarter, year), such as for a pay")
+    return checks.one_of(option, given, tuple(AMOUNTS))
+
+
 def mean_named(option: str, given: Any) -> str:
     return checks.one_of(option, given, MEANS)
 
@@ -143,7 +154,7 @@ CHECKS: Dict[str, Callable[[str, Any], Any]] = {
     **dict.fromkeys(("open_end", "last_day", "labels", "keep_periods", "exact", "progress"), checks.flag),
     "decimals": checks.digits, "missing": checks.stand_ins, "suffixes": checks.suffixes, "points_as": kind_named,
     "within": checks.span, "workers": workers_of, "parts": parts_of, "how": how_named, "mean_as": mean_named,
-    "each": piece_named,
+    "each": piece_named, "amount": amount_named,
 }
 # Those that may be None, as where they aren't given.
 OPTIONAL = ("left_on", "right_on", "by", "within", "left_period", "right_period", "points_as", "parts", "progress")

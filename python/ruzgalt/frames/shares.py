@@ -1,17 +1,17 @@
-"""What each group's sums come to in the pieces of the calendar, by arrays: periods.amounts has it of one group's rows.
+"""The amounts of groups in each piece of the calendar, by arrays.
 
-Numbers are int64 where they provably fit. A group that has others is reckoned with Python's, and no other group is.
+Numbers are int64 if all of them provably fit, and Python's otherwise.
 """
 from __future__ import annotations
 
-from dataclasses import dataclass, fields
+from fractions import Fraction
 from math import lcm
-from typing import Any, List
+from typing import NamedTuple, Tuple
 
 import numpy as np
 
 from ruzgalt.frames import points
-from ruzgalt.frames.arrays import Cells, Ints, Marks, narrowed
+from ruzgalt.frames.arrays import Cells, Ints, narrowed, of_objects
 from ruzgalt.frames.ask import Found
 from ruzgalt.frames.values import GREATEST
 from ruzgalt.periods.pieces import DAY, Calendar
@@ -20,108 +20,123 @@ from ruzgalt.periods.pieces import DAY, Calendar
 OFFSET = -points.FIRST
 
 
-@dataclass(frozen=True)
-class Shares:
-    """A row for each piece that a row of a group touches, by group and start, which are ranks and seconds.
-
-    above, below    the numerator and the denominator of what the group comes to in the piece
-    whole           that as a whole number
-    """
+class Shares(NamedTuple):
+    """A row for each piece that a row of a group touches, by group and start; value is the amount in it."""
 
     start: Ints
     end: Ints
     group: Ints
-    above: Cells
-    below: Ints
-    whole: Cells
+    value: Cells
 
 
-def of_sums(found: Found, calendar: Calendar) -> Shares:
-    """Of sums by group and start: the whole numbers of a group add up to all of its sum, rounded once, half up."""
-    edges, unit = edges_of(found, calendar), unit_of(found)
-    is_long = are_long(found, int(np.diff(edges).max(initial=0)) // unit, len(edges))
-    if not is_long.any():
-        return with_wholes(touched(found, edges, unit))
-    parts = [(is_long, object), (~is_long, np.int64)]
-    given = [(*(column[which] for column in found[:3]), found[3][which].astype(kind)) for which, kind in parts]
-    return together([with_wholes(touched(part, edges, unit)) for part in given])
+def per_piece(found: Found, each: Calendar, per: Calendar, is_exact: bool) -> Shares:
+    """Of sums by group and start, whose rows don't overlap within a group, and are amounts for each piece of `per`.
+
+    The whole numbers of a group add up to its exact sum, rounded once, half up; exact ones are Fractions.
+    """
+    start, end, group, value = found
+    edges, whole, unit = edges_of(start, end, each), edges_of(start, end, per), unit_of(start, end)
+    cuts = np.union1d(edges, whole)
+    rows, cut = touched(start, end, cuts)
+    held = (np.minimum(end[rows], cuts[cut + 1]) - np.maximum(start[rows], cuts[cut])) // unit
+    below = (np.diff(whole) // unit)[place_in(whole, cuts[cut])]
+    common = lcm(*np.unique(below).tolist())
+    # At most so many pieces of `per` touch one of `each`.
+    many = int(np.diff(edges).max(initial=0)) // int(np.diff(whole).min(initial=GREATEST)) + 2
+    value = lengthened(value, many * max(common, len(edges)))
+    sums = summed(edges, group[rows], place_in(edges, cuts[cut]), value[rows] * held * (common // below))
+    if is_exact:
+        return sums._replace(value=of_objects([Fraction(one, common) for one in sums.value.tolist()]))
+    return sums._replace(value=narrowed(wholes(sums, common)))
 
 
-def edges_of(found: Found, calendar: Calendar) -> Ints:
+def in_total(found: Found, begin: Ints, finish: Ints, each: Calendar, is_exact: bool) -> Shares:
+    """Of rows that may be cut, with their group's rank, and amounts for all of their time from begin to finish.
+
+    Up to an instant a row has the part of its amount by time, rounded half up. So its pieces add up to its amount.
+    """
+    start, end, group, value = found
+    edges, unit = edges_of(start, end, each), unit_of(start, end, begin, finish)
+    rows, piece = touched(start, end, edges)
+    first = (np.maximum(start[rows], edges[piece]) - begin[rows]) // unit
+    last = (np.minimum(end[rows], edges[piece + 1]) - begin[rows]) // unit
+    length = (finish - begin)[rows] // unit
+    value = lengthened(value, max(2 * int(length.max(initial=0)), len(rows)))[rows]
+    if is_exact:
+        fractions = zip((value * (last - first)).tolist(), length.tolist())
+        parts = of_objects([Fraction(above, below) for above, below in fractions])
+    else:
+        parts = rounded(value * last, length) - rounded(value * first, length)
+    order = np.lexsort((piece, group[rows]))
+    sums = summed(edges, group[rows][order], piece[order], parts[order])
+    return sums if is_exact else sums._replace(value=narrowed(sums.value))
+
+
+def edges_of(start: Ints, end: Ints, calendar: Calendar) -> Ints:
     """Where pieces start, from the one with the first start on, and where the one with the last end ends."""
-    start, end = found[:2]
     if not len(start):
         return np.zeros(1, np.int64)
     first, last = (calendar.number_of(int(second) + OFFSET) for second in (start.min(), end.max() - 1))
     return np.array([calendar.start_of(number) - OFFSET for number in range(first, last + 2)], np.int64)
 
 
-def unit_of(found: Found) -> int:
-    """The longest time of which a day, and each start and end, are multiples: a day, where no point has a time."""
-    return int(np.gcd.reduce(found[1], initial=np.gcd.reduce(found[0], initial=DAY)))
+def unit_of(*seconds: Ints) -> int:
+    """The longest time that divides a day and all of these: a day if no point has a time."""
+    return int(np.gcd.reduce(np.concatenate(seconds), initial=DAY))
 
 
-def are_long(found: Found, longest: int, pieces: int) -> Marks:
-    """Which rows are of a group whose numbers may need more than 64 bits.
-
-    What is held of a piece is at most its length, so a numerator is at most the greatest value as often; and whole
-    numbers of so many pieces add up to at most as many of the greatest one, and what is rounded.
-    """
-    group, value = found[2:]
-    most = GREATEST // max(longest, pieces) - 1
-    is_long = np.zeros(int(group.max(initial=0)) + 1, bool)
-    is_long[group[np.asarray((value < -most) | (value > most), bool)]] = True
-    marks: Marks = is_long[group]
-    return marks
-
-
-def touched(found: Found, edges: Ints, unit: int) -> Shares:
-    """Sums as fractions, of rows that don't overlap within a group: so there are about as many as pieces."""
-    start, end, group, value = found
-    first = np.searchsorted(edges, start, "right") - 1
+def touched(start: Ints, end: Ints, edges: Ints) -> Tuple[Ints, Ints]:
+    """A row's and a piece's index for each piece that a row touches."""
+    first = place_in(edges, start)
     count = np.searchsorted(edges, end) - first
     rows = np.repeat(np.arange(len(start)), count)
-    piece = np.arange(len(rows)) + np.repeat(first + count - np.cumsum(count), count)
-    held = (np.minimum(end[rows], edges[piece + 1]) - np.maximum(start[rows], edges[piece])) // unit
-    is_first = np.ones(len(rows), bool)
-    is_first[1:] = (np.diff(piece) != 0) | (np.diff(group[rows]) != 0)
-    firsts = np.flatnonzero(is_first)
-    piece, group = piece[firsts], group[rows[firsts]]
-    above = np.add.reduceat(value[rows] * held, firsts) if len(firsts) else value
-    below = (edges[piece + 1] - edges[piece]) // unit
-    return Shares(edges[piece], edges[piece + 1], group, above, below, above)
+    return rows, np.arange(len(rows)) + np.repeat(first + count - np.cumsum(count), count)
 
 
-def with_wholes(shares: Shares) -> Shares:
-    """Each is the next lesser whole number, or one more, where its remainder is among the largest of its group."""
-    if not len(shares.group):
-        return shares
-    common = lcm(*np.unique(shares.below).tolist())
-    whole, rest = shares.above // shares.below, (shares.above % shares.below).astype(np.int64)
-    rest = rest * (common // shares.below)
-    firsts = np.flatnonzero(np.diff(shares.group, prepend=-1))
-    count = np.diff(firsts, append=len(rest))
-    missing = missing_of(np.add.reduceat(whole, firsts), np.add.reduceat(rest, firsts), common)
-    # Of equal remainders the first piece comes first, and stands there already.
-    order = np.lexsort((-rest, shares.group))
-    rank = np.empty(len(rest), np.int64)
-    rank[order] = np.arange(len(rest)) - np.repeat(firsts, count)
-    whole = whole + (rank < np.repeat(missing, count))
-    return Shares(shares.start, shares.end, shares.group, shares.above, shares.below, whole)
-
-
-def missing_of(whole: Cells, rests: Ints, common: int) -> Ints:
-    """How much groups' sums, rounded half up, are more than their whole numbers; rests are so many parts of one."""
-    more, rest = np.divmod(rests, common)
-    is_below = np.asarray(whole + more < 0, bool)
-    # A half counts away from zero.
-    found: Ints = more + np.where(is_below, 2 * rest > common, 2 * rest >= common)
+def place_in(edges: Ints, seconds: Ints) -> Ints:
+    """The index of the piece that has each second."""
+    found: Ints = np.searchsorted(edges, seconds, "right") - 1
     return found
 
 
-def together(parts: List[Shares]) -> Shares:
-    """Of different groups."""
-    columns: List[Any] = [np.concatenate([getattr(part, one.name) for part in parts]) for one in fields(Shares)]
-    order = np.argsort(columns[2], kind="stable")
-    start, end, group, above, below, whole = (column[order] for column in columns)
-    return Shares(start, end, group, above, below, narrowed(whole))
+def lengthened(value: Cells, factor: int) -> Cells:
+    """The numbers, as Python's if they may need more than 64 bits after a multiplication by the factor."""
+    most = max(abs(int(value.min(initial=0))), abs(int(value.max(initial=0))))
+    return value.astype(object) if (most + 1) * factor > GREATEST else value.astype(np.int64)
+
+
+def summed(edges: Ints, group: Ints, piece: Ints, value: Cells) -> Shares:
+    """The sums of rows with the same group and piece, which are next to each other."""
+    firsts = np.flatnonzero((np.diff(piece, prepend=-1) != 0) | (np.diff(group, prepend=-1) != 0))
+    sums = np.add.reduceat(value, firsts) if len(firsts) else value
+    return Shares(edges[piece[firsts]], edges[piece[firsts] + 1], group[firsts], sums)
+
+
+def rounded(above: Cells, below: Ints) -> Cells:
+    """Fractions as the nearest whole numbers, a half away from zero."""
+    whole = (2 * np.abs(above) + below) // (2 * below)
+    return np.where(np.asarray(above < 0, bool), -whole, whole)
+
+
+def wholes(sums: Shares, below: int) -> Cells:
+    """Each is the next lesser whole number, or one more if its remainder is among the largest ones of its group."""
+    if not len(sums.group):
+        return sums.value
+    whole, rest = sums.value // below, (sums.value % below).astype(np.int64)
+    firsts = np.flatnonzero(np.diff(sums.group, prepend=-1))
+    count = np.diff(firsts, append=len(rest))
+    missing = missing_of(np.add.reduceat(whole, firsts), np.add.reduceat(rest, firsts), below)
+    # The sort keeps the order of equal remainders, so the first piece comes first.
+    order = np.lexsort((-rest, sums.group))
+    rank = np.empty(len(rest), np.int64)
+    rank[order] = np.arange(len(rest)) - np.repeat(firsts, count)
+    return whole + (rank < np.repeat(missing, count))
+
+
+def missing_of(whole: Cells, rests: Ints, below: int) -> Ints:
+    """How much groups' sums, rounded half up, are more than the sums of their whole numbers."""
+    more, rest = np.divmod(rests, below)
+    is_below = np.asarray(whole + more < 0, bool)
+    # A half counts away from zero.
+    found: Ints = more + np.where(is_below, 2 * rest > below, 2 * rest >= below)
+    return found

@@ -1,4 +1,4 @@
-"""Pieces of the calendar: months, quarters, years, and weeks from Monday on.
+"""Pieces of the calendar: days, weeks from Monday on, months, quarters and years.
 
 Points are seconds from the first one that there is, 0001-01-01, a Monday. Pieces of a kind are numbered from 0 on; each
 ends where the next one starts, so that the last one of the year 9999 ends after all points.
@@ -9,7 +9,8 @@ from typing import Iterator, Protocol, Tuple
 
 DAY = 86_400
 MONTHS = {"month": 1, "quarter": 3, "year": 12}
-EACH = (*MONTHS, "week")
+DAYS = {"day": 1, "week": 7}
+EACH = (*DAYS, *MONTHS)
 
 
 class Calendar(Protocol):
@@ -22,14 +23,17 @@ class Calendar(Protocol):
         """The first second of a piece."""
 
 
-class Weeks:
-    LENGTH = 7 * DAY
+class Days:
+    """Pieces of so many days."""
+
+    def __init__(self, length: int) -> None:
+        self.length = length * DAY
 
     def number_of(self, second: int) -> int:
-        return second // self.LENGTH
+        return second // self.length
 
     def start_of(self, number: int) -> int:
-        return number * self.LENGTH
+        return number * self.length
 
 
 class Months:
@@ -61,8 +65,8 @@ def first_day_of(month: int) -> int:
 
 def calendar(each: str) -> Calendar:
     """The calendar of a word of EACH."""
-    if each == "week":
-        return Weeks()
+    if each in DAYS:
+        return Days(DAYS[each])
     return Months(MONTHS[each])
 
 

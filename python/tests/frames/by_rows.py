@@ -191,30 +191,40 @@ def gaps(frame, given, within):
     return by_groups(frame, given, free)
 
 
-def spread(frame, amounts, given, pieces_of, within):
-    """pieces_of: the first day of the piece that has a day, and the one behind it. Amounts are whole numbers."""
+def spread(frame, amounts, given, piece_of, within):
+    """piece_of: the first day of a day's piece, and the day after it, by a word. Amounts are whole numbers."""
     groups, rows = keys(frame, given.on[0]), []
-    held = [(max(start, within[0]), min(end, within[1])) if within else (start, end)
-            for start, end in periods(frame, given.periods[0])]
-    if any(start < end == OPEN for start, end in held):
+    whole = periods(frame, given.periods[0])
+    held = [(max(start, within[0]), min(end, within[1])) if within else (start, end) for start, end in whole]
+    is_total, each = given.options["amount"] == "in total", given.options["each"]
+    if any(start < end and OPEN in (end, own[1] if is_total else end) for (start, end), own in zip(held, whole)):
         return None
     for group in sorted(set(groups), key=order):
-        sums = {}
-        for (start, end), own, amount in zip(held, groups, amounts):
+        exact, rounded = {}, {}
+        for (start, end), (first, last), own, amount in zip(held, whole, groups, amounts):
             for day in range(start, end) if own == group else ():
-                first, behind = pieces_of(day)
-                sums[first, behind] = sums.get((first, behind), 0) + Fraction(amount, behind - first)
-        found = sorted(sums)
-        rows += [[*group, *piece, given.sum_of(sums[piece], whole)] for piece, whole in zip(found, wholes(sums, found))]
+                piece = piece_of(day, each)
+                if is_total:
+                    until = [half_up(Fraction(amount * (one - first), last - first)) for one in (day, day + 1)]
+                    rounded[piece] = rounded.get(piece, 0) + until[1] - until[0]
+                per = (first, last) if is_total else piece_of(day, given.options["amount"][4].upper())
+                exact[piece] = exact.get(piece, 0) + Fraction(amount, per[1] - per[0])
+        found = sorted(exact)
+        made = [rounded[piece] for piece in found] if is_total else wholes(exact, found)
+        rows += [[*group, *piece, given.sum_of(exact[piece], one)] for piece, one in zip(found, made)]
     return [*given.on[0], *given.periods[0], given.asked[0]], rows
+
+
+def half_up(fraction):
+    """The nearest whole number, a half away from zero."""
+    return int(abs(fraction) + Fraction(1, 2)) * (-1 if fraction < 0 else 1)
 
 
 def wholes(sums, found):
     """Whole numbers that add up to the sum, rounded: one after another is raised, that which lacks most."""
     listed = [sums[piece] // 1 for piece in found]
     total = sum(sums.values())
-    sign = -1 if total < 0 else 1
-    for _ in range(sign * int(abs(total) + Fraction(1, 2)) - sum(listed)):
+    for _ in range(half_up(total) - sum(listed)):
         place = max(range(len(found)), key=lambda one: (sums[found[one]] - listed[one], -one))
         listed[place] += 1
     return listed

@@ -41,6 +41,7 @@ WRONG = {
     "decimals": [2, "id", None, [("id", 2)], {"id": 2.0}, {"id": True}, {"id": -1}, {"id": 19}, {"id": None}],
     "points_as": ["W", "", 1, ["S"], True], "onn": ["id"], "how": ["", "Left", "cross", True, None, ["left"], 1],
     "mean_as": ["", "Float", float, None, True], "each": ["", "month", "m", "MQ", None, ["M"]], "exact": NO_FLAGS,
+    "amount": ["", None, "total", "month", "per Month", "per decade", 1, ["in total"]],
     "within": ["2024", 5, (FIRST,), {FIRST: FIRST}, (None, None), (FIRST, FIRST)],
     "progress": [one for one in NO_FLAGS if one is not None],
 }
@@ -51,7 +52,7 @@ OF_CALL = {
     "anti": OF_PAIRS, "agg": ["by", "parts", "decimals", "points_as"],
     "at": [], "dip": ["by", "decimals"],
     **dict.fromkeys(("coalesce", "gaps"), ["by", "parts", "decimals", "points_as"]),
-    "spread": ["by", "parts", "decimals", "points_as", "each", "exact", "within"],
+    "spread": ["by", "parts", "decimals", "points_as", "amount", "each", "exact", "within"],
     "overlaps": ["by", "parts", "decimals", "points_as", "labels", "suffixes", "keep_periods"],
 }
 # Calls of two frames; the others are of the first one.
@@ -66,6 +67,8 @@ MEANS = {
     "Decimal": lambda one: decimal.Decimal(one.numerator) / decimal.Decimal(one.denominator),
 }
 AMOUNTS = [st.integers(-3, 3), st.booleans(), st.sampled_from([0.25, -1.5, 2.75])]
+# What an amount is.
+WHAT = st.sampled_from(["in total", *(f"per {piece}" for piece in ("day", "week", "month", "quarter", "year"))])
 HOWS = st.sampled_from(["inner", "left", "right", "outer"])
 # Of the left frame and of the right one.
 BOTH = st.lists(st.booleans(), min_size=2, max_size=2)
@@ -112,10 +115,12 @@ class Case:
     def end(self, day, side=0):
         return self.point(day - (self.has_last_days[side] and day != by_rows.OPEN))
 
-    def pieces_of(self, day):
-        """The first day of the piece of the calendar that has a day, and the one behind it, by their numbers."""
+    def piece_of(self, day, each):
+        """The first day of the piece of the calendar that has a day, and the day after it, by their numbers."""
+        if each == "D":
+            return day, day + 1
         found = self.point(day)
-        found, each = datetime.date(found.year, found.month, found.day), self.options["each"]
+        found = datetime.date(found.year, found.month, found.day)
         first = found - datetime.timedelta(days=found.weekday() if each == "W" else found.day - 1)
         length = {"M": 1, "Q": 3, "Y": 12}.get(each)
         if length is None:
@@ -294,7 +299,7 @@ def draw_asked(draw, case, amount):
 
 def draw_pieces(draw, case, amount):
     case.asked, case.is_right = (amount,), case.is_right and amount is not None
-    case.options.update(each=draw(st.sampled_from("MQYW")), exact=draw(st.booleans()))
+    case.options.update(amount=draw(WHAT), each=draw(st.sampled_from("DWMQY")), exact=draw(st.booleans()))
     if dtype_of(by_rows.cells(case.columns[0], amount)) == "float64":
         case.options["decimals"] = {amount: 2}
 

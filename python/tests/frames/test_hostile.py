@@ -100,7 +100,7 @@ class Hostile(unittest.TestCase):
         def wanted():
             unit = 100 if "decimals" in case.options else 1
             amounts = [int(cell * unit) for cell in by_rows.cells(case.columns[0], case.asked[0])]
-            return by_rows.spread(case.columns[0], amounts, case, case.pieces_of, within)
+            return by_rows.spread(case.columns[0], amounts, case, case.piece_of, within)
 
         if within and "within" not in case.options:
             case.options["within"] = case.point(within[0]), case.end(within[1])

@@ -24,13 +24,14 @@ WRONG = {
     "decimals": (2, "k", None, [("k", 2)], {"k": 2.0}, {"k": -1}, {"k": 19}, {"k": True}),
     "points_as": ("W", "", 5, ["S"]), "how": ("", "Left", "cross", True, None, ["left"]),
     "mean_as": ("", "Float", float, None), "within": ("2024", 5, ("2024-01-01",), {"2024-01-01": "2025-01-01"}),
-    "each": ("month", "", "m", None, ["M"]), "exact": NO_FLAGS,
+    "amount": ("month", "", None, ["per month"]), "each": ("month", "", "m", None, ["M"]), "exact": NO_FLAGS,
     "progress": [one for one in NO_FLAGS if one is not None],
 }
 OF_AGG = ("by", "mean_as", "period", "open_end", "last_day", "workers", "parts", "decimals", "points_as", "progress")
 OF_DIP = ("period", "open_end", "last_day", "workers", "progress")
 # Of a frame's groups.
-CALLS = (ruzgalt.coalesce, ruzgalt.gaps, ruzgalt.overlaps, functools.partial(ruzgalt.spread, column="x"))
+SPREAD = functools.partial(ruzgalt.spread, column="x", amount="per month")
+CALLS = (ruzgalt.coalesce, ruzgalt.gaps, ruzgalt.overlaps, SPREAD)
 NO_FRAMES = (FRAME["k"], [1], {"from": [1]}, "pay.csv", Path("pay.csv"), None, FRAME.to_numpy())
 
 

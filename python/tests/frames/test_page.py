@@ -103,8 +103,8 @@ class Page(unittest.TestCase):
             "`overlaps(frame, by=..)`": lambda: [
                 len(ruzgalt.overlaps(pd.concat([left, left]), by)) for by in (None, "k")
             ] == [2, 2],
-            '`spread(frame, COLUMN, each="M", by=..)`': lambda: (
-                ruzgalt.spread(frame(x=[31, 62]), "x")["x"].tolist()
+            '`spread(frame, COLUMN, amount="per month", each="M", by=..)`': lambda: (
+                ruzgalt.spread(frame(x=[31, 62]), "x", amount="per month")["x"].tolist()
             ) == [14 + 2 * 17],
             "`dip(frame)`": lambda: (lambda division: (
                 division.parts.tolist(), division.count, str(division.instant),

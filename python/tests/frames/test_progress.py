@@ -71,7 +71,8 @@ class Calls(Watched):
         for name, given in calls.items():
             with self.subTest(name), self.slow():
                 self.forget()
-                getattr(ruzgalt, name)(*given, progress=True)
+                words = {"amount": "per month"} if name == "spread" else {}
+                getattr(ruzgalt, name)(*given, progress=True, **words)
                 self.is_gone(rf"ruzgalt\.{name}: \d+ s")
 
     def test_a_store_shows_its_runs(self):
@@ -144,7 +145,7 @@ class Partitions(Watched):
         spread = dd.from_pandas(FRAME, npartitions=4)
         asks = {
             "join": ruzgalt.join(spread, FRAME, "k", progress=True), "agg": ruzgalt.agg(spread, "count", progress=True),
-            "spread": ruzgalt.spread(spread, "x", by="k", progress=True),
+            "spread": ruzgalt.spread(spread, "x", amount="per month", by="k", progress=True),
             "anti": ruzgalt.anti(spread, FRAME[:3], "k", progress=True, parts=3),
         }
         for name, asked in asks.items():

@@ -104,7 +104,7 @@ class Case:
         yield "agg by", ruzgalt.coalesce(self.left, **by), ruzgalt.coalesce(left, **by, **parts)
         yield "agg", ruzgalt.coalesce(self.left, **words), ruzgalt.coalesce(left, **words, **parts)
         if not self.is_open:
-            by_weeks = {"each": "W", **self.pieces, **by}
+            by_weeks = {"amount": self.random.choice(["per month", "in total"]), "each": "W", **self.pieces, **by}
             whole = ruzgalt.spread(self.left, "euros", **by_weeks)
             yield "agg by", whole, ruzgalt.spread(left, "euros", **by_weeks, **parts)
         yield "agg by", ruzgalt.gaps(self.left, **by), ruzgalt.gaps(left, **by, **parts)

@@ -78,7 +78,7 @@ class Points(unittest.TestCase):
             lambda point: ruzgalt.at(frame, point), lambda point: ruzgalt.during(frame, point, None),
             lambda point: ruzgalt.during(frame, "2024-01-01", point, last_day=True),
             lambda point: ruzgalt.gaps(frame, within=("2024-01-01", point)),
-            lambda point: ruzgalt.spread(frame, "n", within=(point, "2025-01-01")),
+            lambda point: ruzgalt.spread(frame, "n", amount="per month", within=(point, "2025-01-01")),
             lambda point: made.at("t", point), lambda point: made.rows("t", as_of=point),
             lambda point: made.delete("t", point, None), lambda point: made.update("t", "2024-01-01", point, {"n": 1}),
             lambda point: made.load("t", frame, day=point), lambda point: made.check("t", made.dip("t"), instant=point),

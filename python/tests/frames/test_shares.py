@@ -1,4 +1,4 @@
-"""What groups come to in pieces of the calendar, by arrays: beside rows one by one, of numbers up to 70 bits."""
+"""The amounts of groups in pieces of the calendar by arrays, compared with one row after another; up to 70 bits."""
 import importlib.util
 import os
 import unittest
@@ -8,7 +8,7 @@ import numpy as np
 
 from ruzgalt.frames import shares
 from ruzgalt.frames.arrays import narrowed, of_objects
-from ruzgalt.periods import amounts, pieces
+from ruzgalt.periods import pieces, rounding
 
 if not importlib.util.find_spec("hypothesis"):
     raise unittest.SkipTest("hypothesis isn't here: apt-get install python3-hypothesis")
@@ -41,45 +41,62 @@ def sums(draw):
     return found
 
 
-def by_loop(rows, calendar):
-    """As a group's rows come to it one by one."""
-    found = []
-    for group in sorted({group for _, _, group, _ in rows}):
-        own = [(start, end, value) for start, end, other, value in rows if other == group]
-        for one in amounts.by_piece(own, calendar):
-            ends = calendar.start_of(one.piece), calendar.start_of(one.piece + 1)
-            found.append((*ends, group, Fraction(*one.exact), one.whole))
-    return found
+def by_loop(rows, each, per, is_total):
+    """Each row's part of each piece of both calendars, one by one: exact, and for an amount in total rounded."""
+    exact, whole = {}, {}
+    for start, end, group, value in rows:
+        edges = sorted({start, end, *(edge for one in (each, per) for edge in edges_in(one, start, end))})
+        for low, high in zip(edges, edges[1:]):
+            piece, length = each.number_of(low), end - start
+            if not is_total:
+                number = per.number_of(low)
+                length = per.start_of(number + 1) - per.start_of(number)
+            key = group, each.start_of(piece), each.start_of(piece + 1)
+            exact[key] = exact.get(key, 0) + Fraction(value * (high - low), length)
+            until = [half_up(Fraction(value * (one - start), end - start)) for one in (low, high)]
+            whole[key] = whole.get(key, 0) + until[1] - until[0]
+    for group in {group for group, _, _ in exact} if not is_total else ():
+        keys = sorted(key for key in exact if key[0] == group)
+        parts = rounding.parted([(exact[key].numerator, exact[key].denominator) for key in keys])
+        whole.update(zip(keys, parts))
+    return [(*key[1:], key[0], exact[key], whole[key]) for key in sorted(exact)]
 
 
-def by_arrays(rows, calendar):
+def half_up(fraction):
+    return int(abs(fraction) + Fraction(1, 2)) * (-1 if fraction < 0 else 1)
+
+
+def edges_in(calendar, start, end):
+    numbers = range(calendar.number_of(start) + 1, calendar.number_of(end - 1) + 1)
+    return map(calendar.start_of, numbers)
+
+
+def by_arrays(rows, each, per, is_total):
     columns = [of_objects(column) for column in zip(*rows)] or [np.empty(0, object)] * 4
     start, end, group, value = [*(column.astype(np.int64) for column in columns[:3]), narrowed(columns[3])]
-    found = shares.of_sums((start - shares.OFFSET, end - shares.OFFSET, group, value), calendar)
-    exact = map(Fraction, found.above.tolist(), found.below.tolist())
-    times = [(column + shares.OFFSET).tolist() for column in (found.start, found.end)]
-    return list(zip(*times, found.group.tolist(), exact, found.whole.tolist()))
+    found = start - shares.OFFSET, end - shares.OFFSET, group, value
+    if is_total:
+        made = [shares.in_total(found, *found[:2], each, is_exact) for is_exact in (True, False)]
+    else:
+        made = [shares.per_piece(found, each, per, is_exact) for is_exact in (True, False)]
+    times = [(column + shares.OFFSET).tolist() for column in made[0][:2]]
+    return list(zip(*times, made[0].group.tolist(), *(one.value.tolist() for one in made)))
 
 
 class Shares(unittest.TestCase):
     @MANY
-    @given(sums(), st.sampled_from(pieces.EACH))
-    def test_arrays_come_to_what_rows_do(self, rows, each):
-        calendar = pieces.calendar(each)
-        self.assertEqual(by_arrays(rows, calendar), by_loop(rows, calendar))
-
-    def test_a_group_past_64_bits_is_reckoned_by_itself(self):
-        """Groups beside it stay int64 until all are put together."""
-        calendar, month = pieces.calendar("month"), 31 * pieces.DAY
-        rows = [(0, month, 0, 5), (0, month - 1, 1, 2**70), (0, month // 2, 2, 5)]
-        self.assertEqual(by_arrays(rows, calendar), by_loop(rows, calendar))
+    @given(sums(), st.sampled_from(pieces.EACH), st.sampled_from(pieces.EACH), st.booleans())
+    def test_arrays_have_what_rows_have(self, rows, each, per, is_total):
+        given = rows, pieces.calendar(each), pieces.calendar(per), is_total
+        self.assertEqual(by_arrays(*given), by_loop(*given))
 
     def test_halves_of_groups_count_away_from_zero(self):
-        calendar = pieces.calendar("week")
+        week = pieces.calendar("week")
         days = [day * pieces.DAY for day in range(15)]
         for value in (1, -1, 3, -3, 2**62 + 1, -2**62 - 1):
             rows = [(days[0], days[14], 0, value), (days[0] + pieces.DAY // 2, days[4], 1, value)]
-            self.assertEqual(by_arrays(rows, calendar), by_loop(rows, calendar))
+            for is_total in (False, True):
+                self.assertEqual(by_arrays(rows, week, week, is_total), by_loop(rows, week, week, is_total))
 
 
 if __name__ == "__main__":

@@ -1,6 +1,7 @@
 """coalesce, gaps and overlaps of other shapes than the random ones: no rows, months, zones, rows past the limits."""
 import datetime
 import unittest
+from fractions import Fraction
 from unittest import mock
 
 import pandas as pd
@@ -67,11 +68,11 @@ class United(unittest.TestCase):
 
     def test_a_last_day_has_a_day_after_it(self):
         days = pd.PeriodIndex(["2024-01-15"], freq="D")
-        rows = pd.DataFrame({"from": days, "to": days, "n": 1})
+        rows, first, one = pd.DataFrame({"from": days, "to": days, "n": 1}), "2023-01-01", "per month"
         calls = [
-            lambda day, **words: ruzgalt.gaps(rows, within=("2023-01-01", day), last_day=True, **words),
-            lambda day, **words: ruzgalt.spread(rows, "n", within=("2023-01-01", day), last_day=True, **words),
-            lambda day, **words: ruzgalt.during(rows, "2023-01-01", day, last_day=True, **words),
+            lambda day, **words: ruzgalt.gaps(rows, within=(first, day), last_day=True, **words),
+            lambda day, **words: ruzgalt.spread(rows, "n", amount=one, within=(first, day), last_day=True, **words),
+            lambda day, **words: ruzgalt.during(rows, first, day, last_day=True, **words),
         ]
         for asked in calls:
             for day in ("9999-12-31", datetime.date.max, pd.Period("9999-12-31", "D")):
@@ -149,31 +150,66 @@ class Divisions(unittest.TestCase):
 class Pieces(unittest.TestCase):
     def refuses(self, name, given, **words):
         with self.assertRaises(ruzgalt.Refused) as caught:
-            ruzgalt.spread(given, "x", **words)
+            ruzgalt.spread(given, "x", **{"amount": "per month", **words})
         self.assertEqual((caught.exception.name, caught.exception.label), (name, 0), caught.exception)
 
     def test_a_row_without_an_end_counts_up_to_the_time_s(self):
         rows = frame(("2024-01-01", None, "a", 10))
         self.refuses("BadPoint", rows, open_end=True)
-        got = ruzgalt.spread(rows, "x", open_end=True, within=("2023-01-01", "2024-02-16"))
+        got = ruzgalt.spread(rows, "x", amount="per month", open_end=True, within=("2023-01-01", "2024-02-16"))
         self.assertEqual(got["x"].tolist(), [10, 5])
 
     def test_times_count_by_seconds_and_in_a_zone_not_at_all(self):
         rows = frame(("2024-01-31T12:00", "2024-02-01", "a", 62))
-        self.assertEqual(ruzgalt.spread(rows, "x", points_as="S")["x"].tolist(), [1])
+        self.assertEqual(ruzgalt.spread(rows, "x", amount="per month", points_as="S")["x"].tolist(), [1])
         zoned = rows.assign(**{name: rows[name].dt.tz_localize("Europe/Berlin") for name in ("from", "to")})
         self.refuses("BadPoint", zoned)
-        got = ruzgalt.spread(zoned.assign(**{"from": zoned["from"].dt.floor("D")}), "x")
+        got = ruzgalt.spread(zoned.assign(**{"from": zoned["from"].dt.floor("D")}), "x", amount="per month")
         self.assertEqual((got["x"].tolist(), str(got["from"][0])), ([2], "2024-01-01 00:00:00+01:00"))
 
     def test_weeks_of_months_are_days(self):
         months = pd.PeriodIndex(["2024-02"], freq="M")
-        got = ruzgalt.spread(pd.DataFrame({"from": months, "to": months, "x": 7}), "x", each="W")
+        got = ruzgalt.spread(pd.DataFrame({"from": months, "to": months, "x": 7}), "x", amount="per week", each="W")
         self.assertEqual((str(got["from"].dtype), got["x"].tolist()), ("period[D]", [4, 7, 7, 7, 4]))
 
     def test_sums_may_be_long(self):
         rows = frame(*[("2024-01-01", "2024-02-01", "a", 2**62)] * 3)
-        self.assertEqual(ruzgalt.spread(rows, "x")["x"].tolist(), [3 * 2**62])
+        self.assertEqual(ruzgalt.spread(rows, "x", amount="per month")["x"].tolist(), [3 * 2**62])
+        self.assertEqual(ruzgalt.spread(rows, "x", amount="in total", each="Y")["x"].tolist(), [3 * 2**62])
+
+    def test_what_an_amount_is_must_be_said(self):
+        rows = frame(("2024-01-01", "2025-01-01", "a", 1_200))
+        with self.assertRaises(ruzgalt.Refused) as caught:
+            ruzgalt.spread(rows, "x")
+        for word in ("amount='in total'", "'per month'"):
+            self.assertIn(word, str(caught.exception))
+        for amount, each, wanted in (
+            ("in total", "M", [102, 95, 101, 99, 101, 99, 101, 102, 98, 102, 98, 102]), ("in total", "Y", [1_200]),
+            ("in total", "Q", [298, 299, 301, 302]), ("per month", "M", [1_200] * 12), ("per month", "Y", [14_400]),
+            ("per quarter", "Y", [4_800]), ("per year", "Y", [1_200]), ("per year", "Q", [298, 298, 302, 302]),
+        ):
+            with self.subTest(amount, each=each):
+                self.assertEqual(ruzgalt.spread(rows, "x", amount=amount, each=each)["x"].tolist(), wanted)
+        days = ruzgalt.spread(rows, "x", amount="per month", each="D", within=("2024-02-28", "2024-03-02"), exact=True)
+        self.assertEqual(days["x"].tolist(), [Fraction(1_200, 29)] * 2 + [Fraction(1_200, 31)])
+
+    def test_an_amount_in_total_is_as_much_in_all_parts(self):
+        """Also of a time that is cut, of months and quarters, and of less than nothing."""
+        for amount in (1_000, -1_001, 1):
+            rows = frame(("2024-01-10", "2025-03-05", "a", amount), ("2024-02-29", "2024-12-31T06:00", "a", amount))
+            cuts = ["2024-01-01", "2024-05-17", "2024-05-18T01:02:03", "2025-06-01"]
+            found = [
+                [ruzgalt.spread(rows, "x", amount="in total", each=each, within=within)["x"].sum() for within in whole]
+                for each in "DWMQY" for whole in (list(zip(cuts, cuts[1:])), [None])
+            ]
+            self.assertEqual({tuple(one) for one in found[::2]}, {tuple(found[0])})
+            self.assertEqual({sum(one) for one in found}, {2 * amount})
+
+    def test_an_amount_in_total_needs_an_end(self):
+        rows = frame(("2024-01-01", None, "a", 10), ("2024-01-01", "2024-01-03", "a", 10))
+        words = {"amount": "in total", "open_end": True, "within": ("2024-01-02", "2024-02-16")}
+        self.refuses("BadPoint", rows, **words)
+        self.assertEqual(ruzgalt.spread(rows.iloc[1:], "x", **words)["x"].tolist(), [5])
 
 
 if __name__ == "__main__":

@@ -3,8 +3,8 @@ import copy
 import os
 import tempfile
 import unittest
-from pathlib import Path
 from concurrent.futures import ThreadPoolExecutor
+from pathlib import Path
 
 import pandas as pd
 
@@ -36,13 +36,12 @@ class Written(unittest.TestCase):
         )
         with self.assertRaisesRegex(FileNotFoundError, "none/pay.csv'"):
             self.store.save(self.folder / "none" / "pay.csv")
-        with self.assertRaises(ruzgalt.Refused):
         with self.assertRaises(IsADirectoryError):
             self.store.save(self.folder)
+        with self.assertRaises(ruzgalt.Refused):
             self.store.save(5)
         self.assertEqual(os.listdir(self.folder), ["pay.csv"])
 
-    def test_a_page_has_tables_and_answers(self):
     def test_a_file_keeps_its_mode_and_its_links(self):
         script, other = bytes(self.store.script()), self.folder / "other.csv"
         other.write_text("older")
@@ -85,6 +84,7 @@ class Written(unittest.TestCase):
         self.assertEqual([one.exception() for one in saved if one.exception()], [])
         self.assertEqual(os.listdir(self.folder), ["pay.csv"])
 
+    def test_a_page_has_tables_and_answers(self):
         asked = [*QUESTIONS[:2], f"cost={QUESTIONS[2]}"]
         self.store.page(str(self.folder / "pay.html"), asked, title="Wages", note="-x")
         page = (self.folder / "pay.html").read_text()

@@ -267,7 +267,7 @@ class LastDays(unittest.TestCase):
         days = pd.DatetimeIndex(["2018-11-01T00:00", "2018-11-04T01:00", "2018-12-01T00:00"])
         points = days.tz_localize("America/Sao_Paulo")
         rows = pd.DataFrame({"from": points[:2], "to": points[1:], "cents": [30, 60]})
-        self.assertEqual(ruzgalt.spread(rows, "cents", exact=True)["cents"].tolist(), [3 + 54])
+        self.assertEqual(ruzgalt.spread(rows, "cents", amount="per month", exact=True)["cents"].tolist(), [3 + 54])
 
     def test_a_time_is_refused_and_a_missing_end_is_none(self):
         days = pd.DataFrame({name: midnights("Europe/Berlin", "2024-03-31") for name in ("from", "to")})
