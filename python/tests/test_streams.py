@@ -1,4 +1,4 @@
-"""The tools as a shell runs them: with closed streams, a full device, and ended by Ctrl-C."""
+"""The tools as a shell runs them: with closed streams, on a full disk, and ended by Ctrl-C."""
 import os
 import pty
 import signal
@@ -44,6 +44,30 @@ class ClosedStreams(unittest.TestCase):
         script = "examples/pay.csv"
         status, _, said = run(f"{ANSWERS} list {script} --answers {script}.stdout >/dev/full")
         self.assertEqual((status, said), (1, "answers: No space left on device\n"))
+
+    def test_each_tool_writes_all_or_fails(self) -> None:
+        """A full disk takes a part of a write. By PYTHONUNBUFFERED, Python doesn't try to write the rest."""
+        names = [f"Name {number}" for number in range(100)]
+        rows = [f"2024-01-01,2024-02-01,{name}\n" for name in names]
+        script = f"table,t,a,text\nload,t\n{''.join(f'row,{row}' for row in rows)}end\nrows,t\n"
+        answered = "".join(f"row,{number},{row}" for number, row in enumerate(rows, 1))
+        with tempfile.TemporaryDirectory() as folder:
+            for name, text in (
+                ("s", script), ("a", f"ok,1\nok,2\n{answered}end,100\n"), ("c", f"Start,End,Name\n{''.join(rows)}"),
+            ):
+                Path(folder, name).write_text(text)
+            for command in (
+                *(f"{ANSWERS} {words} --answers {folder}/a" for words in (
+                    f"csv {folder}/s", f"coalesce {folder}/s a", f"history {folder}/s t", f"json {folder}/s",
+                    f"sqlite {folder}/s :memory: 3=t --query 'select * from t'", f"next {folder}/s --table t",
+                    f"page {folder}/s",
+                )),
+                f"{ANSWERS} --help", f"{ANSWERS} csv --help", f"{LOADS} --help", f"{LOADS} --file {folder}/c",
+                "tools/man-page dipq-answers",
+            ):
+                with self.subTest(command):
+                    status, _, said = run(f"ulimit -f 1; PYTHONUNBUFFERED=1 {command} > {folder}/out")
+                    self.assertEqual((status, said.partition(": ")[2]), (1, "File too large\n"))
 
 
 # What acts on a terminal, can't be seen, or turns what stands behind it.

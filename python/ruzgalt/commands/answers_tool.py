@@ -1,5 +1,4 @@
 """The words of tools/answers: a subcommand for each thing that is done with a script and its answers."""
-import gc
 import sqlite3
 import sys
 import textwrap
@@ -441,27 +440,29 @@ def usage() -> str:
 
 
 def main(words: Sequence[str]) -> int:
-    streams.prepare(called.ANSWERS_SAY)
-    # What is read is kept to the end, so nothing is won by looking for what can be dropped.
-    gc.disable()
-    if not words or words[0] in ("-h", "--help"):
-        (sys.stdout if words else sys.stderr).write(usage())
-        return 0 if words else 2
+    return streams.run(called.ANSWERS_SAY, lambda: run(words))
+
+
+def run(words: Sequence[str]) -> int:
+    if not words:
+        sys.stderr.write(usage())
+        return 2
+    if words[0] in ("-h", "--help"):
+        streams.show_text(usage())
+        return 0
     command = Words(prog=NAME, usage=f"{NAME} COMMAND SCRIPT ..", add_help=False)
     command.add_argument("command", choices=TOOLS, metavar="COMMAND")
     tool = TOOLS[command.parse_args(words[:1]).command]
     try:
         with Progress(f"{called.ANSWERS_SAY} {words[0]}"):
             return tool.do(options_of(words[0], words[1:])) or 0
-    except OSError as error:
-        why = error.strerror or str(error)
-        return fail(f"{error.filename}: {why}" if error.filename else why)
     except (Misfit, sqlite3.Error, sqlite3.Warning) as error:
-        return fail(str(error))
+        warn(str(error))
     except MemoryError:
-        return fail("out of memory")
+        warn("out of memory")
     except UnicodeEncodeError as error:
-        return fail(f"SQLite takes only UTF-8, which this isn't: {records.visible(error.object)}")
+        warn(f"SQLite takes only UTF-8, which this isn't: {records.visible(error.object)}")
+    return 1
 
 
 def options_of(name: str, words: Sequence[str]) -> Namespace:
@@ -482,9 +483,3 @@ def refuse_words(tool: Tool, options: Namespace) -> None:
         refuse_names("--ask", options.ask)
     if options.program and options.answers is not None:
         raise Misfit("--program can't be given with --answers: no program is run then")
-
-
-def fail(why: str) -> int:
-    warn(why)
-    streams.drop_unwritable()
-    return 1

@@ -1,7 +1,4 @@
 """The words of tools/csv-to-load."""
-import gc
-import os
-import sys
 from argparse import ArgumentParser, ArgumentTypeError, Namespace
 from pathlib import Path
 from typing import Iterator, List, Optional, Sequence, Tuple
@@ -253,33 +250,25 @@ def report(notes: List[str], count: int) -> None:
         streams.report(f"{called.LOAD_SAYS}: {one}")
 
 
-def show(pieces: Sequence[bytes]) -> None:
-    try:
-        streams.show_records(pieces)
-    except OSError as error:
-        streams.report(f"{called.LOAD_SAYS}: {error.strerror}")
-        # What is left in the buffer isn't to be tried again at the end.
-        os._exit(1)
-
-
 def main(arguments: Sequence[str]) -> int:
-    streams.prepare(called.LOAD_SAYS)
-    # What is read is dropped when it is done with, or kept to the end.
-    gc.disable()
+    return streams.run(called.LOAD_SAYS, lambda: run(arguments))
+
+
+def run(arguments: Sequence[str]) -> int:
     pieces: List[bytes] = []
     try:
         options = words().parse_intermixed_args(arguments)
         with Progress(called.LOAD_SAYS):
             pieces, faults, notes, count = made(options)
     except SystemExit as ended:
-        sys.stdout.write(FAILED.decode() if ended.code else "")
+        streams.write([FAILED] if ended.code else [])
         raise
     except Misfit as error:
         faults, notes, count = [str(error)], [], 1
     except OSError as error:
-        faults, notes, count = [f"{error.filename}: {error.strerror}"], [], 1
+        faults, notes, count = [streams.reason(error)], [], 1
     except MemoryError:
         faults, notes, count = ["out of memory: --part 1/2 and --part 2/2 make two scripts of the file"], [], 1
     report(faults or notes, count)
-    show([FAILED] if count else pieces)
+    streams.show_records([FAILED] if count else pieces)
     return 1 if count else 0

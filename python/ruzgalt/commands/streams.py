@@ -1,9 +1,10 @@
-"""Standard input, output and error as a shell may leave them: closed, a terminal, or read by what ends early."""
+"""Standard input, output and error as a shell may leave them: closed, a terminal, or a file on a full disk."""
 import csv
+import gc
 import os
 import signal
 import sys
-from typing import Iterable
+from typing import Callable, Iterable, Optional
 
 from ruzgalt.commands import progress, screen
 from ruzgalt.errors import Misfit
@@ -11,30 +12,36 @@ from ruzgalt.script import records
 from ruzgalt.script.reader import LONGEST_FIELD
 
 
-def prepare(name: str) -> None:
-    """Makes the process a tool's: it ends as other programs do, where its output isn't read to its end, or by Ctrl-C.
+def run(name: str, tool: Callable[[], Optional[int]]) -> int:
+    """Runs a tool and returns its status: 1, with a message, if a file can't be read or written.
 
-    Ends where there is no place for what would be printed. What would be reported goes nowhere, if it has no place.
+    The tool ends as other programs do if its output isn't read to the end, or by Ctrl-C. Without standard error its
+    messages are lost; without standard output it doesn't begin.
     """
     csv.field_size_limit(LONGEST_FIELD)
+    # The tools keep most of what they read, so a search for garbage would find none.
+    gc.disable()
     signal.signal(signal.SIGPIPE, signal.SIG_DFL)
     signal.signal(signal.SIGINT, signal.SIG_DFL)
     if sys.stderr is None:
         sys.stderr = open(os.devnull, "w")
     if sys.stdout is None:
         sys.exit(f"{name}: standard output is closed")
-
-
-def drop_unwritable() -> None:
-    """Lets what can't be written go, since Python would try it again at the end, and say so beside what is said."""
     try:
-        sys.stdout.flush()
-    except OSError:
-        os.dup2(os.open(os.devnull, os.O_WRONLY), sys.stdout.fileno())
+        return tool() or 0
+    except OSError as error:
+        report(f"{name}: {reason(error)}")
+        return 1
+
+
+def reason(error: OSError) -> str:
+    """Returns the message of an error of the system, with its file if it has one."""
+    why = error.strerror or str(error)
+    return f"{error.filename}: {why}" if error.filename else why
 
 
 def given() -> bytes:
-    """What standard input has."""
+    """Returns all of standard input."""
     if sys.stdin is None:
         raise Misfit("standard input is closed")
     return sys.stdin.buffer.read()
@@ -57,10 +64,23 @@ def show_text(text: str) -> None:
 
 
 def write(pieces: Iterable[bytes]) -> None:
+    """Writes all bytes of the pieces to standard output, or raises OSError.
+
+    Without a buffer, as PYTHONUNBUFFERED sets it, one write takes only the bytes for which a full disk has space.
+    """
     if sys.stdout.isatty():
         progress.end()
-    sys.stdout.buffer.writelines(pieces)
-    sys.stdout.flush()
+    output = sys.stdout.buffer
+    try:
+        for piece in pieces:
+            left = memoryview(piece)
+            while left:
+                left = left[output.write(left):]
+        output.flush()
+    except OSError:
+        # At its end Python would write its buffer once more, and report a second error.
+        os.dup2(os.open(os.devnull, os.O_WRONLY), sys.stdout.fileno())
+        raise
 
 
 def report(line: str) -> None:

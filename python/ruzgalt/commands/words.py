@@ -5,7 +5,7 @@ from typing import Any, NoReturn, Optional, Tuple
 
 from ruzgalt.answers.amounts import Amounts
 from ruzgalt.answers.shown import Look
-from ruzgalt.commands import screen
+from ruzgalt.commands import screen, streams
 
 
 class Once(Action):
@@ -23,12 +23,15 @@ class Once(Action):
 
 
 class Words(ArgumentParser):
-    """The words of a tool. What is wrong with them is said without what would act on a terminal."""
+    """The words of a tool. An error in them is reported without characters that act on a terminal."""
 
     def __init__(self, **words: Any) -> None:
         super().__init__(**words)
         # What an option does that says nothing of it.
         self.register("action", None, Once)
+
+    def print_help(self, file: Any = None) -> None:
+        streams.show_text(self.format_help())
 
     def error(self, message: str) -> NoReturn:
         super().error(screen.visible(message) if sys.stderr.isatty() else message)
