@@ -501,6 +501,22 @@ class Updates(Case):
         self.refused("Euros is '5x': not a whole number", text.replace("500", "5x"), *words, "--update", "pid")
         self.refused("--update pid: not one of the columns Euros", text, *words, "Euros", "--update", "pid")
 
+    def test_an_empty_cell_sets_a_column_only_by_an_option(self) -> None:
+        text = "person,grade,Start,End\nA,,2024-01-01,2024-03-05\nB,S2,2024-01-01,2024-03-05\n"
+        words = ["pay", "Start", "End", "person", "grade", "--update", "person"]
+        part = "line 2: grade is '': an update would set the empty text; if that is meant, use --empty grade; if the old"
+        self.refused(part, text, *words)
+        update = "update,pay,2024-01-01,2024-03-05,set,grade,{},where,person,{}\n"
+        self.loaded(update.format("", "A") + update.format("S2", "B"), text, *words, "--empty", "grade")
+        table = ["--table", "table,pay,person,text,level,text,key,person"]
+        self.refused("use --empty grade", text, *words[:3], "person", "level=grade", "--update", "person", *table)
+        for name in ("grade", "level"):
+            named = [*words[:3], "person", "level=grade", "--update", "person", *table, "--empty", name]
+            self.assertIn("set,level,,where,person,A\n", load(text, *named)[0])
+        self.refused("--empty person: not one of the columns that are set: grade", text, *words, "--empty", "person")
+        self.refused("--empty grade: given twice", text, *words, *["--empty", "grade"] * 2)
+        self.refused("--empty needs --update: a load takes empty texts", text, *words[:5], "--empty", "grade")
+
     def test_updates_are_parted_as_the_load_is(self) -> None:
         record = "table,pay,dept,text,person,text,euros,int,key,person"
         lines = [f"{name},D{place % 2},{place},2024-01-01,2024-03-05" for place, name in enumerate("ABCDEFGH")]

@@ -88,7 +88,8 @@ class Columns(unittest.TestCase):
              "where", first, value]
             for value, *values in file.rows
         ]
-        self.assertEqual(loaded([*file.words, "--update", first], file), wanted)
+        empty = [f"--empty={column}" for column in file.header[1:]]
+        self.assertEqual(loaded([*file.words, "--update", first, *empty], file), wanted)
 
     @DRAWN
     @given(files(), st.integers(1, 3))

@@ -9,7 +9,7 @@ from ruzgalt.commands.words import Words, decimals as digits_of, filled
 from ruzgalt.errors import Misfit
 from ruzgalt.loading import claims, dates, decimals
 from ruzgalt.loading.columns import mark_of
-from ruzgalt.loading.loaded_table import fit, name_of, rename, schema_of
+from ruzgalt.loading.loaded_table import fit, rename, schema_of, take_names_of_file
 from ruzgalt.loading.making import Load
 from ruzgalt.loading.sheets import Records, Sheet, composed
 from ruzgalt.loading.workbooks import Workbook, is_workbook
@@ -28,7 +28,7 @@ record that the store refuses is printed in place of the load, so that a script 
 FAILED = b"csv-to-load failed\n"
 # A division has no periods, and its parts and ids are taken as they are.
 UNUSED_BY_CHECK = (
-    "part", "update", "delete", "record", "print_table", "german", "dates", "decimals", "decimal_mark", "unit",
+    "part", "update", "empty", "delete", "record", "print_table", "german", "dates", "decimals", "decimal_mark", "unit",
     "whole_seconds", "last_day", "open", "no_end", "plain_spaces", "drop_equal",
 )
 
@@ -91,6 +91,10 @@ def words_of_table(parser: ArgumentParser) -> None:
         "other columns are set",
     )
     parser.add_argument(
+        "--empty", action="append", default=[], metavar="COLUMN",
+        help="an empty cell of this column sets the empty text in updates, which is refused otherwise",
+    )
+    parser.add_argument(
         "--delete", action="store_true",
         help="prints deletes of the rows that have the COLUMNs' values, in place of a load: FROM and TO are the "
         "portion; with --table, the COLUMNs are those of the table's key if none is given",
@@ -129,12 +133,11 @@ def words_of_values(parser: ArgumentParser) -> None:
 def refuse_words(options: Namespace) -> None:
     """Refuses names that aren't COLUMNs, or that are given twice."""
     columns: List[str] = options.column
-    for word, names in (("decimals", [name for name, _ in options.decimals]), ("update", options.update)):
-        for name in names:
-            if name not in columns:
-                raise Misfit(f"--{word} {name}: not one of the columns {', '.join(columns)}")
-            if names.count(name) > 1:
-                raise Misfit(f"--{word} {name}: given twice")
+    refuse_names("decimals", [name for name, _ in options.decimals], columns)
+    refuse_names("update", options.update, columns)
+    if options.empty and not options.update:
+        raise Misfit("--empty needs --update: a load takes empty texts as they are")
+    refuse_names("empty", options.empty, [name for name in columns if name not in options.update], " that are set:")
     twice = [name for name in columns if columns.count(name) > 1]
     if twice:
         raise Misfit(f"{twice[0]} is given twice, but a column of the file fills one of the table's")
@@ -152,6 +155,15 @@ def refuse_words(options: Namespace) -> None:
         word = "update" if options.update else "delete"
         reason = "a table that is only made there has no rows to change"
         raise Misfit(f"--print-table can't be given with --{word}: {reason}")
+
+
+def refuse_names(word: str, names: Sequence[str], columns: Sequence[str], which: str = "") -> None:
+    """Refuses names that aren't one of the columns, or that are given twice."""
+    for name in names:
+        if name not in columns:
+            raise Misfit(f"--{word} {name}: not one of the columns{which} {', '.join(columns)}")
+        if names.count(name) > 1:
+            raise Misfit(f"--{word} {name}: given twice")
 
 
 def given(options: Namespace) -> bytes:
@@ -183,9 +195,7 @@ def load_of(options: Namespace) -> Tuple[Load, Optional[Schema], List[str]]:
         names = ", ".join(left_out)
         notes = [f"the file has no column {names}, so updates leave it as it is"] if left_out else []
     else:
-        of_file = {name: column for column, name in options.renamed.items()}
-        options.update = [name_of(name, of_file) for name in options.update]
-        options.decimals = [(name_of(name, of_file), digits) for name, digits in options.decimals]
+        take_names_of_file(options, {name: column for column, name in options.renamed.items()})
     refuse_words(options)
     load = Load(sheet, options, fitted)
     if options.part and not load.is_load:
@@ -211,7 +221,8 @@ def claimed(options: Namespace) -> Tuple[bytes, List[str]]:
 def compose(options: Namespace) -> None:
     """Gives the names one form of Unicode, as a header has it: an accented letter may be two characters elsewhere."""
     options.start, options.end = composed(options.start), composed(options.end)
-    options.column, options.update = list(map(composed, options.column)), list(map(composed, options.update))
+    for names in (options.column, options.update, options.empty):
+        names[:] = map(composed, names)
     options.decimals = [(composed(name), digits) for name, digits in options.decimals]
 
 

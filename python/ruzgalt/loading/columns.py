@@ -136,6 +136,7 @@ class Text(Column):
         super().__init__(name, self.value)
         self.has_plain_spaces, self.mark = options.plain_spaces, mark_of(options)
         self.kind, self.is_key = kind, is_key
+        self.has_empty = is_key or not options.update or name in options.empty
         self.look_alikes = LookAlikes()
 
     def made_at_once(self, values: Sequence[str]) -> Sequence[str]:
@@ -149,6 +150,9 @@ class Text(Column):
 
     def value(self, text: str) -> str:
         made = text.translate(TO_SPACE) if self.has_plain_spaces else text
+        if not made and not self.has_empty:
+            remedy = "if the old value stays, put these rows into a file without the column"
+            raise Misfit(f"an update would set the empty text; if that is meant, use --empty {self.name}; {remedy}")
         if self.kind is Kind.INT:
             return self.number(made)
         if len(made) > SHORT and not is_short(made):

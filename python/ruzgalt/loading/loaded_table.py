@@ -62,10 +62,14 @@ def fit(options: Namespace, schema: Schema, header: Sequence[str]) -> Tuple[Sche
     fitted = some_of(schema, names) if options.update or options.delete else schema
     if fitted is schema:
         refuse_others(names, schema)
-    of_file = dict(zip(fitted.names, options.column))
-    options.update = [name_of(name, of_file) for name in options.update]
-    options.decimals = [(name_of(name, of_file), digits) for name, digits in options.decimals]
+    take_names_of_file(options, dict(zip(fitted.names, options.column)))
     return fitted, left_out
+
+
+def take_names_of_file(options: Namespace, of_file: Dict[str, str]) -> None:
+    """Replaces the table's names by the file's in all options that have names of columns."""
+    options.update, options.empty = ([name_of(name, of_file) for name in names] for names in (options.update, options.empty))
+    options.decimals = [(name_of(name, of_file), digits) for name, digits in options.decimals]
 
 
 def refuse_twins(options: Namespace, known: Sequence[str]) -> None:
