@@ -180,10 +180,20 @@ class Separators(Case):
                 more = shlex.split(found[1]) if found else []
                 self.loaded(f"load,pay\nrow,2024-01-01,2024-03-05,A,{made}\nend\n", text, *words, *more)
 
-    def test_another_unit_is_reported_as_that(self) -> None:
-        text = rows("A,5 €,2024-01-01,2024-03-05", "B,5 $,2024-01-01,2024-03-05")
-        note = "line 3: Pay is '5 $': not a number such as 1,234.50; use --unit '$', if it is the same unit as €"
-        self.refused(note, text, *WORDS, "--decimals", "Pay=2", "--unit", "€")
+    def test_two_units_in_a_column_are_refused(self) -> None:
+        for first, second in (("€", "$"), ("H", "S"), ("EUR", "USD")):
+            text = rows(f"A,5 {first},2024-01-01,2024-03-05", f"B,5 {second},2024-01-01,2024-03-05")
+            note = f"line 3: Pay is '5 {second}': its unit is {second}, and other numbers of the column have {first}"
+            for units in ([first], [first, second], [second, first]):
+                words = [word for unit in units for word in ("--unit", unit)]
+                self.refused(note, text, *WORDS, "--decimals", "Pay=2", *words)
+
+    def test_each_column_may_have_its_unit(self) -> None:
+        text = "Name,Pay,Hours,Start,End\nA,5 €,4 h,2024-01-01,2024-03-05\nB,6,7,2024-01-01,2024-03-05\n"
+        words = [*WORDS, "Hours", "--decimals", "Pay=2", "--decimals", "Hours=0", "--unit", "€"]
+        self.refused("Hours is '4 h': not a number such as 1,234.50; is h a multiple, or a sign?", text, *words)
+        lines = "row,2024-01-01,2024-03-05,A,500,4\nrow,2024-01-01,2024-03-05,B,600,7\n"
+        self.loaded(f"load,pay\n{lines}end\n", text, *words, "--unit", "h")
 
     def test_numbers_below_zero_have_a_minus_before_them(self) -> None:
         for number in ("(500.00)", "500.00-", "−500"):

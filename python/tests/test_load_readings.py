@@ -75,12 +75,14 @@ class Reading:
 
 
 def wanted_numbers(texts: Sequence[str], mark: str, is_given: bool, digits: int, units: Sequence[str]) -> List[str]:
-    """What the numbers become, or nothing where one of them isn't to be read, or not in one way alone."""
-    made, readings = [], []
+    """What the numbers become; nothing if one of them can't be read in one way only, or if they have two units."""
+    made, readings, found = [], [], set()
     for text in texts:
         bare = text.strip(SPACES)
         # A unit is taken off once.
-        bare = next((one for one in (split_off(bare, unit) for unit in units) if one != bare), bare)
+        unit = next((unit for unit in units if split_off(bare, unit) != bare), "")
+        found |= {unit} - {""}
+        bare = split_off(bare, unit) if unit else bare
         reading = Reading(bare.strip(SPACES), mark)
         if reading.whole is None:
             return []
@@ -92,7 +94,7 @@ def wanted_numbers(texts: Sequence[str], mark: str, is_given: bool, digits: int,
         made.append(str(number.numerator))
     marked = [one for one in readings if one.is_marked]
     is_open = not is_given and marked and all(one.is_either for one in marked)
-    return [] if is_open else made
+    return [] if is_open or len(found) > 1 else made
 
 
 def spelled(number: int, mark: str, parting: str, decimals: str, around: str) -> str:

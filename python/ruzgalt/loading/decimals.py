@@ -103,7 +103,8 @@ class Scale:
 
     def __init__(self, name: str, digits: int, marks: Marks, units: Sequence[str] = ()) -> None:
         self.name, self.digits, self.marks, self.units = name, digits, marks, units
-        self.longest = 0
+        # The first unit of the column, of which all others must have the same.
+        self.unit, self.longest = "", 0
 
     def __call__(self, text: str) -> str:
         whole, mark, decimals = text.partition(self.marks.mark)
@@ -145,9 +146,22 @@ class Scale:
         return made
 
     def bare(self, text: str) -> str:
-        """The number without a unit that a word takes off, and without spaces round it."""
+        """Returns the number without its unit and without spaces around it."""
         stripped = text.strip(SPACES)
-        return next((bare for bare in (without(unit, stripped) for unit in self.units) if bare != stripped), stripped)
+        for unit in self.units:
+            bare = without(unit, stripped)
+            if bare != stripped:
+                self.unit = self.unit or unit
+                self.refuse_second(unit)
+                return bare
+        return stripped
+
+    def refuse_second(self, unit: str) -> None:
+        """Refuses a second unit in the column: their amounts can't be added, or one is for amounts below zero."""
+        if self.unit not in ("", unit):
+            what = f"its unit is {unit}, and other numbers of the column have {self.unit}"
+            remedy = "give each unit a column of its own, and write amounts below zero with a minus"
+            raise Misfit(f"{what}, but a column has one unit: {remedy}")
 
     def fault_of_decimals(self, number: Number, bare: str) -> str:
         """What is wrong with more decimals than there may be, but for zeros; and with three where fewer may be.
@@ -182,12 +196,12 @@ class Scale:
         if bare.startswith("+"):
             return "; leave out the +"
         unit = unit_of(text)
+        is_number = any(number_in(without(unit, bare), mark) for mark in ".,")
+        if unit and is_number:
+            self.refuse_second(unit)
         if unit and unit.casefold().strip(".") in NO_UNITS:
             return f"; is {unit} a multiple, or a sign? write the number without it"
-        if unit and any(number_in(without(unit, bare), mark) for mark in ".,"):
-            remedy = f"; use --unit {shlex.quote(unit)}"
-            return f"{remedy}, if it is the same unit as {', '.join(self.units)}" if self.units else remedy
-        return ""
+        return f"; use --unit {shlex.quote(unit)}" if unit and is_number else ""
 
 
 def readings(bare: str, marks: str) -> str:
