@@ -195,6 +195,29 @@ class Separators(Case):
         lines = "row,2024-01-01,2024-03-05,A,500,4\nrow,2024-01-01,2024-03-05,B,600,7\n"
         self.loaded(f"load,pay\n{lines}end\n", text, *words, "--unit", "h")
 
+    def test_numbers_with_and_without_a_decimal_mark_are_refused(self) -> None:
+        german, english = [*WORDS, "--decimals", "Pay=2", "--german"], [*WORDS, "--decimals", "Pay=2"]
+        for number, marked, words, unit, both in [
+            ("510050", '"5.100,50"', german, "", ("51005000", "510050")), ("5", "4.50", english, "", ("500", "5")),
+            ("-7 €", "4.5 €", english, "€", ("-700", "-7")), ("0050", "4.50", english, "", ("5000", "50")),
+        ]:
+            with self.subTest(number):
+                words = [*words, *(["--unit", unit] if unit else [])]
+                for count in (1, 20):
+                    others = [f"B,{marked},2024-01-01,2024-03-05", "C,0,2024-01-01,2024-03-05"] * count
+                    text = rows(*others, f"A,{number},2024-01-01,2024-03-05")
+                    part = f"line {2 + len(others)}: Pay is '{visible(number)}', without a decimal mark, and others of"
+                    self.refused(part, text, *words)
+                    for bare, made in zip(("whole", "decimals"), both):
+                        self.assertIn(f",A,{made}\n", load(text, *words, "--bare", bare)[0])
+                        self.assertIn(",C,0\n", load(text, *words, "--bare", bare)[0])
+        text = rows("A,510050,2024-01-01,2024-03-05", 'B,"5,100.50",2024-01-01,2024-03-05')
+        self.refused("--bare whole makes it 510050.00, --bare decimals makes it 5100.50", text, *english)
+        self.refused("--bare needs --decimals", text, *WORDS, "--bare", "whole")
+        for numbers in (("4.900", "5.100,50"), ("4900", "5100"), ("0", "5100,50")):
+            lines = (f'{name},"{number}",2024-01-01,2024-03-05' for name, number in zip("AB", numbers))
+            self.assertEqual(load(rows(*lines), *german)[1], [])
+
     def test_numbers_below_zero_have_a_minus_before_them(self) -> None:
         for number in ("(500.00)", "500.00-", "−500"):
             with self.subTest(number):
@@ -303,7 +326,7 @@ class ManyValues(Case):
             texts = [form.format(number) for number in range(10, 100)]
             text = rows(*(f'{place},"{one}",2024-01-01,2024-03-05' for place, one in enumerate([*texts, "0.1"])))
             with self.subTest(form):
-                printed, notes = load(text, *WORDS, "--decimals", "Pay=2")
+                printed, notes = load(text, *WORDS, "--decimals", "Pay=2", "--bare", "whole")
                 wanted = [str(int(Decimal(one.replace(",", "")) * 100)) for one in [*texts, "0.1"]]
                 found = [row[4] for row in csv.reader(io.StringIO(printed)) if row[0] == "row"]
                 self.assertEqual((found, notes), (wanted, []))

@@ -68,13 +68,16 @@ class Reading:
         self.is_marked = bool(set(shown) & set(".,"))
         is_grouped = len(parts) == 2 and len(parts[1]) == 3 and 1 <= len(parts[0]) <= 3 and parts[0][0] != "0"
         self.is_either = is_grouped and all(one in DIGITS for one in "".join(parts))
+        self.is_bare = bool(shown) and all(one in DIGITS for one in shown)
 
     def times(self, scale: int) -> Fraction:
         number = Fraction(int((self.whole or "") + self.decimals) * 10 ** scale, 10 ** len(self.decimals))
         return -number if self.is_below else number
 
 
-def wanted_numbers(texts: Sequence[str], mark: str, is_given: bool, digits: int, units: Sequence[str]) -> List[str]:
+def wanted_numbers(
+    texts: Sequence[str], mark: str, is_given: bool, digits: int, units: Sequence[str], bare_is: str = "",
+) -> List[str]:
     """What the numbers become; nothing if one of them can't be read in one way only, or if they have two units."""
     made, readings, found = [], [], set()
     for text in texts:
@@ -86,7 +89,7 @@ def wanted_numbers(texts: Sequence[str], mark: str, is_given: bool, digits: int,
         reading = Reading(bare.strip(SPACES), mark)
         if reading.whole is None:
             return []
-        number = reading.times(digits)
+        number = reading.times(0 if reading.is_bare and bare_is == "decimals" else digits)
         doubtful = len(reading.decimals) == 3 and digits < 3 and not is_given
         if doubtful or number.denominator != 1 or not -2 ** 63 <= number < 2 ** 63:
             return []
@@ -94,7 +97,8 @@ def wanted_numbers(texts: Sequence[str], mark: str, is_given: bool, digits: int,
         made.append(str(number.numerator))
     marked = [one for one in readings if one.is_marked]
     is_open = not is_given and marked and all(one.is_either for one in marked)
-    return [] if is_open or len(found) > 1 else made
+    is_mixed = any(one.decimals for one in readings) and any(one.is_bare and int(one.whole or 0) for one in readings)
+    return [] if is_open or len(found) > 1 or is_mixed and digits and not bare_is else made
 
 
 def spelled(number: int, mark: str, parting: str, decimals: str, around: str) -> str:
@@ -119,8 +123,8 @@ NUMBERS = st.lists(PLAIN, min_size=1, max_size=2) | st.lists(
     PLAIN | ODD | st.text("0125.,-+ '\u2019\u00a0€%()", min_size=1, max_size=8), min_size=1, max_size=3,
 )
 NUMBER_WORDS = st.builds(
-    lambda german, mark: {"--german": german, "--decimal-mark": mark},
-    st.sampled_from(["", "yes"]), st.sampled_from(["", "", ".", ","]),
+    lambda german, mark, bare: {"--german": german, "--decimal-mark": mark, "--bare": bare},
+    st.sampled_from(["", "yes"]), st.sampled_from(["", "", ".", ","]), st.sampled_from(["", "", "whole", "decimals"]),
 )
 
 
@@ -136,7 +140,7 @@ class Numbers(unittest.TestCase):
         more = [*words_of(words), *(word for unit in units for word in ("--unit", unit))]
         printed, notes = load(text, "pay", "Start", "End", "Pay", "--decimals", f"Pay={digits}", *more)
         mark = words["--decimal-mark"] or ("," if words["--german"] else ".")
-        wanted = wanted_numbers(texts, mark, bool(words["--decimal-mark"]), digits, units)
+        wanted = wanted_numbers(texts, mark, bool(words["--decimal-mark"]), digits, units, words["--bare"])
         self.assertEqual([row[3] for row in csv.reader(io.StringIO(printed)) if row[0] == "row"], wanted)
         self.assertTrue(wanted or notes)
 

@@ -29,7 +29,7 @@ FAILED = b"csv-to-load failed\n"
 # A division has no periods, and its parts and ids are taken as they are.
 UNUSED_BY_CHECK = (
     "part", "update", "empty", "delete", "record", "print_table", "german", "dates", "decimals", "decimal_mark", "unit",
-    "whole_seconds", "last_day", "open", "no_end", "plain_spaces", "drop_equal",
+    "bare", "whole_seconds", "last_day", "open", "no_end", "plain_spaces", "drop_equal",
 )
 
 
@@ -120,6 +120,11 @@ def words_of_values(parser: ArgumentParser) -> None:
         "--unit", type=unit, action="append", default=[], metavar="UNIT",
         help="numbers with decimals may have this before or after them, such as EUR or a currency sign",
     )
+    parser.add_argument(
+        "--bare", choices=("whole", "decimals"), default="",
+        help="what a number without a mark is if others of its column have a decimal mark: by whole 500 is 500.00, and "
+        "by decimals 5.00",
+    )
     parser.add_argument("--whole-seconds", action="store_true", help="leaves out parts of a second")
     parser.add_argument("--last-day", action="store_true", help="TO is the last day of a row, not the day after it")
     parser.add_argument("--open", action="store_true", help=f"an empty TO is {dates.NO_END}")
@@ -147,8 +152,9 @@ def refuse_words(options: Namespace) -> None:
         raise Misfit("--delete needs a COLUMN or --table: without one, each delete would be of all rows of its time")
     if options.update and len(options.update) == len(columns):
         raise Misfit("--update: no column is left to set")
-    if options.unit and not options.decimals:
-        raise Misfit("--unit needs --decimals: values of other columns are taken as they are")
+    for word in ("unit", "bare"):
+        if getattr(options, word) and not options.decimals:
+            raise Misfit(f"--{word} needs --decimals: values of other columns are taken as they are")
     if options.print_table and not options.record:
         raise Misfit("--print-table needs --table")
     if options.print_table and (options.update or options.delete):

@@ -5,6 +5,7 @@ from typing import List, NamedTuple, Optional, Sequence
 
 from ruzgalt.errors import Misfit
 from ruzgalt.script.forms import in_lines, is_integer
+from ruzgalt.script.records import visible
 
 # Spreadsheets part thousands by these too: a space, a no-break space, and a narrow one; Swiss ones by apostrophes.
 SPACES, APOSTROPHES = " \u00a0\u202f", "'\u2019"
@@ -79,7 +80,7 @@ class Marks:
 
     def __init__(self, mark: str, is_given: bool) -> None:
         self.mark, self.is_given, self.is_settled = mark, is_given, is_given
-        self.either: Optional["Either"] = None
+        self.either: Optional["Doubtful"] = None
 
     def look_at(self, name: str, text: str, bare: str, is_faulty: bool) -> None:
         if self.is_settled or isinstance(text, Figure) or not ("." in bare or "," in bare):
@@ -87,11 +88,11 @@ class Marks:
         if not EITHER.fullmatch(bare):
             self.is_settled = True
         elif self.either is None and not is_faulty:
-            self.either = Either(name, text, bare)
+            self.either = Doubtful(name, text, bare)
 
 
-class Either(NamedTuple):
-    """A column, and a text of it whose number could be read both ways, as it stands there and without its unit."""
+class Doubtful(NamedTuple):
+    """A number that could be read in two ways: its column, its text, and the text without its unit."""
 
     name: str
     text: str
@@ -99,12 +100,18 @@ class Either(NamedTuple):
 
 
 class Scale:
-    """A column of numbers with so many decimals at most, and how many they had."""
+    """A column of numbers with at most `digits` decimals, and the greatest count of decimals that they had.
 
-    def __init__(self, name: str, digits: int, marks: Marks, units: Sequence[str] = ()) -> None:
-        self.name, self.digits, self.marks, self.units = name, digits, marks, units
+    `bare` says what a number without any mark is: "whole", or "decimals" if its last digits are decimals.
+    """
+
+    def __init__(self, name: str, digits: int, marks: Marks, units: Sequence[str] = (), bare: str = "") -> None:
+        self.name, self.digits, self.marks, self.units, self.how = name, digits, marks, units, bare
         # The first unit of the column, of which all others must have the same.
         self.unit, self.longest = "", 0
+        # The first number with decimals, and the first one without any mark.
+        self.marked = ""
+        self.unmarked: Optional[Doubtful] = None
 
     def __call__(self, text: str) -> str:
         whole, mark, decimals = text.partition(self.marks.mark)
@@ -113,9 +120,31 @@ class Scale:
         if count != 3 and count <= self.digits and (whole + decimals).isdigit() and whole and bool(mark) == bool(count):
             if text.isascii() and len(whole) + self.digits <= LONGEST_NUMBER:
                 self.marks.is_settled = self.marks.is_settled or bool(mark) and not isinstance(text, Figure)
-                self.longest = max(self.longest, count)
-                return (whole + decimals + "0" * (self.digits - count)).lstrip("0") or "0"
+                return self.scaled(text, whole, decimals, text) or "0"
         return self.read(text)
+
+    def scaled(self, text: str, whole: str, decimals: str, bare: str) -> str:
+        """Returns the digits of a number in the smallest unit, without zeros in front."""
+        self.longest = max(self.longest, len(decimals))
+        is_bare = not decimals and bare.lstrip("-").isdigit() and not isinstance(text, Figure)
+        if decimals:
+            self.marked = self.marked or text
+        elif is_bare and self.unmarked is None and whole.strip("0"):
+            self.unmarked = Doubtful(self.name, text, bare)
+        if is_bare and self.how == "decimals":
+            return whole.lstrip("0")
+        return (whole + decimals[:self.digits].ljust(self.digits, "0")).lstrip("0")
+
+    def mixed(self) -> str:
+        """Returns why the column can't be read, if some of its numbers have a decimal mark and others have no mark."""
+        if not (self.marked and self.unmarked and self.digits) or self.how:
+            return ""
+        what = f"without a decimal mark, and others of the column have one, such as '{visible(self.marked)}'"
+        sign, number = "-" * self.unmarked.bare.startswith("-"), self.unmarked.bare.lstrip("-").lstrip("0")
+        parts = number.zfill(self.digits + 1)
+        parts = f"{sign}{parts[:-self.digits]}.{parts[-self.digits:]}"
+        both = f"--bare whole makes it {sign}{number}.{'0' * self.digits}, --bare decimals makes it {parts}"
+        return f"{self.name} is '{visible(self.unmarked.text)}', {what}: {both}"
 
     def at_once(self, texts: Sequence[str]) -> List[str]:
         """What numbers become that all have just these decimals, and can't be read in two ways; nothing of others."""
@@ -124,7 +153,7 @@ class Scale:
         if self.digits in (0, 3) or self.digits > 6 or not re.fullmatch(form, lines, re.ASCII):
             return []
         self.marks.is_settled = self.marks.is_settled or not all(isinstance(text, Figure) for text in texts)
-        self.longest = max(self.longest, self.digits)
+        self.longest, self.marked = max(self.longest, self.digits), self.marked or texts[0]
         digits = lines.replace(self.marks.mark, "")
         has_zeros = digits.startswith("0") or "\n0" in digits
         return list(map(str, map(int, digits.split()))) if has_zeros else digits.split()
@@ -138,8 +167,7 @@ class Scale:
         self.marks.look_at(self.name, text, bare, bool(fault))
         if fault:
             raise Misfit(fault)
-        self.longest = max(self.longest, len(number.decimals))
-        whole = (number.whole + number.decimals[:self.digits].ljust(self.digits, "0")).lstrip("0")
+        whole = self.scaled(text, number.whole, number.decimals, bare)
         made = f"{number.sign}{whole}" if whole else "0"
         if not is_integer(made):
             raise Misfit(NUMBERS)

@@ -3,14 +3,14 @@ from argparse import Namespace
 from itertools import compress, repeat
 from operator import ge
 from os.path import isfile
-from typing import Iterator, List, Optional, Sequence, Set, Tuple, cast
+from typing import Dict, Iterator, List, Optional, Sequence, Set, Tuple, cast
 from zlib import crc32
 
 from ruzgalt.checking.doubts import Ends, Notes, Overwrites, Repeats, Twins
 from ruzgalt.errors import Misfit
 from ruzgalt.loading.columns import Column, End, Start, Text, form_of, mark_of, point_text
 from ruzgalt.loading.dates import as_good_swapped, shifted, without_half
-from ruzgalt.loading.decimals import Marks, Scale, readings
+from ruzgalt.loading.decimals import Doubtful, Marks, Scale, readings
 from ruzgalt.loading.loaded_table import name_for, refuse_twins
 from ruzgalt.loading.sheets import Piece, Records
 from ruzgalt.script import records
@@ -72,7 +72,8 @@ class Load:
         self.stored = self.names_in_store()
         self.faults: List[str] = []
         self.count_of_faults = self.rows = self.printed = self.bytes = 0
-        self.either_line: Optional[int] = None
+        # The line of each number that could be read in two ways.
+        self.doubtful: Dict[Doubtful, int] = {}
         self.notes, self.twins, self.repeats = Notes(), Twins(self.made_word), Repeats()
         self.left_out: Optional[str] = None
         self.equals = Equals(options.drop_equal)
@@ -108,7 +109,7 @@ class Load:
         for place, name in enumerate(self.options.column):
             kind = self.schema.columns[place].kind if self.schema else None
             if name in digits:
-                yield Column(name, Scale(name, digits[name], self.marks, self.options.unit))
+                yield Column(name, Scale(name, digits[name], self.marks, self.options.unit, self.options.bare))
             else:
                 yield Text(name, self.options, kind, place in self.keys)
 
@@ -116,7 +117,7 @@ class Load:
         """What the rows become, by pieces. Where something is at fault, the rest is read for its faults."""
         for piece in self.sheet.pieces():
             yield self.made_of(self.equals.without(self.whole(piece)))
-        self.refuse_either()
+        self.refuse_doubtful()
 
     def made_of(self, piece: Piece) -> bytes:
         """The records made of a piece; none where something is at fault in it, or was before."""
@@ -190,9 +191,9 @@ class Load:
                     self.add_fault(f"line {lines[row]}: {what}")
         for column, texts in zip(self.columns, values):
             self.notes.count(column.name, column.doubts, lines, texts)
-        if self.marks.either and self.either_line is None:
-            name, text, _ = self.marks.either
-            self.either_line = lines[values[self.names.index(name)].index(text)]
+        for one in filter(None, [self.marks.either, *(scale.unmarked for scale in self.scales())]):
+            if one not in self.doubtful:
+                self.doubtful[one] = lines[values[self.names.index(one.name)].index(one.text)]
         if not faulty:
             # None is at fault, so each is a text.
             starts, ends, *others = cast(List[Sequence[str]], found)
@@ -223,11 +224,19 @@ class Load:
             return values[self.keys[0]]
         return list(zip(*(values[place] for place in self.keys)))
 
-    def refuse_either(self) -> None:
-        if self.marks.either and not self.marks.is_settled:
-            name, text, bare = self.marks.either
+    def scales(self) -> List[Scale]:
+        return [column.convert for column in self.columns if isinstance(column.convert, Scale)]
+
+    def refuse_doubtful(self) -> None:
+        """Refuses numbers that could be read in two ways, which only all rows together show."""
+        either = self.marks.either
+        if either and not self.marks.is_settled:
             why = "its mark may separate thousands or decimals, and no other number of the file shows which"
-            self.add_fault(f"line {self.either_line}: {name} is '{visible(text)}': {why}: {readings(bare, '.,')}")
+            what = f"{either.name} is '{visible(either.text)}': {why}: {readings(either.bare, '.,')}"
+            self.add_fault(f"line {self.doubtful[either]}: {what}")
+        for scale in self.scales():
+            if scale.unmarked and scale.mixed():
+                self.add_fault(f"line {self.doubtful[scale.unmarked]}: {scale.mixed()}")
 
     def add_fault(self, what: str) -> None:
         self.count_of_faults += 1
@@ -306,11 +315,10 @@ class Load:
             yield f"{self.options.start} and {self.options.end}: {halves}"
 
     def notes_of_scales(self) -> Iterator[str]:
-        for column in self.columns:
-            scale = column.convert
-            if isinstance(scale, Scale) and scale.digits > 2 and 0 < scale.longest < scale.digits:
+        for scale in self.scales():
+            if scale.digits > 2 and 0 < scale.longest < scale.digits:
                 count = f"its numbers have at most {scale.longest} decimals, and --decimals gives {scale.digits}"
-                yield f"{column.name}: {count}; --decimals {column.name}={scale.longest} takes them as they are"
+                yield f"{scale.name}: {count}; --decimals {scale.name}={scale.longest} takes them as they are"
 
 
 def refuse_header(header: List[str], names: List[str], of_table: Sequence[str]) -> None:

@@ -97,7 +97,7 @@ def trimmed(record: List[str]) -> List[str]:
 
 
 def text_of(value: Any, mark: str) -> str:
-    """The value as a text: a day as a date, a number with as many digits as a spreadsheet keeps."""
+    """Returns the value as a text: a day as a date, a number with as many digits as a spreadsheet keeps."""
     if value is None:
         return ""
     if isinstance(value, bool):
@@ -105,13 +105,15 @@ def text_of(value: Any, mark: str) -> str:
         return "TRUE" if value else "FALSE"
     if isinstance(value, datetime):
         return value.isoformat().replace("T00:00:00", "") if value.time() == time() else value.isoformat()
+    if isinstance(value, int):
+        return Figure(value)
     if isinstance(value, float):
         return text_of_number(value, mark)
     return ESCAPED.sub(lambda found: chr(int(found[1], 16)), value) if isinstance(value, str) else str(value)
 
 
 def text_of_number(value: float, mark: str) -> str:
-    whole, point, decimals = format(Decimal(format(value, ".15g")), "f").partition(".")
+    whole, _, decimals = format(Decimal(format(value, ".15g")), "f").partition(".")
     decimals = decimals.rstrip("0")
     more = "0" if len(decimals) == 3 else ""
     return Figure(f"{whole}{mark}{decimals}{more}" if decimals else whole)
