@@ -69,6 +69,17 @@ class LastDays(Case):
         text = rows("A,1,2024-01-01,2024-03-15", "A,2,2024-03-15,2024-06-02")
         self.noted("1 start on it (line 3 after line 2): --last-day reads it", text, *WORDS, "--last-day")
 
+    def test_a_header_that_says_how_ends_are_meant_is_heeded(self) -> None:
+        row = "A,1,2024-01-01,2024-03-15"
+        for end in ("Letzter Tag", "last day", "LAST_DAY", "last_day", "Bis (einschließlich)", "To (inclusive)"):
+            text, words = f"Name,Pay,Start,{end}\n{row}\n", ["pay", "Start", end, "Name", "Pay"]
+            self.refused(f"{end}: its name says that it is the last day of a row; use --last-day", text, *words)
+            self.assertIn("row,2024-01-01,2024-03-16,A,1\n", load(text, *words, "--last-day")[0])
+        text, words = f"Name,Pay,valid_from,valid_to\n{row}\n", ["pay", "valid_from", "valid_to", "Name", "Pay"]
+        self.refused("valid_to: tools/answers prints the day after a row's last day there; leave out --last-day", text,
+                     *words, "--last-day")
+        self.assertIn("row,2024-01-01,2024-03-15,A,1\n", load(text, *words)[0])
+
     def test_a_row_of_one_day_doesn_t_follow_itself(self) -> None:
         text = rows("A,1,2024-01-05,2024-01-05", "B,2,2024-02-07,2024-02-07")
         wanted = "load,pay\nrow,2024-01-05,2024-01-06,A,1\nrow,2024-02-07,2024-02-08,B,2\nend\n"

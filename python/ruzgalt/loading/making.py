@@ -1,4 +1,5 @@
 """A load, or updates or deletes, made of a CSV file with a header, piece by piece."""
+import re
 from argparse import Namespace
 from itertools import compress, repeat
 from operator import ge
@@ -7,6 +8,7 @@ from typing import Dict, Iterator, List, Optional, Sequence, Set, Tuple, cast
 from zlib import crc32
 
 from ruzgalt.checking.doubts import Ends, Notes, Overwrites, Repeats, Twins
+from ruzgalt.commands import called
 from ruzgalt.errors import Misfit
 from ruzgalt.loading.columns import Column, End, Start, Text, form_of, mark_of, point_text
 from ruzgalt.loading.dates import as_good_swapped, shifted, without_half
@@ -16,11 +18,13 @@ from ruzgalt.loading.sheets import Piece, Records
 from ruzgalt.script import records
 from ruzgalt.script.forms import is_name, read_point
 from ruzgalt.script.records import visible
-from ruzgalt.script.schemas import Schema
+from ruzgalt.script.schemas import PERIOD, Schema
 
 # What a script and a table can have; from nine tenths on that is reported.
 MOST_BYTES, MOST_ROWS = 67_108_864, 1_000_000
 FAULTS = 20
+# The names of a column that has the last day of each row, and not the day after it.
+LAST_DAY_NAME = re.compile(r"last[ _-]?day|letzte[rn]?[ _-]tag|inclusive|inklusive|einschlie(?:ß|ss)lich|einschl\.")
 
 
 class Equals:
@@ -65,6 +69,7 @@ class Load:
         self.sheet, self.options, self.schema = sheet, options, schema
         self.names = [options.start, options.end, *options.column]
         refuse_header(sheet.header, self.names, schema.names if schema else [])
+        refuse_other_ends(options.end, options.last_day)
         self.places = [sheet.header.index(name) for name in self.names]
         self.marks = Marks(mark_of(options), bool(options.decimal_mark))
         self.keys = self.parted_by = self.key_places()
@@ -340,3 +345,12 @@ def refuse_header(header: List[str], names: List[str], of_table: Sequence[str]) 
     twice = [name for name in names if header.count(name) > 1]
     if twice:
         raise Misfit(f"two columns of the header have the name {visible(twice[0])}")
+
+
+def refuse_other_ends(name: str, are_last_days: bool) -> None:
+    """Refuses a column of ends if its name says that they are meant otherwise."""
+    if not are_last_days and LAST_DAY_NAME.search(name.lower()):
+        raise Misfit(f"{visible(name)}: its name says that it is the last day of a row; use --last-day")
+    if are_last_days and name == PERIOD[1].name:
+        remedy = "leave out --last-day, or rename the column if it has last days"
+        raise Misfit(f"{name}: {called.ANSWERS} prints the day after a row's last day there; {remedy}")
