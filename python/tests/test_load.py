@@ -548,7 +548,7 @@ class Updates(Case):
     def test_an_empty_cell_sets_a_column_only_by_an_option(self) -> None:
         text = "person,grade,Start,End\nA,,2024-01-01,2024-03-05\nB,S2,2024-01-01,2024-03-05\n"
         words = ["pay", "Start", "End", "person", "grade", "--update", "person"]
-        part = "line 2: grade is '': an update would set the empty text; if that is meant, use --empty grade; if the old"
+        part = "line 2: grade is '': an update would set the empty text; if that is meant, use --empty grade; if the "
         self.refused(part, text, *words)
         update = "update,pay,2024-01-01,2024-03-05,set,grade,{},where,person,{}\n"
         self.loaded(update.format("", "A") + update.format("S2", "B"), text, *words, "--empty", "grade")

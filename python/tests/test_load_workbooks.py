@@ -163,6 +163,26 @@ class Workbooks(ToolCase):
         self.assertEqual((status, text), (0, "load,t\nrow,2024-01-01,2024-02-01,2024-02-01\nend\n"))
         self.assertIn("Grade has dates in 1 cells: a spreadsheet turns 1-2 into a date", said)
 
+    def test_rows_that_a_reader_of_the_sheet_misses_are_reported(self) -> None:
+        styles: Any = importlib.import_module("openpyxl.styles")
+        book: Any = importlib.import_module("openpyxl").Workbook()
+        sheets = [(book.active, [2, 3, 9], 3), (book.create_sheet("Löhne & <so>"), [4, 5], 2)]
+        for sheet, hidden, struck in sheets:
+            sheet.append(["From", "To", "Name"])
+            for name in "ABCDE":
+                sheet.append([date(2024, 1, 1), date(2024, 2, 1), name])
+            for number in hidden:
+                sheet.row_dimensions[number].hidden = True
+            sheet.cell(struck, 3).font = styles.Font(strike=True)
+        data = io.BytesIO()
+        book.save(data)
+        for sheet, hidden, struck in sheets:
+            status, text, said = loaded(data.getvalue(), ["Name", "--sheet", sheet.title])
+            self.assertEqual((status, text.count("row,")), (0, 5))
+            rows = [f"2 rows are hidden or filtered out there, the first at line {hidden[0]}"]
+            rows.append(f"1 row is struck out, at line {struck}")
+            self.assertEqual(said, "".join(f"csv-to-load: the sheet: {row}, and all rows are loaded\n" for row in rows))
+
     def test_of_several_sheets_one_is_named(self) -> None:
         row = [date(2024, 1, 1), date(2024, 2, 1), "x"]
         data = workbook({"A": [["None"]], "Löhne": [["From", "To", "Name"], row]})

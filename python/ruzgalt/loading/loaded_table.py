@@ -68,7 +68,8 @@ def fit(options: Namespace, schema: Schema, header: Sequence[str]) -> Tuple[Sche
 
 def take_names_of_file(options: Namespace, of_file: Dict[str, str]) -> None:
     """Replaces the table's names by the file's in all options that have names of columns."""
-    options.update, options.empty = ([name_of(name, of_file) for name in names] for names in (options.update, options.empty))
+    for names in (options.update, options.empty):
+        names[:] = [name_of(name, of_file) for name in names]
     options.decimals = [(name_of(name, of_file), digits) for name, digits in options.decimals]
 
 

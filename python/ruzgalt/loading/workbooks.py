@@ -4,6 +4,7 @@ A date is a date there, and a number a number, so neither is read by its looks. 
 was last computed.
 """
 import io
+import posixpath
 import re
 import warnings
 from collections import Counter
@@ -11,7 +12,9 @@ from datetime import date, datetime, time
 from decimal import Decimal
 from importlib import import_module
 from itertools import islice
-from typing import Any, Counter as Counts, Iterator, List, Optional, Sequence, Tuple
+from typing import Any, Counter as Counts, Iterator, List, Optional, Sequence, Set, Tuple
+from xml.etree import ElementTree
+from zipfile import ZipFile
 
 from ruzgalt.errors import Misfit
 from ruzgalt.loading.decimals import Figure
@@ -21,6 +24,8 @@ from ruzgalt.script.records import visible
 BEGINNING = b"PK\x03\x04"
 # How a workbook has a control character in a text, as the CR of a line that another program ended: XML has no such.
 ESCAPED = re.compile("_x00((?!00)[01][0-9A-Fa-f])_")
+# The start of a row in a sheet's XML, and what it has if the row is hidden.
+ROW, HIDDEN = re.compile(rb"<(?:\w+:)?row\b[^>]*>"), re.compile(rb"""\bhidden=["'](?:1|true)["']""")
 NEEDED = "apt-get install python3-openpyxl, or save the sheet as CSV UTF-8"
 
 
@@ -39,21 +44,29 @@ class Workbook:
         # Of each column, how many of its cells have a formula, and how many are dates.
         self.computed: Counts[int] = Counter()
         self.dates: Counts[int] = Counter()
+        # The numbers of rows with a value that a reader of the sheet doesn't see, or sees struck out.
+        self.unseen: List[int] = []
+        self.struck: List[int] = []
         values, formulas = (sheet_of(data, name, has_values) for has_values in (True, False))
+        self.hidden = hidden_rows(data, values.title)
         self.header: List[str] = []
         self.rows = self.read(values, formulas)
         for _, record in self.rows:
             if any(map(str.strip, record)):
                 self.header = list(map(composed, record))
                 break
-        self.computed.clear()
-        self.dates.clear()
+        for found in (self.computed, self.dates, self.unseen, self.struck):
+            found.clear()
 
     def read(self, values: Any, formulas: Any) -> Iterator[Tuple[int, List[str]]]:
         """The number of each row, and its texts, as many as the header has at least."""
         try:
             for number, (cells, written) in enumerate(zip(values.iter_rows(), formulas.iter_rows()), 1):
                 record = trimmed([self.text(*both, place) for place, both in enumerate(zip(cells, written))])
+                if number in self.hidden and record:
+                    self.unseen.append(number)
+                if any(cell.value is not None and cell.font.strike for cell in written):
+                    self.struck.append(number)
                 yield number, record + [""] * (len(self.header) - len(record))
         except (Misfit, MemoryError):
             raise
@@ -78,7 +91,11 @@ class Workbook:
         return text_of(cell.value, self.mark)
 
     def notes(self, points: Sequence[int], values: Sequence[int]) -> Iterator[str]:
-        """What is to be known of the columns at these places: of the period, and of values."""
+        """Reports rows that a reader of the sheet misses, and oddities of the columns of the period and of values."""
+        for rows, what in ((self.unseen, "hidden or filtered out there"), (self.struck, "struck out")):
+            if rows:
+                count = f"{len(rows):,} rows are {what}, the first" if len(rows) > 1 else f"1 row is {what},"
+                yield f"the sheet: {count} at line {rows[0]}, and all rows are loaded"
         for place in [*points, *values]:
             if self.computed[place]:
                 how = "loaded with their last computed values"
@@ -117,6 +134,25 @@ def text_of_number(value: float, mark: str) -> str:
     decimals = decimals.rstrip("0")
     more = "0" if len(decimals) == 3 else ""
     return Figure(f"{whole}{mark}{decimals}{more}" if decimals else whole)
+
+
+def hidden_rows(data: bytes, title: str) -> Set[int]:
+    """Returns the numbers of the rows that a sheet hides, also by a filter.
+
+    openpyxl knows them only if it keeps all cells in memory.
+    """
+    try:
+        with ZipFile(io.BytesIO(data)) as book:
+            sheets = ElementTree.fromstring(book.read("xl/workbook.xml")).iterfind(".//{*}sheet")
+            sheet = next(one for one in sheets if one.get("name") == title)
+            key = next(value for name, value in sheet.items() if name.endswith("}id"))
+            parts = ElementTree.fromstring(book.read("xl/_rels/workbook.xml.rels"))
+            target = next(one.attrib["Target"] for one in parts if one.get("Id") == key)
+            rows = ROW.findall(book.read(posixpath.join("/xl", target)[1:]))
+    except (KeyError, StopIteration) as error:
+        raise unreadable(error) from None
+    numbers = (re.search(rb"""\br=["'](\d+)""", row) for row in rows if HIDDEN.search(row))
+    return {int(number[1]) for number in numbers if number}
 
 
 def sheet_of(data: bytes, name: Optional[str], has_values: bool) -> Any:
