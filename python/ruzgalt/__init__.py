@@ -11,12 +11,12 @@ Python 3.9 and its library are all that is needed, but for frames. Importing it 
 A folder is a subject:
 
     errors, version     the one way in which tools end early; which version this is
-    periods             periods in whole numbers: united, between, overlapping, by the calendar
+    periods             periods in whole numbers: united, between, by the calendar
     which               which program answers, for frames too
     script              a script as text: its records, its commands, the columns of its tables
     answers             the answers of a script: as tables, CSV, JSON and SQLite, and what changed
     loading             a CSV file with a header becomes a load
-    checking            what is done again beside the program; what may not be meant
+    checking            why commands were refused, and possible mistakes
     pictures, page      pictures of answers; all answers as one page for a browser
     commands            the command lines
     frames              joins, divisions and stores of frames

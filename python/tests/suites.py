@@ -1,7 +1,7 @@
 """The suites of tests: of the tools, and of frames. A warning is an error in all. A test that can't run here says why.
 
-Frames need pandas and a built program. Variables of the environment say how much is drawn at random:
-tools/check-answers and tools/check-frames set them.
+Frames need pandas. They and tools/answers need a built program. Variables of the environment say how much is drawn at
+random: tools/check-answers and tools/check-frames set them.
 """
 import importlib.util
 import os
@@ -99,6 +99,8 @@ def of_module(kind: str, module: str, loader: unittest.TestLoader = unittest.def
     suite = KINDS[kind]
     if module == kind:
         return suite([LeftOut(kind, missing_to_frames())])
+    if kind == "tools" and "answers" in module and missing_program():
+        return suite([LeftOut(module, missing_program())])
     try:
         return suite([loader.loadTestsFromName(module)])
     except unittest.SkipTest as reason:
@@ -109,4 +111,8 @@ def missing_to_frames() -> str:
     """What is missing for tests of frames, and how to have it. Empty if nothing is missing."""
     if not has_pandas():
         return "pandas isn't installed: apt-get install python3-pandas"
+    return missing_program()
+
+
+def missing_program() -> str:
     return "" if "DIPQ" in os.environ else "no program is built: ./dipq </dev/null builds it"

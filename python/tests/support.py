@@ -12,6 +12,8 @@ from unittest import mock
 from ruzgalt.commands import answers_tool, load_tool
 
 TOP = Path(__file__).resolve().parents[2]
+# The program that answers, as tests of both suites are given it.
+PROGRAM = Path(os.environ.get("DIPQ", TOP / "crates/dipq/out/dipq")).resolve()
 EXAMPLE = "examples/pay.csv"
 TOOLS = {"tools/answers": answers_tool.main, "tools/csv-to-load": load_tool.main}
 

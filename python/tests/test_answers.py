@@ -1,4 +1,4 @@
-"""The words of tools/answers, beside scripts and answers that are given here: no program is run."""
+"""The words of tools/answers, by scripts and the program's answers to them, which are given here."""
 import contextlib
 import io
 import os
@@ -11,7 +11,6 @@ from typing import Iterator, List, Tuple
 from unittest import mock
 
 from ruzgalt import which
-from ruzgalt.answers import reading
 from ruzgalt.commands import answers_tool, progress, streams
 from ruzgalt.commands.progress import Progress
 from ruzgalt.script import reader
@@ -69,7 +68,7 @@ class Lists(unittest.TestCase):
         self.assertIn("answers: line 12: ", other)
         _, _, said = answers("refusals $S --answers $A", script, answered)
         self.assertEqual([line.split(": ")[1] for line in said.splitlines()], [f"line {6 + more}" for more in range(7)])
-        _, _, said = answers("list $S --answers $A", PAY + nothing * 3, answered[:25])
+        _, _, said = answers("list $S --answers $A", PAY + nothing.format(1) * 3, answered[:25])
         self.assertTrue(said.endswith("so nothing was changed (likewise line 7, line 8)\n"), said)
 
     def test_a_portion_to_a_last_day_is_marked(self) -> None:
@@ -203,11 +202,6 @@ class Lists(unittest.TestCase):
     def test_an_anti_join_of_an_empty_table_isn_t_marked(self) -> None:
         script = PAY + "table,of,name,text\nanti,of,pay,on,name,person\n"
         self.assertEqual(answers("list $S --answers $A", script, "ok,1\nok,2\nok,3\nend,0\n")[2], "")
-
-    def test_answers_from_a_file_are_compared_whole(self) -> None:
-        status, _, said = answers("list $S --answers $A", PAY + "rows,pay\n", "ok,1\nok,2\nend,0\n")
-        self.assertEqual(status, 1)
-        self.assertIn("the answer lacks 1,2024-01-01", said)
 
 
 class Tables(unittest.TestCase):
@@ -378,7 +372,7 @@ class Tables(unittest.TestCase):
 
 @contextlib.contextmanager
 def pieces_of(size: int) -> Iterator[None]:
-    with mock.patch.object(reader, "PIECE", size), mock.patch.object(reading, "PIECE", size):
+    with mock.patch.object(reader, "PIECE", size):
         yield
 
 
@@ -469,7 +463,7 @@ class Fronts(unittest.TestCase):
             status, printed, _ = answers(words, PAY + "rows,pay\n", f"ok,1\nok,2\n{ROWS}")
         self.assertEqual(status, 1)
         self.assertIn("line 3: the script said row,2024-01-01,2024-03-01,A,4 (line 3), and now says row,", printed)
-        self.assertIn("line 6: rows,pay: record 3 of the kept answers is row,1,2024-01-01,2024-03-01,A,4", printed)
+        self.assertIn("line 6: rows,pay: line 3 of the kept answers is row,1,2024-01-01,2024-03-01,A,4", printed)
 
 
 class Hints(unittest.TestCase):

@@ -42,8 +42,7 @@ class Ran(NamedTuple):
 def asked(words: str, *more: str, script: str = PAY + DIARY) -> Ran:
     """What a subcommand does with the script; tabs stand for blanks within a word."""
     tool, *others = words.split(" ")
-    program = [] if "--answers" in more else ["--program", str(PROGRAM)]
-    given = [tool, "-", *(one.replace("\t", " ") for one in others if one), *program, *more]
+    given = [tool, "-", *(one.replace("\t", " ") for one in others if one), "--program", str(PROGRAM), *more]
     return Ran(*run(["tools/answers", *given], script))
 
 
@@ -144,9 +143,6 @@ class AsOf(unittest.TestCase):
         begun = "rows,pay,asof,2024-07-01: asof takes"
         self.is_refused(f"{begun} a commit's number; with --diary TABLE it also takes a day", *day)
         self.is_refused("notes: no such table; the tables are pay, diary", *day, "--diary", "notes")
-        remedy = "give a number, or leave --answers out"
-        why = f"{begun} no day with --answers, since the diary needs a run of its own: {remedy}"
-        self.is_refused(why, *day, "--diary", "diary", "--answers", "/dev/null")
 
 
 class Questions(unittest.TestCase):

@@ -5,8 +5,9 @@ from datetime import date, timedelta
 from typing import List, NamedTuple, Optional, Tuple
 
 from ruzgalt import answers
-from ruzgalt.answers import Answer, diary
+from ruzgalt.answers import Answer, asking, diary
 from ruzgalt.errors import Misfit
+from tests.support import PROGRAM
 
 try:
     from hypothesis import given, settings
@@ -38,11 +39,12 @@ def entries_of(drawn: List[Tuple[int, int, int]], has_order: bool) -> List[Entry
     ]
 
 
-def answers_of(entries: List[Entry]) -> List[Answer]:
-    """Those to a script of so many commits that has this diary."""
+def answer_of(entries: List[Entry]) -> Answer:
+    """Returns that to `rows` of this diary after so many commits."""
     rows = "".join(f"row,{entry.start},{entry.end},{entry.newest}\n" for entry in entries)
     script = f"table,diary,newest,int\nload,diary\n{rows}end\n" + "load,diary\nend\n" * (COMMITS - 2)
-    return answers.of(script.encode(), "".join(f"ok,{place + 1}\n" for place in range(COMMITS)).encode())
+    found = asking.output(str(PROGRAM), f"{script}rows,diary\n".encode())
+    return answers.of(f"{script}rows,diary\n".encode(), found)[-1]
 
 
 def commit_on(entries: List[Entry], day: date) -> Optional[int]:
@@ -67,13 +69,13 @@ class Diaries(unittest.TestCase):
     @given(ENTRIES, st.booleans())
     def test_each_day_has_its_commit_or_is_refused(self, drawn: List[Tuple[int, int, int]], has_order: bool) -> None:
         entries = entries_of(drawn, has_order)
-        found = answers_of(entries)
+        found = answer_of(entries)
         for day in (FIRST + timedelta(place) for place in range(DAYS)):
             commit = None if goes_back(entries) else commit_on(entries, day)
             if commit is None:
-                self.assertRaises(Misfit, diary.commits_at, found, "diary", [str(day)])
+                self.assertRaises(Misfit, diary.commits_at, found, [str(day)])
             else:
-                self.assertEqual(diary.commits_at(found, "diary", [str(day)]), {str(day): commit})
+                self.assertEqual(diary.commits_at(found, [str(day)]), {str(day): commit})
 
 
 if __name__ == "__main__":

@@ -73,7 +73,7 @@ class Words(ToolCase):
     def test_only_a_division_has_parts(self) -> None:
         pay = ["tools/answers", "csv", "examples/pay.csv", "--answers", "examples/pay.csv.stdout"]
         self.check([*pay, "4", "--rows"], "", 1, "line 7: at,pay,2024-08-15: not a division: ask by `dip`")
-        self.check([*pay, "4", "--by", "person"], "", 1, "--by can't be given with --answers")
+        self.check([*pay, "4", "--by", "person"], "", 1, "line 7: at,pay,2024-08-15: not a division: ask by `dip`")
         self.check([*pay, "4", "--counts"], "", 1, "line 7: at,pay,2024-08-15: not a division: ask by `dip`")
         self.check([*pay, "4", "--rows", "--folder", "x"], "", 1, "--by and --counts can't be given with --folder")
         self.check([*pay, "4", "--rows", "--counts"], "", 1, "--rows can't be given with --counts")

@@ -115,7 +115,7 @@ class Words(ToolCase):
     def test_other_tables_are_printed_for_a_spreadsheet_too(self) -> None:
         rows = 'row,2024-01-01,2024-02-01,"=A;B",5\nrow,2024-03-01,2024-04-01,"=A;B",7\n'
         script = f"table,pay,person,text,euros,int\nload,pay\n{rows}end\nrows,pay\nrows,pay,asof,1\n"
-        rows = 'row,1,2024-01-01,2024-02-01,"=A;B",5\nrow,2,2024-03-01,2024-04-01,"=A;B",7\n'
+        rows = "row,1,2024-01-01,2024-02-01,=A;B,5\nrow,2,2024-03-01,2024-04-01,=A;B,7\n"
         output = f"ok,1\nok,2\n{rows}end,2\nend,0\n"
         for command, wanted in [
             (["gaps", "person", "--of", "3"], "valid_from;valid_to;person\r\n2024-02-01;2024-03-01;\"'=A;B\"\r\n"),

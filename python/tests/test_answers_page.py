@@ -5,18 +5,17 @@ import re
 import subprocess
 import tempfile
 import unittest
-from argparse import Namespace
 from base64 import b64encode
 from hashlib import sha256
 from pathlib import Path
-from typing import Any, Dict, List, Optional
+from typing import Any, Dict, List
 from unittest import mock
 
 from ruzgalt.answers import Answer
+from ruzgalt.commands import answers_tool
 from ruzgalt.errors import Misfit
 from ruzgalt.page import contents, document, drawings, findings, sources
-from tests.support import TOP, ToolCase, kept, run
-from tests.test_answers import FAKE
+from tests.support import PROGRAM, TOP, ToolCase, kept, run
 from tests.test_answers_scripts import SCRIPTS, found_in
 
 BLOCK = re.compile(r'<script type="application/json" id="([a-z]+(?:-\d+)?)">([^<]*)</script>\n')
@@ -28,9 +27,10 @@ TIME = "2024-01-01,2024-02-01"
 
 
 def page_of(script: str, given: str, *words: str) -> str:
-    """The page of a script that has these answers. Raises Misfit where there is none."""
+    """Returns the page of a script that has these answers, if any are given. Raises Misfit if there is none."""
     with kept(script) as name, kept(given) as answers:
-        status, printed, said = run(["tools/answers", "page", name, "--answers", answers, "--go-on", *words])
+        more = ["--answers", answers] if given else []
+        status, printed, said = run(["tools/answers", "page", name, *more, "--go-on", *words])
     if status:
         raise Misfit(said)
     return printed
@@ -57,8 +57,7 @@ def hostile() -> str:
     rows = [f"{TIME},{quoted(value)}" for value in HOSTILE]
     script = "table,t,name,text\nload,t\n" + "".join(f"row,{row}\n" for row in rows) + "end\nrows,t\n"
     script += f"{quoted(HOSTILE[1])},x\ndelete,t,{TIME},where,name,{quoted(HOSTILE[0] * 2)}\n"
-    listed = "".join(f"row,{number},{row}\n" for number, row in enumerate(rows, 1))
-    return page_of(script, f"ok,1\nok,2\n{listed}end,{len(rows)}\nerror,{len(rows) + 5},BadCommand\nok,3\n")
+    return page_of(script, "")
 
 
 class Documents(unittest.TestCase):
@@ -151,8 +150,8 @@ class Contents(ToolCase):
         script = Path(TOP, "examples/pay.csv").read_bytes()
         found = {"name": "pay.csv", "size": len(script), "sha256": sha256(script).hexdigest()}
         self.assertEqual(data["script"], found)
-        self.assertEqual([file["name"] for file in data["files"]], ["pay.csv.stdout"])
-        self.assertEqual((data["isOwn"], data["isDoneAgain"], data["hasPrinted"]), (False, True, False))
+        self.assertEqual([file["name"] for file in data["files"]], [PROGRAM.name])
+        self.assertEqual((data["kept"]["name"], data["version"]), ("pay.csv.stdout", ""))
 
     def test_the_words_that_make_it_are_shown(self) -> None:
         page = page_of("table,t,newest,int\n", "ok,1\nend,0\n", "--ask", "a=rows,t", "--diary", "t")
@@ -280,13 +279,11 @@ class Contents(ToolCase):
         [idle] = data_of(page_of(script, "ok,1\nok,2\nok,3\nok,4\n"))["data"]["idle"]
         self.assertEqual((idle["place"], idle["reason"]), ("line 6", "no row has 1 as a then"))
 
-    def test_answers_that_the_changes_do_not_give_make_no_page(self) -> None:
+    def test_answers_that_the_program_does_not_print_make_no_page(self) -> None:
         answered = Path(TOP, "examples/pay.csv.stdout").read_text().replace(",5400", ",5401")
         words = ["tools/answers", "page", "examples/pay.csv", "--answers", "-"]
-        self.check(words, answered, 1, "answers: line 7: at,pay,")
-        why = "answers: --once can't be given with --answers: answers of a file are always "
-        why += "compared\n"
-        self.check([*words, "--once"], answered, 1, why)
+        wanted = 'line 5: it has row,4,2024-07-01,2025-01-01,"Byron, Ada",5401, but the program prints row,'
+        self.check(words, answered, 1, f"answers: standard input, {wanted}")
 
     def test_the_status_is_that_of_a_list(self) -> None:
         words = ["examples/payroll.csv", "--answers", "examples/payroll.csv.stdout"]
@@ -365,32 +362,38 @@ class Limits(unittest.TestCase):
 
 
 class Programs(unittest.TestCase):
-    def sources(self, script: str, given: str, ask: Optional[List[str]] = None, once: bool = False) -> sources.Sources:
-        """What a page is made of, where a program answers so."""
-        with tempfile.TemporaryDirectory() as folder, kept(script) as name:
+    def sources(self, script: str, *ask: str) -> sources.Sources:
+        with kept(script) as name:
+            return sources.ask(answers_tool.options_of("page", [name, "--go-on", *(f"--ask={one}" for one in ask)]))
+
+    def versions(self, script: str, *ask: str) -> Dict[str, List[str]]:
+        """The versions that a page has of each table, as records."""
+        found = self.sources(script, *ask).versions
+        return {name: [",".join(record) for record in table.texts()] for name, table in found.items()}
+
+    def test_versions_are_those_after_the_script(self) -> None:
+        load = f"table,t,a,int\nload,t\nrow,{TIME},5\nend\n"
+        first, later = f"1,{TIME},2,,5", f"1,{TIME},2,3,5"
+        for script, records in [
+            (f"{load}rows,t\n", [first]), (f"{load}delete,t,{TIME}", [later]),
+            # Those after the complete statements.
+            (f"{load}load,t\nrow,{TIME},6\n", [first]), (f"{load}delete,t,{TIME}\ntogether\nrows,t\n", [later]),
+            (f"{load}check,t,1,-\npart,\"1\n", [first]), (f"{load}together\nload,t\nend\nend", [first]),
+            # An open quote ends with the script.
+            (f'{load}delete,t,{TIME},where,a,"5', [later]), (f'{load}rows,t,"asof","2', [first]),
+        ]:
+            with self.subTest(script):
+                self.assertEqual(self.versions(script), {"t": records})
+
+    def test_a_program_that_prints_other_bytes_again_makes_no_page(self) -> None:
+        with tempfile.TemporaryDirectory() as folder, kept("table,t\n") as name:
             program = Path(folder, "dipq")
-            program.write_text(FAKE.format(given))
+            # Its second run sees the file that the first one has made.
+            program.write_text(f"#!/bin/sh\ncat >/dev/null\nmkdir {folder}/ran 2>/dev/null && echo ok,1 || echo ok,2\n")
             program.chmod(0o700)
-            words = {"program": str(program), "go_on": True, "ask": ask or [], "once": once}
-            looks = Namespace(decimals=[], german=False, last_day=False, title="", note="", pick=[])
-            return sources.ask(Namespace(script=name, answers=None, diary=None, **words, **vars(looks)))
-
-    def test_versions_are_asked_for_behind_the_script(self) -> None:
-        self.assertEqual(sources.questions_for(b"table,t\ntable,u\ntable,t\ntable,asof\n"), [
-            "between,t,0,1000000", "between,u,0,1000000",
-        ])
-        script = f"table,t,a,int\nload,t\nrow,{TIME},5\nend\nrows,t\n"
-        answered = f"ok,1\nok,2\nrow,1,{TIME},5\nend,1\nversion,1,{TIME},2,-,5\nend,1\n"
-        found = self.sources(script, answered)
-        self.assertEqual([",".join(record) for record in found.versions["t"].texts()], [f"1,{TIME},2,,5"])
-        self.assertEqual((found.has_printed, len(found.answers), found.files[0].name), (True, 3, "dipq"))
-
-    def test_versions_that_the_changes_do_not_give_make_no_page(self) -> None:
-        script = f"table,t,a,int\nload,t\nrow,{TIME},5\nend\n"
-        answered = f"ok,1\nok,2\nversion,1,{TIME},2,-,6\nend,1\n"
-        with self.assertRaisesRegex(Misfit, "the program's answer differs from what its changes give, done again"):
-            self.sources(script, answered)
-        self.assertFalse(self.sources(script, answered, once=True).is_done_again)
+            status, printed, said = run(["tools/answers", "page", name, "--program", str(program)])
+        self.assertEqual((status, printed), (1, ""))
+        self.assertIn("was run again on the same script and printed other answers", said)
 
     def test_the_program_that_a_command_runs_is_shown_beside_it(self) -> None:
         with tempfile.TemporaryDirectory() as folder:
@@ -403,16 +406,10 @@ class Programs(unittest.TestCase):
             self.assertEqual(sources.files_of(str(files[1])), marks[1:])
 
     def test_a_table_that_is_refused_has_no_versions(self) -> None:
-        found = self.sources("table,t,a,x\n", "error,1,BadCommand\nerror,2,NoTable\n")
-        self.assertEqual((found.versions, len(found.answers)), ({}, 1))
-
-    def test_a_script_whose_end_is_open_is_asked_nothing_more(self) -> None:
-        found = self.sources("table,t\nload,t\n", "ok,1\nerror,2,Unended\n")
-        self.assertEqual((list(found.versions), found.has_printed, len(found.answers)), (["t"], False, 2))
+        self.assertEqual(self.versions("table,t,a,x\n"), {})
 
     def test_a_table_that_a_question_makes_has_versions_too(self) -> None:
-        found = self.sources("table,t\n", "ok,1\nok,2\nend,0\nend,0\n", ask=["table,u"])
-        self.assertEqual((list(found.versions), found.has_printed), (["t", "u"], True))
+        self.assertEqual(self.versions("table,t\n", "table,u"), {"t": [], "u": []})
 
 
 if __name__ == "__main__":

@@ -10,12 +10,11 @@ from pathlib import Path
 from typing import Any, Dict, List, Tuple
 from unittest import mock
 
-from ruzgalt import answers
-from ruzgalt.checking import replay
 from ruzgalt.page import contents
 from tests.browser import MISSING, PROGRAM, Browser
 from tests.support import TOP, kept, run
 from tests.test_answers_page import HOSTILE, TIME, data_of, example, hostile, page_of
+from tests.test_answers_scripts import past_of
 
 # A division, an audit and a payroll.
 EXAMPLES = ("posts", "audit", "payroll")
@@ -229,27 +228,26 @@ class Grids(BrowserCase):
     def test_odd_texts_are_saved_as_the_tool_prints_them(self) -> None:
         rows = [f'{TIME},"say ""a"", b"', f'{TIME},"two\nlines"', f"{TIME},", f"{TIME}, c "]
         script = "table,t,a,text\nload,t\n" + "".join(f"row,{row}\n" for row in rows) + "end\nagg,t,count,by,a\n"
-        listed = [f'row,,{TIME},1', f'row," c ",{TIME},1', f'row,"say ""a"", b",{TIME},1', f'row,"two\nlines",{TIME},1']
+        listed = [f'row,,{TIME},1', f'row, c ,{TIME},1', f'row,"say ""a"", b",{TIME},1', f'row,"two\nlines",{TIME},1']
         self.open(page_of(script, "ok,1\nok,2\n" + "\n".join(listed) + "\nend,4\n"))
         self.value(CATCH)
         self.value(GRID.format("#questions", 0) + ".querySelector('.tools button:last-child').click()")
-        wanted = [one[4:].replace('" c "', " c ") for one in listed]
+        wanted = [one[4:] for one in listed]
         self.assertEqual(self.value("saved[0]"), "a,valid_from,valid_to,count\n" + "\n".join(wanted) + "\n")
 
 
 class Times(BrowserCase):
     def test_the_sliders_show_what_held_as_each_commit_knew_it(self) -> None:
-        """At each point at which something changes, and at each commit, beside the changes done again."""
+        """At each point at which something changes, and at each commit, as the program answers `at`."""
         for name in ("payroll", "pay", "ward", "joins"):
-            script = TOP / f"examples/{name}.csv"
-            found = answers.of(script, script.with_name(f"{name}.csv.stdout"))
-            kept = replay.behind(found)
+            past = past_of(TOP / f"examples/{name}.csv")
             self.open(example(name))
-            for place, table in enumerate(kept.versions):
-                for (point, commit), shown in self.moments(place).items():
-                    rows = [row for row in kept.rows(table, commit) if row.row.start <= point < row.row.end]
-                    with self.subTest(name, table=table, point=point, commit=commit):
-                        self.assertEqual(shown, [str(row.row_id) for row in rows])
+            for place, table in enumerate(past.tables):
+                moments = self.moments(place)
+                asked = past.ask(*(f"at,{table},{point},asof,{commit}" for point, commit in moments))
+                for answer, shown in zip(asked, moments.values()):
+                    with self.subTest(name, at=answer.command.text):
+                        self.assertEqual(shown, [row_id for row_id, *_ in answer.table.texts()])
 
     def moments(self, place: int) -> Dict[Tuple[str, int], List[str]]:
         """The ids of the rows that a table shows, where its sliders are moved to each of their places."""

@@ -232,8 +232,9 @@ class Documents(unittest.TestCase):
             drawn = {file.name: file.read_bytes() for file in Path(folder).iterdir()}
         page = drawn.pop("audit-page.html")
         self.assertEqual(drawn, {file.name: file.read_bytes() for file in (TOP / "docs").glob("*.svg")})
-        # The photograph carries the checksum of the page that it was taken of.
-        self.assertIn(sha256(page).hexdigest().encode(), (TOP / "docs" / "audit-page.png").read_bytes())
+        # The photograph carries the checksum of the page that it was taken of, whichever program answered.
+        marked = sha256(re.sub(rb'"files":\[.*?\],', b"", page)).hexdigest().encode()
+        self.assertIn(marked, (TOP / "docs" / "audit-page.png").read_bytes())
 
 
 if __name__ == "__main__":

@@ -10,11 +10,12 @@ from typing import Iterator, List, Tuple
 
 from ruzgalt import answers
 from ruzgalt.answers import Answer, databases, export, picks
-from ruzgalt.checking import fitting, overlaps, refusals, replay
+from ruzgalt.answers.past import Past
+from ruzgalt.checking import overlaps, refusals
 from ruzgalt.errors import Misfit
 from ruzgalt.pictures import cells, figures, svg, terminal
-from ruzgalt.script import reader, records
-from tests.support import TOP
+from ruzgalt.script import commands, reader, records
+from tests.support import PROGRAM, TOP
 
 SCRIPTS = sorted([*TOP.glob("examples/*.csv"), *TOP.glob("tests/**/*.csv")])
 # So many records of a script's answers are left out and doubled, one by one.
@@ -38,6 +39,12 @@ def found_in(script: Path) -> List[Answer]:
     return answers.of(script, output_of(script))
 
 
+def past_of(script: Path) -> Past:
+    source = reader.Source(script.read_bytes())
+    begun = list(commands.commands(source))
+    return Past(str(PROGRAM), source, output_of(script), begun, found_in(script))
+
+
 def damaged(output: bytes) -> Iterator[Tuple[int, bytes]]:
     """The output with a record too few, or one twice."""
     kept = [list(record.fields) for record in reader.Reader(reader.Source(output))]
@@ -47,20 +54,14 @@ def damaged(output: bytes) -> Iterator[Tuple[int, bytes]]:
 
 
 class Scripts(unittest.TestCase):
-    def test_answers_fit_their_script(self) -> None:
+    def test_rows_are_the_versions_of_their_commit(self) -> None:
         for script in SCRIPTS:
-            with self.subTest(script.name):
-                found = found_in(script)
-                fitting.refuse_unfit(found, found)
-
-    def test_rows_are_what_the_changes_leave(self) -> None:
-        for script in SCRIPTS:
-            found = found_in(script)
-            for answer in found:
+            past = past_of(script)
+            for answer in found_in(script):
                 if answer.command.word == "rows" and not answer.refusal:
                     with self.subTest(script.name, line=answer.line):
-                        rows = replay.rows_of(found, answer)
-                        texts = [[str(one.row_id), one.row.start, one.row.end, *one.row.values] for one in rows]
+                        rows = past.versions(answer.command.front[1]).at(answer.commit)
+                        texts = [[str(one.row_id), one.start, one.end, *one.values] for one in rows]
                         self.assertEqual(texts, list(answer.table.records))
 
     def test_a_refusal_is_described_in_one_line_and_of_a_key_the_rows(self) -> None:
@@ -72,22 +73,23 @@ class Scripts(unittest.TestCase):
                         listed = refusals.described(answer)
                         self.assertIn(f": {answer.refusal.name}: ", listed)
                         self.assertNotIn("\n", listed)
-                        if answer.refusal.name == "KeyOverlap":
-                            self.assertTrue(overlaps.explained(replay.behind(found[:answer.number - 1]), answer))
+            overlapping = [one.number for one in found if one.refusal and one.refusal.name == "KeyOverlap"]
+            explained = overlaps.explained(past_of(script), [one for one in found if one.refusal])
+            self.assertEqual([number for number, lines in explained.items() if lines], overlapping)
 
     def test_pictures_keep_to_80_columns_and_are_xml(self) -> None:
         for script in SCRIPTS:
-            found = found_in(script)
-            for answer in found:
+            past = past_of(script)
+            for answer in found_in(script):
                 with self.subTest(script.name, line=answer.line):
-                    self.draw(found, answer)
+                    self.draw(past, answer)
 
-    def draw(self, found: List[Answer], answer: Answer) -> None:
+    def draw(self, past: Past, answer: Answer) -> None:
         word = answer.command.word
         if answer.refusal or word not in ("dip", "rows", "at", "anti", "join", "agg", "between", "fromto"):
             return
         try:
-            picture = figures.of(found, answer, figures.Wish())
+            picture = figures.of(answer, figures.Wish(), past.versions)
         except Misfit:
             # Versions are drawn of one fact, and there may be several.
             self.assertIn(word, ("between", "fromto"))

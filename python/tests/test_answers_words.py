@@ -18,7 +18,8 @@ class Reading(ToolCase):
     def test_answers_are_those_to_the_script(self) -> None:
         reads = ["tools/answers", "csv"]
         self.check(
-            [*reads, EXAMPLE, "--answers", "examples/joins.csv.stdout"], "", 1, "answers: line 7: at,pay,2024-08-15: ",
+            [*reads, EXAMPLE, "--answers", "examples/joins.csv.stdout"], "", 1,
+            "answers: examples/joins.csv.stdout, line 4: it has ok,4, but the program prints row,2,2024-03-01,",
         )
         self.check([*reads, EXAMPLE, "99", "--answers", EXAMPLE + ".stdout"], "", 1, "answers: 99: no such answer")
         self.check(
@@ -26,7 +27,8 @@ class Reading(ToolCase):
             "row_id,valid_from,valid_to,person,euros\n",
         )
         self.check(
-            [*reads, EXAMPLE, "--answers", "-"], "ok,1\n", 1, "answers: line 2: load,pay: the answers end before",
+            [*reads, EXAMPLE, "--answers", "-"], "ok,1\n", 1,
+            "answers: standard input, line 2: it has no more, but the program prints ok,2: these are answers to ",
         )
         self.check([*reads, EXAMPLE, "--program", "/bin/false"], "", 1, "answers: line 1: ")
 
@@ -95,10 +97,6 @@ class Options(ToolCase):
             name, *more = tool.split()
             self.check(["tools/answers", name, EXAMPLE, *more, ""], "", 2, ": the word is empty\n")
 
-    def test_answers_of_a_file_need_no_program(self) -> None:
-        words = ["tools/answers", "list", EXAMPLE, "--answers", EXAMPLE + ".stdout", "--program", "dipq"]
-        self.check(words, "", 1, "answers: --program can't be given with --answers: no program is run then\n")
-
 
 class Questions(ToolCase):
     def test_a_refused_question_isn_t_passed_over(self) -> None:
@@ -124,13 +122,17 @@ class Questions(ToolCase):
 
 
 class Forms(ToolCase):
-    def test_a_field_of_another_kind_is_noticed(self) -> None:
-        for script, old, new in [
-            (EXAMPLE, ",5400", ",540O"), (EXAMPLE, "2024-07-01", "01.07.2024"), (EXAMPLE, ",5400", "," + "5" * 5000),
-            ("examples/posts.csv", "3,2024-02-05", "3,heute"), ("examples/divisions.csv", "Overlap,1", "Overlap,i"),
+    def test_answers_that_differ_by_a_byte_are_noticed(self) -> None:
+        answered = (TOP / f"{EXAMPLE}.stdout").read_text(encoding="utf-8")
+        for changed, line, has in [
+            (answered.replace(",5400", ",5401"), 5, 'row,4,2024-07-01,2025-01-01,"Byron, Ada",5401, but the program'),
+            (answered.replace("\n", "\r\n"), 1, "ok,1\\r, but the program prints ok,1: these"),
+            (answered[:-1], answered.count("\n"), "end,3, but"),
+            (answered + "ok,4\n", 1 + answered.count("\n"), "ok,4, but"),
         ]:
-            answered = (TOP / f"{script}.stdout").read_text(encoding="utf-8").replace(old, new)
-            self.check(["tools/answers", "csv", script, "--answers", "-"], answered, 1, "answers: line ")
+            with self.subTest(has):
+                part = f"answers: standard input, line {line}: it has {has}"
+                self.check(["tools/answers", "list", EXAMPLE, "--answers", "-"], changed, 1, part)
 
     def test_a_column_may_have_the_name_of_a_period_s_end(self) -> None:
         with kept("table,t,valid_to,text\nload,t\nrow,2024-01-01,2024-02-01,x\nend\nagg,t,count,by,valid_to\n") as name:
@@ -143,59 +145,6 @@ class Forms(ToolCase):
         with kept("table,t\nload,t\nrows,t\nend\n") as name:
             reason = "a load has only row records, not rows,t; is its end missing before it?"
             self.check(["tools/answers", "refusals", name, "--answers", "-"], "ok,1\nerror,3,BadCommand\n", 1, reason)
-
-    def test_answers_of_another_form_are_noticed(self) -> None:
-        day = "table,t\nat,t,2024-01-05"
-        for script, forged in [
-            ("table,t\nload,u", "ok,1\nerror,2,KeyOverlap\n"), ("between,t,1", "end,0\n"),
-            (day, "ok,1\nrow,1,2024-01-06,2024-01-07\nend,1\n"), (day, "ok,1\nrow,1,2024-01-04,2024-01-05\nend,1\n"),
-            ("table,t\nrows,t", "ok,1\nerror,2,WrongKind\n"), ("rows,t", "error,1,NotInBlock\n"),
-            ("load,t\nend", "error,1,Unended\n"), ("load,t\nrow\nend", "error,2,NoTable\n"),
-        ]:
-            with kept(script) as name:
-                self.check(["tools/answers", "list", name, "--answers", "-"], forged, 1, "answers: line ")
-
-
-class Strangers(ToolCase):
-    def test_answers_to_another_question_are_noticed(self) -> None:
-        script = "table,t,a,int\nload,t\nrow,2024-01-01,2024-02-01,5\nend\nload,t\nrow,2024-01-01,2024-02-01,6\nend\n"
-        time = "2024-01-01,2024-02-01"
-        given = ", which the changes before it give; these are answers to another script or "
-        lacks = f"answers: line 8: {{}}: the answer lacks 2,{time},{{}}6{given}"
-        for question, forged, reason in [
-            ("rows,t", f"row,1,{time},5\nend,1", lacks.format("rows,t", "")),
-            ("at,t,2024-01-05", f"row,1,{time},5\nend,1", lacks.format("at,t,2024-01-05", "")),
-            ("rows,t,asof,1", f"row,1,{time},5\nend,1",
-             f"record 1 of the answer, 1,{time},5, is one more than the changes"),
-            ("between,t,1,3", f"version,1,{time},2,-,5\nend,1", lacks.format("between,t,1,3", "3,,")),
-            ("log", "commit,1,1,table,t,0,0\ncommit,2,1,load,t,2,0\nend,2",
-             "2,1,load,t,2,0, but the changes before it give 2,1,load,t,1,0;"),
-            ("dip,t", "dip,1,1,2024-01-01\npart,0,1",
-             "the answer lacks 1,2,2024-01-01, which the changes before it give"),
-            ("dip,t", "dip,2,2,2024-01-01\npart,0,2\npart,1,1",
-             "answer is 0,2,2024-01-01, but the changes before it give 0,1,2024-01-01;"),
-            ("check,t,1,2024-01-01\npart,1\nend", "yes",
-             "the answer is yes,,,,,, but the changes before it give no,Missing,,,2,;"),
-            ("join,t,t,asof,2", f"row,{time},2,2,6,6\nend,1", "rows 2 and 2 don't match, or aren't shown by commit 2"),
-            ("join,t,t", f"row,{time},1,2,5,5\nend,1", "rows 1 and 2 have other values, or share another period"),
-            ("join,t,t,on,a,a", f"row,{time},1,2,5,6\nend,1", "rows 1 and 2 don't match, or aren't shown by commit 3"),
-            ("join,t,t", f"row,{time},1,1,5,5\nend,1", "it has 1 pairs of rows, but the changes before it give 4"),
-            ("join,t,t,on,a,a", f"row,{time},1,1,5,5\nrow,{time},1,1,5,5\nend,2",
-             f"record 2 of the answer, {time},1,1,5,5, stands there twice, or too late"),
-            ("join,t,t,on,a,a", f"row,{time},2,2,6,6\nrow,{time},1,1,5,5\nend,2",
-             f"record 2 of the answer, {time},1,1,5,5, stands there twice, or too late"),
-            ("anti,t,t", "row,1,2024-01-01,2024-02-02,5\nend,1", "1,2024-01-01,2024-02-02,5, is one more than the"),
-            ("anti,t,t,asof,0", f"row,1,{time},5\nend,1",
-             "is one more than the changes before it give; these are answers to"),
-            ("agg,t,sum,a", f"row,{time},5\nend,1",
-             f"record 1 of the answer is {time},5, but the changes before it give {time},11;"),
-            ("agg,t,max,a", f"row,{time},5\nend,1",
-             f"record 1 of the answer is {time},5, but the changes before it give {time},6;"),
-            ("agg,t,count,by,a", f"row,5,{time},1\nend,1",
-             f"the answer lacks 6,{time},1, which the changes before it "),
-        ]:
-            with kept(script + question) as name:
-                self.check(["tools/answers", "csv", name, "--answers", "-"], f"ok,1\nok,2\nok,3\n{forged}\n", 1, reason)
 
 
 class Sqlite(ToolCase):
@@ -294,18 +243,12 @@ class Databases(ToolCase):
 
 
 class Only(ToolCase):
-    def test_answers_to_another_script_are_noticed(self) -> None:
-        script = Path(TOP, EXAMPLE).read_text().replace("4800", "4810")
-        for words in (["only", "-", "pay", "2"], ["refusals", "-"]):
-            note = "at,pay,2024-08-15: record 1 of the answer is "
-            self.check(["tools/answers", *words, "--answers", EXAMPLE + ".stdout"], script, 1, note)
-
     def test_a_value_of_another_kind_is_refused(self) -> None:
         words = ["tools/answers", "only", EXAMPLE, "pay", "2", "--answers", EXAMPLE + ".stdout", "--set"]
         self.check([*words, "euros=4900"], "", 0, "update,pay,2024-03-01,2025-01-01,set,euros,4900,where,")
-        self.check([*words, "euros=4.900"], "", 1, "answers: --set euros: BadNumber: 4.900 isn't a whole number ")
-        self.check([*words, "person=" + "x" * 4097], "", 1, "answers: --set person: TooLong: xxx")
-        self.check([*words, "person=M\udcfcller"], "", 1, "answers: --set person: BadUtf8: M\\xfcller isn't UTF-8")
+        self.check([*words, "euros=4.900"], "", 1, ": BadNumber: field 7 (euros), 4.900, isn't a whole number ")
+        self.check([*words, "person=" + "x" * 4097], "", 1, ": TooLong: field 7 (person), xxx")
+        self.check([*words, "person=M\udcfcller"], "", 1, ": BadUtf8: field 7 (person), M\\xfcller, isn't UTF-8")
 
     def test_a_column_that_is_set_twice_is_refused(self) -> None:
         words = ["tools/answers", "only", EXAMPLE, "pay", "2", "--answers", EXAMPLE + ".stdout", "--set", "euros=4900"]
@@ -473,7 +416,6 @@ class Reported(ToolCase):
             ("overlaps a", january.format(5), "at,t,2024-01-05", row, 1, "answers: line 5: at,t,2024-01-05: an `at` "),
             ("csv", "", "join,t,t,asof,0", end, 0,
              "answers: line 4: join,t,t,asof,0: t was made by commit 1, so commit "),
-            ("list", "", "at,t,1", end, 1, "answers: line 4: at,t,1: "),
             ("list", "", "at,t,1", "error,4,BadPoint\n", 1, "3,4,4,BadPoint,,"),
             ("list", january.format(5), "delete,t,2024-01-01,2024-02-01,where,a,6", "ok,3\n", 0, "answers: line 5: "),
             ("refusals", january.format(5), "delete,t,2024-02-01,2024-02-02,where,a,5", "ok,3\n", 0, "no row of "),
@@ -481,8 +423,6 @@ class Reported(ToolCase):
             ("list", "", "together\nend", "together,2\n", 0, "3,4,4,together 2,,together\n"),
             ("refusals", "", "together\nload,t\nend\nrows,t,asof,3\nend", "together,2\nok,3\nerror,7,Future\n", 1,
              "line 7: rows,t,asof,3: Future: field 4, 3, is a later commit than the one that the block "),
-            ("list", "", "together\nload,t\nend\nrows,t,asof,3\nend", "together,2\nok,3\nend,0\n", 1,
-             "answers: line 7: "),
         ]:
             with kept(f"table,t,a,int\nload,t\n{rows}end\n{questions}\n") as name:
                 tool, *others = words.split()

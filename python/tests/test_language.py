@@ -5,12 +5,12 @@ from unittest import mock
 
 from ruzgalt import answers
 from ruzgalt.answers import picks
-from ruzgalt.checking import again, refusals
+from ruzgalt.checking import refusals
 from ruzgalt.pictures import figures
-from ruzgalt.script.language import COMMANDS, Answered, Form, Role, answered_by
+from ruzgalt.script.language import COMMANDS, Answered, Form, Role
 from tests.support import TOP
 
-HOLDING = Form("holding,T,POINT[,asof,N]", Answered.ROWS, "BadCommand NoTable BadPoint Future", behind=(Role.POINT,))
+HOLDING = Form("holding,T,POINT[,asof,N]", Answered.ROWS, behind=(Role.POINT,))
 SCRIPT = b"""table,t,k,text
 load,t
 row,2024-01-01,2024-02-01,a
@@ -28,7 +28,7 @@ class Language(unittest.TestCase):
             found = answers.of(SCRIPT, OUTPUT)
             self.assertEqual(found[2].table.names, ["row_id", "valid_from", "valid_to", "k"])
             self.assertEqual((found[2].commit, [one.answer.number for one in picks.pick(found, [], [], {})]), (2, [3]))
-            self.assertIsInstance(figures.of(found, found[2], figures.Wish()), figures.Bars)
+            self.assertIsInstance(figures.of(found[2], figures.Wish(), mock.Mock()), figures.Bars)
             self.assertIn("isn't a day that exists", refusals.reason(found[3]))
             self.assertIn("isn't a table; the tables are t", refusals.reason(found[4]))
 
@@ -36,11 +36,6 @@ class Language(unittest.TestCase):
         page = TOP.joinpath("docs/LANGUAGE.md").read_text(encoding="utf-8")
         headings = "".join(re.findall(r"^### .*$", page, re.MULTILINE))
         self.assertEqual(set(re.findall(r"`(\w+)`", headings)), set(COMMANDS))
-
-    def test_each_query_is_done_again(self) -> None:
-        others = answered_by(Answered.PAIRS, Answered.LOG)
-        queries = {word for word, form in COMMANDS.items() if form.is_query}
-        self.assertEqual({*again.RECORDS, *others}, queries)
 
 
 if __name__ == "__main__":

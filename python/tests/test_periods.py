@@ -75,19 +75,6 @@ class Spans(unittest.TestCase):
         hull = range(*within) if within else range(min(held, default=0), max(held, default=0))
         self.assertEqual(list(spans.gaps(periods, within)), runs(set(hull) - held))
 
-    @DRAWN
-    @given(st.lists(SPANS, max_size=8))
-    def test_pairs_overlap_where_they_share_points(self, periods: List[Tuple[int, int]]) -> None:
-        found = [
-            (*sorted((pair.first, pair.second)), *range(pair.start, pair.end))
-            for pair in spans.overlapping((start, end, place) for place, (start, end) in enumerate(periods))
-        ]
-        shared = [
-            (place, other, *sorted(points_of(periods[place:place + 1]) & points_of(periods[other:other + 1])))
-            for place in range(len(periods)) for other in range(place + 1, len(periods))
-        ]
-        self.assertEqual(sorted(found), sorted(one for one in shared if len(one) > 2))
-
 
 class Pieces(unittest.TestCase):
     @DRAWN

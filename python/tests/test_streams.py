@@ -11,7 +11,7 @@ import unittest
 from pathlib import Path
 from typing import List, Tuple
 
-from tests.support import TOP
+from tests.support import PROGRAM, TOP
 
 LOADS = f"{sys.executable} tools/csv-to-load pay Start End Name"
 ANSWERS = f"{sys.executable} tools/answers"
@@ -71,11 +71,11 @@ class ClosedStreams(unittest.TestCase):
 
 
 # What acts on a terminal, can't be seen, or turns what stands behind it.
-ACTING = 'A\x1b[2J\x07\r\x9b1m\u202e\u3164\n3,2024-01-01,B\udcff'
-CODES = r"A\x1b[2J\x07\r\x9b1m\u202e\u3164\n3,2024-01-01,B\xff"
+ACTING = 'A\x1b[2J\x07\r\x9b1m\u202e\u3164\n3,2024-01-01,B'
+CODES = r"A\x1b[2J\x07\r\x9b1m\u202e\u3164\n3,2024-01-01,B"
 ROW = f'2024-01-01,2024-02-01,"{ACTING}"'
 HOSTILE = (
-    f'table,t,a,text,key,a\nload,t\nrow,{ROW}\nend\nrows,t\nload,t\nrow,{ROW}\nend\n"{ACTING}",t\n'
+    f'table,t,a,text,key,a\nload,t\nrow,{ROW}\nend\nrows,t\nload,t\nrow,{ROW}\nend\n"{ACTING}\udcff",t\n'
     f'delete,t,2024-03-01,2024-03-02,where,a,"{ACTING}"\n'
 )
 ANSWERED = f"ok,1\nok,2\nrow,1,{ROW}\nend,1\nerror,6,KeyOverlap\nerror,9,BadCommand\nok,3\n"
@@ -142,13 +142,15 @@ class Files(unittest.TestCase):
     """Files that the tools write, and those that they read and leave."""
 
     def test_where_there_is_no_more_room_no_file_is_left(self) -> None:
-        rows = "".join(f"row,{number},2024-01-01,2024-02-01\n" for number in range(1, 20_001))
-        script = "table,t\nload,t\n" + "row,2024-01-01,2024-02-01\n" * 20_000 + "end\nrows,t\n"
+        """A short script has a long answer, and the program itself may write all of it."""
+        script = "table,t,a,text\nload,t\n" + "row,2024-01-01,2024-02-01,x\n" * 100
+        script += f"end\nupdate,t,2024-01-01,2024-02-01,set,a,{'x' * 4000}\nrows,t\n"
         with tempfile.TemporaryDirectory() as folder:
             Path(folder, "s").write_text(script)
-            Path(folder, "a").write_text(f"ok,1\nok,2\n{rows}end,20000\n")
+            Path(folder, "a").write_text(f"#!/bin/sh\nulimit -S -f unlimited\nexec {PROGRAM}\n")
+            Path(folder, "a").chmod(0o700)
             for words in (f"csv {folder}/s --folder {folder}/out", f"sqlite {folder}/s {folder}/z.db"):
-                status, _, said = run(f"ulimit -f 64; {ANSWERS} {words} --answers {folder}/a")
+                status, _, said = run(f"ulimit -S -f 64; {ANSWERS} {words} --program {folder}/a")
                 self.assertEqual((status, said.count("\n"), said[:9]), (1, 1, "answers: "), said)
             left = sorted(str(file.relative_to(folder)) for file in Path(folder).rglob("*"))
             self.assertEqual(left, ["a", "out", "s"])
@@ -161,7 +163,7 @@ class Files(unittest.TestCase):
                 *[f"sqlite {script} {folder}/z.db 4=a"] * 2, f"sqlite {script} : --day x",
                 f"csv {script} --folder {folder}", f"list {script} --program /none", f"list {script} --program /etc",
                 f"list {script} --program /bin/false", f"csv {script} --ask '\"'", f"sqlite {script} {folder} 4=a",
-                f"page {script} --once", f"csv {script} 99", f"sqlite {script} {folder}/y.db --query 'select x'",
+                f"page {script}", f"csv {script} 99", f"sqlite {script} {folder}/y.db --query 'select x'",
             ]:
                 with self.subTest(words):
                     answered = "" if "--program" in words or "--ask" in words else f" --answers {script}.stdout"

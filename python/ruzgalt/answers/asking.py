@@ -1,7 +1,7 @@
-"""Asks the program: of a script for its answers, and for all faulty rows of its loads."""
+"""Runs the program: on a script, on trial scripts that are about a table each, and on each row of a script's loads."""
 import subprocess
 import tempfile
-from typing import Iterator, List, Sequence, Tuple
+from typing import Iterable, Iterator, List, Sequence, Tuple
 
 from ruzgalt import answers
 from ruzgalt.answers import Answer
@@ -12,6 +12,8 @@ from ruzgalt.script.reader import Source
 
 
 NAMED_BY = "name it by --program or by DIPQ in the environment, or put dipq on the PATH"
+# A script has 64 tables at most. It is kept to so many records, which are far fewer than a script may have.
+TABLES, RECORDS = 64, 500_000
 
 
 class Running:
@@ -51,6 +53,37 @@ def why_not(error: OSError) -> str:
 
 def output(program: str, script: bytes) -> bytes:
     return Running(program, script).output()
+
+
+def tried(program: str, trials: Iterable[List[Sequence[str]]]) -> Iterator[List[Answer]]:
+    """Yields the answers to each trial: records that begin with a table, whose name no other trial has.
+
+    Several trials are answered by one run. Raises Misfit if a record is refused.
+    """
+    for some in batches(trials):
+        script = records.encode(records.to_text(fields for trial in some for fields in trial))
+        found: List[List[Answer]] = []
+        for answer in answers.of(script, output(program, script)):
+            if answer.refusal:
+                raise Misfit(f"{program} refused a trial on rows of the script: {answer.refusal.name}")
+            if answer.command.word == "table":
+                found.append([])
+            found[-1].append(answer)
+        yield from found
+
+
+def batches(trials: Iterable[List[Sequence[str]]]) -> Iterator[List[List[Sequence[str]]]]:
+    """Yields as many trials at once as one script has room for."""
+    some: List[List[Sequence[str]]] = []
+    count = 0
+    for trial in trials:
+        if some and (len(some) == TABLES or count + len(trial) > RECORDS):
+            yield some
+            some, count = [], 0
+        some.append(trial)
+        count += len(trial)
+    if some:
+        yield some
 
 
 def faulty(program: str, script: bytes) -> List[str]:

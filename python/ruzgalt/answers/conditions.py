@@ -1,14 +1,14 @@
 """Which records `--where` asks for: those that have some values in some columns."""
-from typing import List, Sequence, Tuple, Union
+from typing import Callable, Dict, List, Sequence, Tuple, Union
 
-from ruzgalt.answers.lists import FORMS
 from ruzgalt.errors import Misfit
-from ruzgalt.script.forms import POINTS
+from ruzgalt.script.forms import POINTS, is_printed, is_sum
 from ruzgalt.script.records import visible
 from ruzgalt.script.schemas import Kind, Schema, Table
 
 # Names of columns, each with the value that a record is to have there.
 Where = Sequence[Tuple[str, str]]
+FORMS: Dict[Kind, Callable[[str], bool]] = {Kind.INT: is_sum, Kind.POINT: is_printed}
 # What is wrong with a value that isn't of its column's kind.
 NO_VALUE = {
     Kind.INT: "not a whole number in digits alone, such as 480050 for cents, or -8",

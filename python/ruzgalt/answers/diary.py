@@ -27,15 +27,14 @@ def steps_back(days: history.Days) -> Iterator[str]:
             yield f"commit {commit} is the newest from {day} on, but {before} before that"
 
 
-def commits_at(found: Sequence[Answer], name: str, points: Iterable[str]) -> Dict[str, int]:
-    """Of each point the commit that was the newest then, by the script's table of this name.
+def commits_at(diary: Answer, points: Iterable[str]) -> Dict[str, int]:
+    """Returns for each point the commit that was the newest then, by the rows of a diary after the script.
 
-    Raises Misfit where that is no diary, or doesn't say.
+    Raises Misfit if the table is no diary, or doesn't say it.
     """
-    rows = history.rows_in(found, name)
-    days = history.days_of(found[-1].tables[name], rows)
-    newest = max(answer.commits for answer in found)
-    for reason in [*history.strange_commits(days, newest), *steps_back(days)]:
+    name, rows = diary.command.front[1], [record[1:] for record in diary.table.texts()]
+    days = history.days_of(diary.tables[name], rows)
+    for reason in [*history.strange_commits(days, diary.commits), *steps_back(days)]:
         raise Misfit(f"--diary {name}: {reason}")
     return {point: commit_at(name, rows, days, point) for point in points}
 

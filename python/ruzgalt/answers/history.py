@@ -7,7 +7,7 @@ from typing import Dict, Iterable, Iterator, List, Optional, Sequence, Tuple
 
 from ruzgalt.answers import Answer, conditions
 from ruzgalt.answers.changes import Held, changes, order
-from ruzgalt.checking.replay import Replay, Version, behind
+from ruzgalt.answers.past import Version, Versions
 from ruzgalt.errors import Misfit
 from ruzgalt.script.language import CHANGES
 from ruzgalt.script.schemas import PERIOD, Column, Kind, Schema, Table, ints, unique
@@ -23,16 +23,15 @@ Days = List[Tuple[str, int]]
 
 
 def of_table(
-    found: Sequence[Answer], name: str, where: conditions.Where, days: Optional[Days] = None,
+    found: Sequence[Answer], versions: Versions, where: conditions.Where, days: Optional[Days] = None,
 ) -> Table:
-    """All changes of rows with these values, each with the day of its commit where days are given."""
-    refuse_missing(found, name)
-    schema, replay = found[-1].tables[name], behind(found)
+    """Returns all changes of rows with these values, each with the day of its commit if days are given."""
+    schema = versions.schema
     wanted = conditions.places(schema, where)
     lines = {one.commits: one.place for one in found if not one.refusal and one.command.word in CHANGES}
     entered = [] if days is None else [Column("entered", Kind.POINT)]
     columns = unique([*ints("commit"), Column("place", Kind.TEXT), *entered, *CHANGE, *schema.columns])
-    changes = list(changes_of(schema, replay.versions[name], wanted))
+    changes = list(changes_of(schema, versions.all, wanted))
     day_of_commit = entered_on(days or [], (commit for commit, _ in changes))
     records: List[List[Optional[str]]] = []
     for commit, change in changes:
@@ -48,17 +47,9 @@ def refuse_missing(found: Sequence[Answer], name: str) -> None:
         raise Misfit(f"{name}: no such table; {there}")
 
 
-def days_in(found: Sequence[Answer], diary: str) -> Days:
-    """The days of a diary as the script's end has it."""
-    rows = rows_in(found, diary)
-    return days_of(found[-1].tables[diary], rows)
-
-
-def rows_in(found: Sequence[Answer], name: str) -> List[List[str]]:
-    """The rows of a table as the script's end has it, by start, end and values."""
-    refuse_missing(found, name)
-    # Other tables' changes needn't be done again.
-    return list(open_rows(behind(one for one in found if name in one.command.record.fields[1:2]), name))
+def days_in(diary: Versions) -> Days:
+    """Returns the days of a diary after the script."""
+    return days_of(diary.schema, ((one.start, one.end, *one.values) for one in diary.all if one.closed is None))
 
 
 def changes_of(
@@ -68,8 +59,8 @@ def changes_of(
     before: Dict[int, List[Held]] = {}
     after: Dict[int, List[Held]] = {}
     for version in versions:
-        if conditions.has(version.row.values, wanted):
-            held = version.row.start, version.row.end, version.row.values
+        if conditions.has(version.values, wanted):
+            held = version.start, version.end, version.values
             after.setdefault(version.made, []).append(held)
             if version.closed is not None:
                 before.setdefault(version.closed, []).append(held)
@@ -117,10 +108,6 @@ def strange_commits(days: Days, newest: int) -> Iterator[str]:
     strange = [number for _, number in days if not 0 <= number <= newest]
     if strange:
         yield f"it names commit {strange[0]}, which doesn't exist: the newest is {newest}"
-
-
-def open_rows(replay: Replay, name: str) -> Iterator[List[str]]:
-    return ([one.row.start, one.row.end, *one.row.values] for one in replay.open[name].by_id.values())
 
 
 def day_of(days: Sequence[Tuple[str, int]], commit: int) -> Optional[str]:

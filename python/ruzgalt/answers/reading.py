@@ -2,22 +2,19 @@
 from dataclasses import dataclass, field
 from itertools import islice
 from pathlib import Path
-from typing import Callable, Dict, Iterable, Iterator, List, Optional, Sequence, Union
+from typing import Dict, Iterable, Iterator, List, Optional, Sequence, Union
 
-from ruzgalt.answers.lists import Checks
 from ruzgalt.errors import Misfit
 from ruzgalt.script import commands, schemas
 from ruzgalt.script.commands import Command
-from ruzgalt.script.forms import is_count, is_printed, printed
-from ruzgalt.script.language import NONE, Answered
-from ruzgalt.script.reader import PIECE, Block, Place, Reader, Row, Rows, Source, long_fields
+from ruzgalt.script.forms import is_count
+from ruzgalt.script.language import Answered
+from ruzgalt.script.reader import Place, Reader, Row, Rows, Source, long_fields
 from ruzgalt.script.records import Record, short
 from ruzgalt.script.schemas import Column, Schema, Table
 
 # Bytes, or the file that has them.
 Given = Union[bytes, str, Path]
-# Takes how many records were read so far.
-Advance = Callable[[int], None]
 
 
 @dataclass(frozen=True)
@@ -61,19 +58,16 @@ class Answer:
 
 
 def of(script: Given, output: Given) -> List[Answer]:
-    """The answers in the output, which are those to the script. Raises Misfit where they can't be."""
+    """Returns the answers in the program's output, each with its command.
+
+    Raises Misfit if the output has another form than answers to this script. Values aren't compared with the script.
+    """
     with long_fields():
         return of_commands(commands.commands(Source(bytes_of(script))), bytes_of(output))
 
 
-def silently(_: int) -> None:
-    """Says nothing of it."""
-
-
-def of_commands(
-    script: Iterable[Command], output: bytes, is_own: bool = False, advance: Advance = silently,
-) -> List[Answer]:
-    return list(Reading(Source(output), is_own, advance).answers(script))
+def of_commands(script: Iterable[Command], output: bytes) -> List[Answer]:
+    return list(Reading(Source(output)).answers(script))
 
 
 def bytes_of(source: Given) -> bytes:
@@ -83,9 +77,8 @@ def bytes_of(source: Given) -> bytes:
 class Reading:
     """The answers' records, of which some first ones are read, and the tables and commits of the store by then."""
 
-    def __init__(self, output: Source, is_own: bool, advance: Advance = silently):
-        """Of answers that the program gave just now the long lists are passed over."""
-        self.source, self.output, self.is_own, self.advance = output, Reader(output), is_own, advance
+    def __init__(self, output: Source) -> None:
+        self.source, self.output = output, Reader(output)
         self.place = self.output.place
         self.tables: Dict[str, Schema] = {}
         self.commits = 0
@@ -118,7 +111,7 @@ class Reading:
             return self.accepted(command, first)
         if answered is Answered.TOGETHER:
             return self.opened(command, first)
-        if answered not in READERS or not command.is_ended or not self.has_commits(command):
+        if answered not in READERS or not command.is_ended:
             raise misfit(command, "error,RECORD,NAME", first)
         try:
             columns = schemas.header(command, self.tables)
@@ -126,34 +119,22 @@ class Reading:
             raise misfit(command, "error,RECORD,NAME, since its tables, columns or point don't exist", first) from None
         return Table(columns, READERS[answered](self, command, first, columns))
 
-    def has_commits(self, command: Command) -> bool:
-        """Whether the commits that a query names are numbers, and that of its suffix is there."""
-        if command.as_of is not None:
-            newest = self.commits if self.held is None else self.held
-            return is_count(command.as_of) and int(command.as_of) <= newest
-        if command.form.answered is not Answered.VERSIONS:
-            return True
-        return len(command.front) == 4 and all(map(is_count, command.front[2:]))
-
     def take(self, command: Command, wanted: str) -> Record:
         record = self.output.next()
         if record is None:
-            more = "; --answers must have the answers to each --ask too" if command.record.is_asked else ""
-            raise Misfit(f"{command.place}: {short(command.text)}: the answers end before {wanted}{more}")
+            raise Misfit(f"{command.place}: {short(command.text)}: the answers end before {wanted}")
         return record
 
     def refusal(self, command: Command, record: Record) -> Refusal:
         number = record.fields[1] if len(record.fields) == 3 else ""
         at_fault = command.record_of(int(number)) if is_count(number) else None
-        if at_fault is None or not is_refusable(record.fields[2], at_fault, command, self.tables):
+        if at_fault is None:
             raise misfit(command, "a refusal that it can have", record)
         return Refusal(record.fields[2], at_fault)
 
     def accepted(self, command: Command, record: Record) -> Table:
         if list(record.fields) != ["ok", str(self.commits + 1)] or not command.is_ended:
             raise misfit(command, f"ok,{self.commits + 1}", record)
-        if not is_doable(command, self.tables):
-            raise misfit(command, "error,RECORD,NAME, since its form is wrong, or its table doesn't exist", record)
         if command.word == "table":
             self.tables = {**self.tables, command.record.fields[1]: Schema.read(command.record.fields)}
         self.commits += 1
@@ -167,21 +148,13 @@ class Reading:
         return Table(schemas.ints("commit"), [[record.fields[1]]])
 
     def listed(self, command: Command, first: Record, columns: List[Column]) -> Sequence[Row]:
-        """The records of a list up to its end, which counts them. They are looked at, and read again where wanted."""
+        """The records of a list up to its end, which counts them. They are read when they are needed."""
         word = {Answered.VERSIONS: "version", Answered.LOG: "commit"}.get(command.form.answered, "row")
         place, count, record = self.place, 0, first
         if word == first.word and len(first.fields) == len(columns) + 1:
-            checks = Checks(command, columns, printed(command.front[2]) if command.word == "at" else None)
-            for piece in self.output.pieces(first, len(columns) + 1):
-                if not checks.pass_over(piece):
-                    raise checks.fault(Reader(self.source, place), first)
-                count += len(piece)
-                self.advance(self.output.number)
-                behind = self.output.at_list_end(first) if self.is_own and len(piece) == PIECE else None
-                if behind:
-                    self.output, count = behind, behind.number - first.number
-                    break
+            self.output = self.output.after_list(first)
             record = self.take(command, "the list's end")
+            count = record.number - first.number
         if list(record.fields) != ["end", str(count)]:
             names = ",".join(column.name for column in columns)
             raise misfit(command, f"{word},{names} or end,{count}", record)
@@ -191,13 +164,11 @@ class Reading:
         """A record for each row of each part, with the instant that all have."""
         if first.word != "dip" or len(first.fields) != 4 or not all(map(is_count, first.fields[1:3])):
             raise misfit(command, "dip,ROWS,PARTS,INSTANT", first)
-        if first.fields[3] != "-" if first.fields[1] == "0" else not is_printed(first.fields[3]):
-            raise misfit(command, "dip,ROWS,PARTS,INSTANT with a point, or - where there are no rows", first)
         count, parts, instant = first.fields[1:]
         place, found = self.output.place, 0
         for part in range(int(parts)):
             record = self.take(command, f"part,{part}")
-            if list(record.fields[:2]) != ["part", str(part)] or not all(map(is_count, record.fields[2:])):
+            if list(record.fields[:2]) != ["part", str(part)]:
                 raise misfit(command, f"part,{part} with ids", record)
             found += len(record.fields) - 2
         if found != int(count):
@@ -211,7 +182,7 @@ class Reading:
         if fields == ["yes"]:
             return [["yes", None, None, None, None, None]]
         places = VERDICTS.get(fields[1]) if fields[0] == "no" and len(fields) > 2 else None
-        if places is None or len(fields) != 2 + len(places) or not all(map(is_count, fields[2:])):
+        if places is None or len(fields) != 2 + len(places):
             raise misfit(command, "yes, or no and its reason", first)
         numbers: List[Optional[str]] = [None] * 4
         for place, number in zip(places, fields[2:]):
@@ -266,31 +237,6 @@ class Listed(Rows):
 def parts_at(source: Source, place: Place, parts: int, instant: str) -> Iterator[Row]:
     for record in islice(Reader(source, place), parts):
         yield from ([record.fields[1], row_id, instant] for row_id in record.fields[2:])
-
-
-def is_refusable(name: str, record: Record, command: Command, there: Dict[str, Schema]) -> bool:
-    """Whether the refusal can be the command's, and the table is there by whose key or columns it is explained."""
-    form = command.form
-    if name == "NotInBlock":
-        return command.in_together and form.is_barred
-    names = form.refusals if record is command.record else form.part_refusals or NONE.refusals
-    if (name == "Unended") is command.is_ended or name not in names.split():
-        return False
-    if name == "KeyOverlap":
-        return is_doable(command, there)
-    return name != "WrongWidth" or [*command.record.fields, ""][1] in there
-
-
-def is_doable(command: Command, there: Dict[str, Schema]) -> bool:
-    """Whether a change that is answered by `ok` has the form that is needed to do it again."""
-    texts = command.record.fields
-    if command.word == "table":
-        return schemas.is_schema(texts)
-    if len(texts) < 2 or texts[1] not in there:
-        return False
-    if isinstance(command.block, Block):
-        return command.block.widths <= {3 + len(there[texts[1]].columns)}
-    return len(texts) > 3
 
 
 def misfit(command: Command, wanted: str, found: Record) -> Misfit:

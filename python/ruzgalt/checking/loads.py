@@ -1,15 +1,34 @@
 """What may not be meant in the rows that all loads of a table bring: last days as ends, and texts that look alike."""
-from typing import Dict, Iterator, List
+from itertools import islice
+from typing import Dict, Iterator, List, NamedTuple, Tuple
 
 from ruzgalt.answers import Answer
 from ruzgalt.checking import doubts, looks
-from ruzgalt.checking.replay import loaded
-from ruzgalt.script.reader import LOOKED_AT
+from ruzgalt.script.commands import Command
+from ruzgalt.script.forms import printed
+from ruzgalt.script.reader import LOOKED_AT, Block, Reader
 from ruzgalt.script.schemas import Kind, Schema
 
 
 # In so many loads at most rows are looked at, since each is looked for in the script.
 LOADS = 1_000
+
+
+class Loaded(NamedTuple):
+    """A row of a load: the line on which it begins, its period as the program prints it, and its values."""
+
+    line: int
+    start: str
+    end: str
+    values: Tuple[str, ...]
+
+
+def rows_of(load: Command) -> Iterator[Loaded]:
+    """Yields the rows of a load, each of which has its form."""
+    block = load.rows
+    if isinstance(block, Block):
+        for line, (_, start, end, *values) in islice(Reader(block.source, block.place).numbered(), len(block)):
+            yield Loaded(line, printed(start), printed(end), tuple(values))
 
 
 class Ends(doubts.Ends):
@@ -42,7 +61,7 @@ class Loads:
         if not self.are_few or answer.command.record.is_asked or not self.places:
             return
         self.answers.append(answer)
-        rows = list(loaded(answer.command))
+        rows = list(rows_of(answer.command))
         keys = [tuple(row.values[place] for place in self.places) for row in rows]
         self.ends.add([row.line for row in rows], keys, [row.start for row in rows], [row.end for row in rows])
         for place, alike in self.alike.items():

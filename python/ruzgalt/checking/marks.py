@@ -1,15 +1,14 @@
-"""What may not be meant: changes of no row or of all, portions without a day, joins of nothing, rows held twice."""
+"""Possible mistakes: changes of no row or of all, portions without a day, joins of nothing, rows held twice."""
 import re
-from collections import Counter, defaultdict
+from collections import Counter
 from typing import Dict, Iterator, List, NamedTuple, Optional, Sequence, Set, Tuple
 
 from ruzgalt.answers import Answer
-from ruzgalt.checking import looks, quoting
+from ruzgalt.answers.past import Beginnings, Past, versions_of
+from ruzgalt.checking import looks, overlaps, quoting
 from ruzgalt.checking.loads import Loads
-from ruzgalt.checking.replay import Beginnings, Replay
 from ruzgalt.commands import called
 from ruzgalt.loading.dates import NO_END, is_month_end
-from ruzgalt.periods.spans import overlapping
 from ruzgalt.script.fields import where_places
 from ruzgalt.script.forms import printed
 from ruzgalt.script.language import CHANGES, Fields, words_of
@@ -20,10 +19,12 @@ HOURS = re.compile(rb",\"?\d{4}-\d\d-\d\dT(?!00:00:00)\d\d:")
 LAST_SECOND = re.compile(rb"row,[^,\r\n]*,(?!9999)\d{4}-\d\d-\d\dT23:59:59")
 JOINS, PORTIONS = words_of(Fields.TABLES), words_of(Fields.PORTION)
 Values = Set[Tuple[str, ...]]
+# The kind of marks of changes that touched no row.
+OF_NOTHING = "nothing"
 
 
 class Mark(NamedTuple):
-    """What may not be meant in the command of an answer. Marks of one kind say the same of several commands."""
+    """A possible mistake in the command of an answer. Marks of one kind say the same of several commands."""
 
     answer: Answer
     note: str
@@ -36,13 +37,6 @@ def by_kind(found: Sequence[Mark]) -> List[List[Mark]]:
     for mark in found:
         kinds.setdefault(mark.kind, []).append(mark)
     return list(kinds.values())
-
-
-def needs_replay(found: Sequence[Answer]) -> bool:
-    """Whether some answer is looked at beside the rows that were there, or these are to be looked at themselves."""
-    words = {one.command.word for one in found if not one.refusal}
-    has_overlap = any(one.refusal and one.refusal.name == "KeyOverlap" for one in found)
-    return bool(words & {*JOINS, *PORTIONS}) or has_overlap or any(without_key(found))
 
 
 def without_key(found: Sequence[Answer]) -> Iterator[Schema]:
@@ -59,27 +53,47 @@ def without_key(found: Sequence[Answer]) -> Iterator[Schema]:
     return (one for one in loose if 1 < counts[one.name] <= LOOKED_AT)
 
 
-def walk(found: Sequence[Answer]) -> Iterator[Tuple[Answer, Replay]]:
-    """Each answer with the changes before it, done again; with none where none is looked at."""
-    replay, is_needed = Replay(), needs_replay(found)
+def questions_for(found: Sequence[Answer]) -> Iterator[str]:
+    """Yields what is asked about the past for the marks: only tables of which versions are looked at."""
     for answer in found:
-        yield answer, replay
-        if is_needed:
-            replay.do(answer)
+        word, texts = answer.command.word, answer.command.record.fields
+        if answer.refusal:
+            continue
+        if word in JOINS:
+            yield from map(versions_of, texts[1:3])
+        elif word in PORTIONS:
+            yield "log"
+            if is_looked_at(texts):
+                yield versions_of(texts[1])
+    yield from (versions_of(schema.name) for schema in without_key(found))
+
+
+def is_looked_at(portion: Sequence[str]) -> bool:
+    """Whether the rows that an update or a delete closed say whether its end is a possible mistake."""
+    return of_end(portion[3]) is not None or portion[0] == "update" and printed(portion[3]) < "9999"
+
+
+def of(found: Sequence[Answer], past: Past) -> List[Mark]:
+    """Returns all marks of a script, in the order of its answers."""
+    past.ask(*questions_for(found))
+    marks = Marks(found, past)
+    for answer in found:
+        marks.look(answer)
+    return marks.all()
 
 
 class Marks:
-    """What is marked of a script's answers, looked at one after another."""
+    """The marks of a script's answers, which are looked at one after another."""
 
-    def __init__(self, found: Sequence[Answer]) -> None:
-        self.found = found
+    def __init__(self, found: Sequence[Answer], past: Past) -> None:
+        self.found, self.past = found, past
         self.loads: Dict[Tuple[str, int], int] = {}
         self.by_table: Dict[str, Loads] = {}
         self.beginnings = Beginnings(found)
         self.with_hours: Set[str] = set()
         self.marks: List[Mark] = []
 
-    def look(self, answer: Answer, replay: Replay) -> None:
+    def look(self, answer: Answer) -> None:
         word = answer.command.word
         if answer.number == 1 and is_answer(answer.command.record.fields):
             self.add(answer, "these are answers, not a script: give the script that they answer")
@@ -95,11 +109,11 @@ class Marks:
         if word == "load":
             self.look_at_load(answer)
         elif word in JOINS:
-            self.add(answer, of_join(answer, replay))
+            self.add(answer, of_join(answer, self.past))
         elif word == "at":
             self.add(answer, self.of_point(answer))
         elif word in PORTIONS:
-            self.add(answer, of_portion(answer, replay), "portion")
+            self.look_at_portion(answer)
 
     def add(self, answer: Answer, note: Optional[str], kind: str = "") -> None:
         """Adds a mark, where there is something to say. Without a kind, those of the same words are of one."""
@@ -121,6 +135,15 @@ class Marks:
         if last:
             self.add(answer, f"{last[0].decode()} doesn't hold in that second: a day ends at the next one's midnight")
 
+    def look_at_portion(self, answer: Answer) -> None:
+        texts, (_, count) = answer.command.record.fields, self.past.counts[answer.commits]
+        last = ""
+        if count and is_looked_at(texts):
+            last = max(version.end for version in self.past.versions(texts[1]).closed_by[answer.commits])
+        self.add(answer, of_end(texts[3]) if texts[3] < last else None, "portion")
+        self.add(answer, of_touched(texts, count), "count" if count else OF_NOTHING)
+        self.add(answer, of_reach(texts, last) if last else None, "reach")
+
     def of_point(self, answer: Answer) -> Optional[str]:
         _, table, point = answer.command.front
         if len(point) == 10 and table in self.with_hours:
@@ -141,32 +164,19 @@ class Marks:
         count = sum(row not in loaded for row in rows)
         return f"it was refused whole, and {count} of its other rows are in no later load" if count else None
 
-    def end(self, replay: Replay) -> List[Mark]:
-        """All that is marked, by the answers' order; what changes touched is known now."""
-        ends = replay.last_ends()
-        for answer in self.found:
-            if not answer.refusal and answer.command.word in PORTIONS:
-                count = replay.closed.get(answer.commits, 0)
-                self.add(answer, of_count(answer, count), "count" if count else "nothing")
-                self.add(answer, of_reach(answer, ends.get(answer.commits)), "reach")
+    def all(self) -> List[Mark]:
+        """Returns all marks in the order of the answers, with those of whole tables."""
         for loads in self.by_table.values():
             for note in loads.notes():
                 self.add(loads.answers[-1], note)
         for schema in without_key(self.found):
-            self.add(last_change_of(self.found, schema.name), of_overlap(schema, replay))
+            self.add(last_change_of(self.found, schema.name), of_overlap(schema, self.past))
         return sorted(self.marks, key=lambda mark: mark.answer.number)
 
 
 def is_answer(fields: Sequence[str]) -> bool:
     """Whether a script's first record is one with which answers begin, and no command."""
     return fields[0] == "error" or list(fields) in (["ok", "1"], ["end", "0"], ["together", "0"])
-
-
-def of_portion(answer: Answer, replay: Replay) -> Optional[str]:
-    """Notes a portion's end that looks like a last day, where it cuts a row."""
-    end = answer.command.record.fields[3]
-    note = of_end(end)
-    return note if note and any(end < version.row.end for version in replay.change(answer).closed) else None
 
 
 def of_end(end: str) -> Optional[str]:
@@ -178,14 +188,9 @@ def of_end(end: str) -> Optional[str]:
     return None
 
 
-def of_count(answer: Answer, count: int) -> Optional[str]:
-    return of_touched(answer.command.record.fields, count)
-
-
-def of_reach(answer: Answer, last: Optional[str]) -> Optional[str]:
-    """Notes an update up to a day that no row reaches which it changed: it may be meant to lengthen one."""
-    fields = answer.command.record.fields
-    if fields[0] == "update" and last is not None and last < printed(fields[3]) < "9999":
+def of_reach(fields: Sequence[str], last: str) -> Optional[str]:
+    """Notes an update up to a day after the ends of all rows that it changed: it may be meant to lengthen one."""
+    if fields[0] == "update" and last < printed(fields[3]) < "9999":
         ends = f"each row that it changed ends by {last}, before {fields[3]}"
         return f"{ends}: an update can't lengthen a row; load the rest of the time"
     return None
@@ -207,27 +212,30 @@ def last_change_of(found: Sequence[Answer], name: str) -> Answer:
     return [one for one in changes if one.command.record.fields[1] == name][-1]
 
 
-def of_overlap(schema: Schema, replay: Replay) -> Optional[str]:
-    """Offers the question for rows of one thing that hold at one time: of equal texts, whatever their numbers are."""
+def of_overlap(schema: Schema, past: Past) -> Optional[str]:
+    """Offers the question for rows of equal texts that hold at one time, whatever their numbers are."""
     texts = [place for place, column in enumerate(schema.columns) if column.kind is Kind.TEXT]
     places = texts or range(len(schema.columns))
-    rows: Dict[Tuple[str, ...], List[Tuple[str, str, int]]] = defaultdict(list)
-    for version in replay.open[schema.name].by_id.values():
-        values = tuple(version.row.values[place] for place in places)
-        rows[values].append((version.row.start, version.row.end, version.row_id))
-    found = next((pair for spans in rows.values() for pair in overlapping(spans)), None)
+    groups: Dict[Tuple[str, ...], List[overlaps.Held]] = {}
+    for version in past.versions(schema.name).at(past.newest):
+        values = tuple(version.values[place] for place in places)
+        groups.setdefault(values, []).append(overlaps.Held(version.start, version.end, values, str(version.row_id)))
+    rows = list(groups.values())
+    [times] = overlaps.crowded(past.program, [rows])
+    found = next(overlaps.pairs(rows, times), None)
     if found is None:
         return None
     names = " ".join(schema.names[place] for place in places)
-    both = f"rows {found.first} and {found.second}, equal in {names.replace(' ', ', ')}, hold at the same time"
+    one, other = (row.origin for row in found)
+    both = f"rows {one} and {other}, equal in {names.replace(' ', ', ')}, hold at the same time"
     question = f"`{called.ANSWERS} overlaps SCRIPT {names} --ask rows,{schema.name}` lists such rows"
     return f"{schema.name} has {'a key of all columns' if schema.key else 'no key'}, and {both}; {question}"
 
 
-def of_join(answer: Answer, replay: Replay) -> Optional[str]:
+def of_join(answer: Answer, past: Past) -> Optional[str]:
     front = answer.command.front
     left, right = (
-        values_of(replay, answer, name, columns) for name, columns in zip(front[1:3], (front[4::2], front[5::2]))
+        values_of(past, answer, name, columns) for name, columns in zip(front[1:3], (front[4::2], front[5::2]))
     )
     if len(front) > 3 and left and right and not left & right:
         none = f"{front[1]} and {front[2]} have no value of these columns in common"
@@ -239,9 +247,9 @@ def of_join(answer: Answer, replay: Replay) -> Optional[str]:
     return f"some values don't match{pairs}" if pairs else None
 
 
-def values_of(replay: Replay, answer: Answer, name: str, columns: Sequence[str]) -> Values:
+def values_of(past: Past, answer: Answer, name: str, columns: Sequence[str]) -> Values:
     places = [answer.tables[name].place(column) for column in columns]
-    return {tuple(one.row.values[place] for place in places) for one in replay.rows(name, answer.commit)}
+    return {tuple(one.values[place] for place in places) for one in past.versions(name).at(answer.commit)}
 
 
 def like(left: Values, right: Values) -> str:

@@ -1,96 +1,215 @@
-"""Rows of one key that hold at one point: in an answer, or those for which a change was refused."""
+"""Rows of one key that hold at one time: in an answer, or those for which a change was refused. The program finds them.
+
+Also the times between rows of one key without any.
+"""
+from bisect import bisect_right
 from collections import defaultdict
+from dataclasses import replace
 from itertools import islice
 from operator import itemgetter
-from typing import Dict, Iterator, List, Sequence, Tuple, Union
+from typing import Dict, Iterable, Iterator, List, NamedTuple, Sequence, Set, Tuple
 
-from ruzgalt.answers import Answer, grouped
-from ruzgalt.checking.replay import Change, Row as StoredRow, Replay, Version
+from ruzgalt.answers import Answer, asking, conditions, grouped
+from ruzgalt.answers.past import Past, Version, versions_of
+from ruzgalt.checking import loads
 from ruzgalt.errors import Misfit
-from ruzgalt.periods.spans import Pair, gaps, overlapping
+from ruzgalt.periods.spans import gaps
+from ruzgalt.script.fields import where_places
 from ruzgalt.script.reader import Row
 from ruzgalt.script.records import to_record
-from ruzgalt.script.schemas import PERIOD, Column, Table, ints, unique
+from ruzgalt.script.schemas import PERIOD, Schema, Table, ints, unique
 
-# A row that would come, or one that is there.
-Held = Union[StoredRow, Version]
 # So many pairs of rows are listed of one refusal.
 PAIRS = 20
-Spans = List[Tuple[str, str, str]]
+Values = Tuple[str, ...]
+Span = Tuple[str, str]
 
 
-def by_key(answer: Answer, key: Sequence[str]) -> Tuple[List[Column], Dict[Tuple[str, ...], Spans]]:
-    """The key's columns, and for each of its values the rows of the answer: start, end and id."""
+class Held(NamedTuple):
+    """A row with its period, its values, and where it comes from, for a person."""
+
+    start: str
+    end: str
+    values: Values
+    origin: str
+
+    @property
+    def text(self) -> str:
+        return f"{self.origin}: {to_record([self.start, self.end, *self.values])}"
+
+
+def schema_of(answer: Answer) -> Schema:
+    """Returns the table of an answer to `rows`."""
     if answer.command.word == "at":
         raise Misfit(f"{answer.place}: {answer.command.text}: an `at` is of one point alone: ask by `rows`")
     if answer.command.word != "rows":
         raise Misfit(f"{answer.place}: {answer.command.text}: not a list of rows: ask by `rows`")
-    schema = answer.tables[answer.command.front[1]]
-    places = [3 + schema.place(name) for name in key]
-    found: Dict[Tuple[str, ...], Spans] = defaultdict(list)
-    for record in answer.table.texts():
-        found[tuple(record[place] for place in places)].append((record[1], record[2], record[0]))
-    return [schema.columns[place - 3] for place in places], found
+    return answer.tables[answer.command.front[1]]
 
 
-def in_answer(answer: Answer, key: Sequence[str]) -> Table:
-    """The pairs of rows of an answer that a key of these columns would forbid."""
-    columns, spans = by_key(answer, key)
-    found: List[Row] = [
-        [pair.first, pair.second, pair.start, pair.end, *values]
-        for values in grouped.in_order(columns, spans) for pair in overlapping(spans[values])
-    ]
-    return Table(unique([*ints("row_id", "other_row_id"), *PERIOD, *columns]), found)
+def in_answer(past: Past, answer: Answer, key: Sequence[str]) -> Table:
+    """Returns the pairs of rows that a key of these columns would forbid, from the table's join with itself."""
+    schema = schema_of(answer)
+    places = [schema.place(name) for name in key]
+    columns = [schema.columns[place] for place in places]
+    _, name, *suffix = answer.command.record.fields
+    on = [side for column in key for side in (column, column)]
+    [joined] = past.ask(to_record(["join", name, name, "on", *on, *suffix]))
+    found: Dict[Values, List[Row]] = defaultdict(list)
+    for start, end, one, other, *values in joined.table.texts():
+        if int(one) < int(other):
+            of_key = tuple(values[place] for place in places)
+            found[of_key].append([one, other, start, end, *of_key])
+    records = [record for values in grouped.in_order(columns, found) for record in found[values]]
+    return Table(unique([*ints("row_id", "other_row_id"), *PERIOD, *columns]), records)
 
 
 def gaps_in_answer(answer: Answer, key: Sequence[str]) -> Table:
-    """The times between rows of one key at which none of it holds."""
-    columns, spans = by_key(answer, key)
+    """Returns the times between rows of one key at which none of it holds."""
+    schema = schema_of(answer)
+    places = [schema.place(name) for name in key]
+    columns = [schema.columns[place] for place in places]
+    spans: Dict[Values, List[Span]] = defaultdict(list)
+    for _, start, end, *values in answer.table.texts():
+        spans[tuple(values[place] for place in places)].append((start, end))
     found: List[Row] = [
-        [*gap, *values]
-        for values in grouped.in_order(columns, spans) for gap in gaps((row[0], row[1]) for row in spans[values])
+        [*gap, *values] for values in grouped.in_order(columns, spans) for gap in gaps(spans[values])
     ]
     return Table(unique([*PERIOD, *columns]), found)
 
 
-def explained(replay: Replay, answer: Answer) -> List[str]:
-    """Which key, and which rows: lines for a person on a load or an update after these changes, refused for a key."""
-    name = answer.command.record.fields[1]
-    schema = answer.tables[name]
-    found = collisions(replay, name, replay.change(answer), schema.key)
-    lines = []
-    for pair in islice(found, PAIRS):
-        values = row_in(pair.first).values
-        key = ", ".join(f"{schema.names[place]} {to_record([values[place]])}" for place in schema.key)
-        lines.append(f"{key}: both hold from {pair.start} to {pair.end}")
-        lines.extend(f"  {described(one)}" for one in (pair.first, pair.second))
-    return lines + (["and more pairs of rows"] if next(found, None) else [])
+class Change(NamedTuple):
+    """What a refused change would have done: the rows that it adds, and the ids of those that it closes."""
+
+    added: Sequence[Held]
+    closed: Set[int]
 
 
-def collisions(replay: Replay, name: str, change: Change, key: Sequence[int]) -> Iterator[Pair[str, Held]]:
-    """The pairs of rows of one key that a change would leave, of which one at least is new."""
-    closed = {version.row_id for version in change.closed}
-    by_key: Dict[object, List[Held]] = defaultdict(list)
-    key_of = itemgetter(*key)
+def explained(past: Past, refused: Sequence[Answer]) -> Dict[int, List[str]]:
+    """Returns for each load or update that was refused for a key, by its number, the rows: lines for a person."""
+    refused = [answer for answer in refused if answer.refused.name == "KeyOverlap"]
+    past.ask(*(versions_of(answer.command.record.fields[1]) for answer in refused))
+    changes = changes_of(past, refused)
+    cases = [list(groups_of(past, answer, changes[answer.number])) for answer in refused]
+    return {
+        answer.number: list(lines_of(answer, groups, times))
+        for answer, groups, times in zip(refused, cases, crowded(past.program, cases))
+    }
+
+
+def rows_at(past: Past, answer: Answer) -> List[Version]:
+    """Returns the rows of a command's table before it. A refused command changes nothing."""
+    return past.versions(answer.command.record.fields[1]).at(answer.commits)
+
+
+def changes_of(past: Past, refused: Sequence[Answer]) -> Dict[int, Change]:
+    """Returns what each refused change would have done. The program tries updates on a table without the key."""
+    found: Dict[int, Change] = {}
+    updates: List[Tuple[Answer, List[Version]]] = []
+    for answer in refused:
+        if answer.command.word == "load":
+            found[answer.number] = Change(list(loaded(answer)), set())
+        else:
+            texts, schema = answer.command.record.fields, schema_in(answer)
+            wanted = [(schema.place(texts[place]), texts[place + 1]) for place in where_places(texts)]
+            updates.append((answer, [one for one in rows_at(past, answer) if conditions.has(one.values, wanted)]))
+    for (answer, rows), tried in zip(updates, asking.tried(past.program, (trial_of(*one) for one in updates))):
+        found[answer.number] = updated(answer, rows, tried[-1].table)
+    return found
+
+
+def schema_in(answer: Answer) -> Schema:
+    return answer.tables[answer.command.record.fields[1]]
+
+
+def loaded(answer: Answer) -> Iterator[Held]:
+    is_asked = answer.command.record.is_asked
+    for row in loads.rows_of(answer.command):
+        yield Held(row.start, row.end, row.values, answer.place if is_asked else f"line {row.line}")
+
+
+def trial_of(answer: Answer, rows: Sequence[Version]) -> List[Sequence[str]]:
+    """Returns a script that loads these rows, updates them, and lists all versions."""
+    schema = replace(schema_in(answer), name=f"t{answer.number}", key=())
+    loaded = (["row", row.start, row.end, *row.values] for row in rows)
+    update, _, *others = answer.command.record.fields
+    change = [[update, schema.name, *others], versions_of(schema.name).split(",")]
+    return [schema.fields, ["load", schema.name], *loaded, ["end"], *change]
+
+
+def updated(answer: Answer, rows: Sequence[Version], listed: Table) -> Change:
+    """Returns what an update does to rows, which have the ids 1, 2, 3 and so on in this list of versions.
+
+    New rows are in the order of those that they replace. The last one in place of a row ends where that ended.
+    """
+    added: List[Held] = []
+    closed: Set[int] = set()
+    records = list(listed.texts())
+    new = iter(records[len(rows):])
+    for row, (_, _, end, _, is_closed, *_) in zip(rows, records):
+        if is_closed:
+            closed.add(row.row_id)
+            for _, start, last, _, _, *values in new:
+                added.append(Held(start, last, tuple(values), f"{answer.place} in place of row {row.row_id}"))
+                if last == end:
+                    break
+    return Change(added, closed)
+
+
+def groups_of(past: Past, answer: Answer, change: Change) -> Iterator[List[Held]]:
+    """Yields the rows that the change would leave for each value of the key that it adds rows of."""
+    key_of = itemgetter(*schema_in(answer).key)
+    groups: Dict[object, List[Held]] = {}
     for row in change.added:
-        by_key[key_of(row.values)].append(row)
-    for row_id, version in replay.open[name].by_id.items():
-        values = key_of(version.row.values)
-        if values in by_key and row_id not in closed:
-            by_key[values].append(version)
-    for things in by_key.values():
-        yield from overlapping((row_in(thing).start, row_in(thing).end, thing) for thing in things)
+        groups.setdefault(key_of(row.values), []).append(row)
+    for version in rows_at(past, answer):
+        group = groups.get(key_of(version.values))
+        if group is not None and version.row_id not in change.closed:
+            group.append(held(version))
+    yield from groups.values()
 
 
-def row_in(thing: Held) -> StoredRow:
-    return thing.row if isinstance(thing, Version) else thing
+def held(version: Version) -> Held:
+    origin = f"row {version.row_id}, made by commit {version.made}"
+    return Held(version.start, version.end, version.values, origin)
 
 
-def described(thing: Held) -> str:
-    """A row that is there by its id and commit, and one that would come by its line."""
-    row = row_in(thing)
-    text = to_record([row.start, row.end, *row.values])
-    if isinstance(thing, Version):
-        return f"row {thing.row_id}, made by commit {thing.made}: {text}"
-    place = f" in place of row {row.in_place_of}" if row.in_place_of else ""
-    return f"{row.place}{place}: {text}"
+def crowded(program: str, cases: Iterable[Sequence[Sequence[Held]]]) -> Iterator[List[List[Span]]]:
+    """Yields for each case, and in it for each group, the times at which the program counts more than one row."""
+    cases = list(cases)
+    trials = (counting(f"t{place}", groups) for place, groups in enumerate(cases))
+    for groups, tried in zip(cases, asking.tried(program, trials)):
+        found: List[List[Span]] = [[] for _ in groups]
+        for place, start, end, count in tried[-1].table.texts():
+            if int(count) > 1:
+                found[int(place)].append((start, end))
+        yield found
+
+
+def counting(name: str, groups: Sequence[Sequence[Held]]) -> List[Sequence[str]]:
+    """Returns a script that counts the rows of each group over time."""
+    rows = (["row", one.start, one.end, str(place)] for place, group in enumerate(groups) for one in group)
+    return [["table", name, "n", "int"], ["load", name], *rows, ["end"], ["agg", name, "count", "by", "n"]]
+
+
+def pairs(groups: Sequence[Sequence[Held]], times: Sequence[Sequence[Span]]) -> Iterator[Tuple[Held, Held]]:
+    """Yields the pairs of rows of a group of which the second begins at a crowded time, while the first one holds."""
+    for group, crowds in zip(groups, times):
+        ordered = sorted(group, key=itemgetter(0)) if crowds else []
+        for place, row in enumerate(ordered):
+            # A time that begins with the row comes before such a one without an end.
+            crowd = bisect_right(crowds, (row.start, "~")) - 1
+            if crowd >= 0 and row.start < crowds[crowd][1]:
+                yield from ((other, row) for other in ordered[:place] if row.start < other.end)
+
+
+def lines_of(answer: Answer, groups: Sequence[Sequence[Held]], times: Sequence[Sequence[Span]]) -> Iterator[str]:
+    """Yields for each pair of rows a line with the key and the time, and a line for each row."""
+    schema = schema_in(answer)
+    found = pairs(groups, times)
+    for one, other in islice(found, PAIRS):
+        key = ", ".join(f"{schema.names[place]} {to_record([one.values[place]])}" for place in schema.key)
+        yield f"{key}: both hold from {other.start} to {min(one.end, other.end)}"
+        yield from (f"  {row.text}" for row in (one, other))
+    if next(found, None):
+        yield "and more pairs of rows"

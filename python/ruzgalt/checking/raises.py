@@ -1,11 +1,9 @@
 """Amounts raised by a part of themselves: the updates that do it, one for each amount, exactly."""
 import re
 from collections import Counter
-from typing import Iterator, List, NamedTuple, Optional, Sequence, Tuple
+from typing import Iterator, List, NamedTuple, Optional, Tuple
 
 from ruzgalt.answers import Answer, conditions
-from ruzgalt.answers.history import refuse_missing
-from ruzgalt.checking import replay
 from ruzgalt.errors import Misfit
 from ruzgalt.periods.rounding import Fraction, rounded
 from ruzgalt.script.forms import POINTS, is_integer, printed, read_point
@@ -45,17 +43,17 @@ class Step(NamedTuple):
 class Raise:
     """The steps in an order in which no update touches what another one has raised."""
 
-    def __init__(self, answers: Sequence[Answer], wish: Wish) -> None:
-        refuse_missing(answers, wish.table)
-        self.wish, self.schema = wish, answers[-1].tables[wish.table]
+    def __init__(self, rows: Answer, wish: Wish) -> None:
+        """Takes the answer to `rows` of the table."""
+        self.wish, self.schema = wish, rows.tables[wish.table]
         self.factor = factor_of(wish.percent)
         self.place = column_place(self.schema, wish.column)
         wanted = conditions.places(self.schema, wish.where)
         refuse_points(wish)
-        rows = [version.row for version in replay.behind(answers).open[wish.table].with_values(wanted)]
+        there = [record[1:] for record in rows.table.texts() if conditions.has(record[3:], wanted)]
         self.start = printed(wish.start)
-        self.end = printed(wish.end) if wish.end else LAST if any(row.end > NO_END for row in rows) else NO_END
-        counts = Counter(int(row.values[self.place]) for row in rows if row.start < self.end and self.start < row.end)
+        self.end = printed(wish.end) if wish.end else LAST if any(end > NO_END for _, end, *_ in there) else NO_END
+        counts = Counter(int(row[2 + self.place]) for row in there if row[0] < self.end and self.start < row[1])
         self.steps = [self.step(amount, counts[amount]) for amount in sorted(counts, key=self.order)]
 
     def order(self, amount: int) -> Tuple[int, int]:

@@ -159,12 +159,6 @@ def is_value(field: Field, kind: Kind) -> bool:
     return field.role is Role.VALUE and field.column is not None and field.column.kind is kind
 
 
-def fault_of_value(answer: Answer, field: Field) -> Optional[str]:
-    """Name and reason for which a value would be refused that is none of its column's kind."""
-    fault = next((name for name in ("BadNumber", "TooLong", "BadUtf8") if TESTS[name](answer, field, [field])), None)
-    return f"{fault}: {visible(to_record([field.text]))} {reasons.of_field(fault, field, answer)}" if fault else None
-
-
 def is_missing_table(answer: Answer, field: Field, _: List[Field]) -> bool:
     return field.role is Role.TABLE and field.text not in answer.tables
 

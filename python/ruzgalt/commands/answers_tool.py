@@ -9,10 +9,10 @@ from typing import Callable, Dict, NamedTuple, Optional, Sequence
 
 from ruzgalt import answers, which
 from ruzgalt.answers import asking, changes, databases, divided, export, front, history, picks
+from ruzgalt.answers.past import versions_of
 from ruzgalt.checking import marks, overlaps, queries, refusals, single
-from ruzgalt.checking.replay import Replay
 from ruzgalt.commands import called, going_on, over_time, picture, printed, streams
-from ruzgalt.commands.given import Found, bytes_of, chosen, last, read, read_fit, refuse_names, warn
+from ruzgalt.commands.given import Found, bytes_of, chosen, last, read, refuse_names, warn
 from ruzgalt.commands.progress import Progress
 from ruzgalt.commands.words import Words, filled, look_of, pair, some_commits, words_of_looks, words_of_where
 from ruzgalt.errors import Misfit
@@ -29,7 +29,8 @@ ABOUT = f"""Reads a script of dipq beside its answers, so that it knows of each 
 usage: {NAME} COMMAND SCRIPT ..
 
 SCRIPT is a file, or - for standard input. It is answered by {called.PROGRAM}, or the program that DIPQ names in the
-environment; or --answers gives a file of its answers. A repository's ./dipq is proved and built at its first use.
+environment. --answers gives a file of answers, which must be the same. A repository's ./dipq is proved and built at
+its first use.
 
 {textwrap.fill(f"PICK is {picks.HELP}.", 110)}
 
@@ -43,14 +44,11 @@ def show(text: str) -> None:
 
 def do_list(options: Namespace) -> int:
     """Lists all answers, refusals too. The status is 1 where there is one, as that of dipq is."""
-    found = read_fit(options, shows_refusals=True).answers
-    show(export.listing(found))
-    found_marks, replay = marks.Marks(found), Replay()
-    for answer, replay in marks.walk(found):
-        found_marks.look(answer, replay)
-    for same in marks.by_kind(found_marks.end(replay)):
+    found = read(options, shows_refusals=True)
+    show(export.listing(found.answers))
+    for same in marks.by_kind(marks.of(found.answers, found.past)):
         warn_of_mark(same[0], others(same[1:]))
-    return 1 if any(answer.refusal for answer in found) and not options.go_on else 0
+    return 1 if any(answer.refusal for answer in found.answers) and not options.go_on else 0
 
 
 def warn_of_mark(mark: marks.Mark, more: str = "") -> None:
@@ -86,13 +84,11 @@ def do_csv(options: Namespace) -> None:
 def asked_table(options: Namespace, found: Found, answer: answers.Answer) -> Table:
     """The answer's table; or of a division that with its rows, or with those of each group, or its counts."""
     if options.by:
-        if options.answers is not None:
-            raise Misfit("--by can't be given with --answers: the program computes each group's division")
         by_groups = divided.counted_by_groups if options.counts else divided.by_groups
-        return by_groups(found.answers, answer, options.by, options.program)
+        return by_groups(found.past, answer, options.by)
     if options.counts:
         return divided.counted(answer)
-    return divided.with_rows(found.answers, answer) if options.rows else answer.table
+    return divided.with_rows(found.past, answer) if options.rows else answer.table
 
 
 def do_json(options: Namespace) -> None:
@@ -140,8 +136,9 @@ def do_changed(options: Namespace) -> None:
 
 
 def do_overlaps(options: Namespace) -> None:
-    [answer] = last(read(options), options.of, 1)
-    printed.show(options, overlaps.in_answer(answer, options.column))
+    found = read(options)
+    [answer] = last(found, options.of, 1)
+    printed.show(options, overlaps.in_answer(found.past, answer, options.column))
 
 
 def do_gaps(options: Namespace) -> None:
@@ -152,11 +149,13 @@ def do_gaps(options: Namespace) -> None:
 def do_history(options: Namespace) -> None:
     if options.retroactive and not options.diary:
         raise Misfit("--retroactive needs --diary, which has the days of commits")
-    found = read_fit(options)
-    newest = max((answer.commits for answer in found.answers), default=0)
+    found = read(options)
+    history.refuse_missing(found.answers, options.table)
+    newest, past = found.past.newest, found.past
     wanted = commits_of(options, newest)
-    days = history.days_in(found.answers, options.diary) if options.diary else None
-    table = history.of_table(found.answers, options.table, options.where, days)
+    past.ask(*map(versions_of, filter(None, [options.table, options.diary])))
+    days = history.days_in(past.versions(options.diary)) if options.diary else None
+    table = history.of_table(found.answers, past.versions(options.table), options.where, days)
     for doubt in history.doubts_of(table, days, newest):
         warn(f"--diary {options.diary}: {doubt}")
     if options.where and not table.records:
@@ -184,13 +183,9 @@ def do_front(options: Namespace) -> int:
         warn(f"{options.kept} is empty, so any answers begin with it")
     lines = list(front.edits(bytes_of(options.before), script)) if options.before else []
     output = asking.output(options.program, script)
-    found, places = [], []
-    with Progress(called.ANSWERS_SAY) as advance:
-        reading = answers.Reading(Source(output), True, advance)
-        for answer in reading.answers(commands.commands(Source(script))):
-            found.append(answer)
-            places.append(reading.place.number)
-    lines.extend(front.differences(kept, output, found, places))
+    reading = answers.Reading(Source(output))
+    found = [(answer, reading.place.line) for answer in reading.answers(commands.commands(Source(script)))]
+    lines.extend(front.differences(kept, output, *zip(*found)))
     streams.show_lines(lines)
     return 1 if lines else 0
 
@@ -198,7 +193,7 @@ def do_front(options: Namespace) -> int:
 def do_picture(options: Namespace) -> None:
     found = read(options)
     [answer] = last(found, [options.pick] if options.pick else [], 1)
-    streams.show_text(picture.drawn(found.answers, answer, options))
+    streams.show_text(picture.drawn(found.past, answer, options))
 
 
 def do_page(options: Namespace) -> int:
@@ -209,23 +204,22 @@ def do_page(options: Namespace) -> int:
 
 
 def do_refusals(options: Namespace) -> int:
-    """Explains each refusal, and of one for a key the rows. The status is 1 where there is one."""
-    found = read_fit(options, shows_refusals=True).answers
-    found_marks, replay = marks.Marks(found), Replay()
-    for answer, replay in marks.walk(found):
-        found_marks.look(answer, replay)
-        if answer.refusal:
-            streams.show_lines([refusals.described(answer)])
-            if answer.refusal.name == "KeyOverlap":
-                streams.show_lines(f"  {line}" for line in overlaps.explained(replay, answer))
-    for mark in found_marks.end(replay):
+    """Explains each refusal, and one for a key by the rows. The status is 1 if there is one."""
+    found = read(options, shows_refusals=True)
+    refused = [answer for answer in found.answers if answer.refusal]
+    rows = overlaps.explained(found.past, refused)
+    for answer in refused:
+        streams.show_lines([refusals.described(answer), *(f"  {line}" for line in rows.get(answer.number, []))])
+    for mark in marks.of(found.answers, found.past):
         warn_of_mark(mark)
-    return 1 if any(answer.refusal for answer in found) else 0
+    return 1 if refused else 0
 
 
 def do_only(options: Namespace) -> None:
-    found = read_fit(options).answers
-    show(records.to_record(single.command_for(found, options.table, options.row_id, options.set)) + "\n")
+    found = read(options)
+    history.refuse_missing(found.answers, options.table)
+    command = single.command_for(found.past, options.table, options.row_id, options.set)
+    show(records.to_record(command) + "\n")
 
 
 def do_faulty(options: Namespace) -> int:
@@ -286,9 +280,6 @@ def words_of_page(parser: ArgumentParser) -> None:
     parser.add_argument("pick", nargs="*", metavar="PICK=NAME", default=[], help="names an answer's question")
     parser.add_argument("--title", default="", metavar="TEXT", help="the page's title")
     parser.add_argument("--note", default="", metavar="TEXT", help="a note at its top")
-    parser.add_argument(
-        "--once", action="store_true", help="doesn't compute the answers a second time, and the page says so",
-    )
     words_of_looks(parser, "amounts such as 1.234,50")
 
 
@@ -355,8 +346,8 @@ and then by start, `-` first."""
 OF_HISTORY = "With --diary each commit has the day on which it was entered."
 OF_PAGE = f"""It is one file that needs no network: `{called.ANSWERS} page SCRIPT > audit.html`. It has what was refused
 and what changed nothing, commits, questions with tables and pictures, what was said then beside what is said now, and
-what each table held; with --diary commits have their days. Each answer is computed a second time, and if one differs
-no page is made. The status is that of `list`."""
+what each table held; with --diary commits have their days. The program is run twice, and if it doesn't print the same
+bytes again, no page is made. The status is that of `list`."""
 TOOLS: Dict[str, Tool] = {
     "list": Tool(do_list, "lists each answer with its number, its line and its command", more=OF_LIST),
     "csv": Tool(
@@ -415,7 +406,8 @@ def parser_of(name: str, tool: Tool) -> ArgumentParser:
     )
     if tool.has_answers:
         parser.add_argument(
-            "--answers", type=filled, metavar="FILE", help="the answers, or - for standard input; no program is run",
+            "--answers", type=filled, metavar="FILE",
+            help="answers that were kept, or - for standard input: the program must print the same bytes again",
         )
         parser.add_argument(
             "--ask", action="append", default=[], metavar="[NAME=]COMMAND",
@@ -477,9 +469,5 @@ def options_of(name: str, words: Sequence[str]) -> Namespace:
 def refuse_words(tool: Tool, options: Namespace) -> None:
     """Refuses what the tool would do nothing with."""
     printed.refuse_words(options)
-    if not tool.has_answers:
-        return
-    if not tool.has_names(options):
+    if tool.has_answers and not tool.has_names(options):
         refuse_names("--ask", options.ask)
-    if options.program and options.answers is not None:
-        raise Misfit("--program can't be given with --answers: no program is run then")

@@ -5,33 +5,34 @@ from pathlib import Path
 from typing import Dict, List, NamedTuple, Optional, Sequence
 
 from ruzgalt import answers
-from ruzgalt.answers import Answer, asking, diary, history, picks
-from ruzgalt.checking import fitting, refusals, replay
+from ruzgalt.answers import Answer, asking, diary, front, history, picks
+from ruzgalt.answers.past import Beginnings, Past
+from ruzgalt.checking import refusals
 from ruzgalt.commands import called, streams
-from ruzgalt.commands.progress import Progress
 from ruzgalt.errors import Misfit
 from ruzgalt.script import questions, records
+from ruzgalt.script.reader import Source
 
 
 EMPTY = "the script is empty: it has no command"
 
 
 class Found(NamedTuple):
-    """What was read: all answers, those to the questions put after the script, and whether the program was asked."""
+    """All answers, those to the questions of --ask with their names by the answers' numbers, and what comes after."""
 
     answers: List[Answer]
     asked: List[Answer]
-    is_own: bool
-    # The names of those that were asked with one, by their answers' numbers.
     names: Dict[int, str]
+    # Runs the program again with more questions.
+    past: Past
     output: bytes
 
 
 def read(options: Namespace, shows_refusals: bool = False, script: Optional[bytes] = None) -> Found:
-    """The answers to the script, which is read where it isn't given. Ends where a command was refused and isn't to be
-    passed over.
+    """Returns the program's answers to the script, which is read if it isn't given.
 
-    A question that is asked just now isn't passed over, since another one's answer would stand in its place.
+    Raises Misfit if a command was refused, unless refusals are shown or passed over; if a question of --ask was
+    refused, in whose place another answer would be shown; or if answers that were kept aren't the program's.
     """
     if options.script == options.answers == "-":
         raise Misfit("standard input can't be both the script and its answers")
@@ -40,18 +41,18 @@ def read(options: Namespace, shows_refusals: bool = False, script: Optional[byte
     options.ask = by_commits(options, [question for _, question in named], shows_refusals, script)
     text, own_lines = questions.put_behind(script, options.ask)
     # The program works while the script is read.
-    running = asking.Running(options.program, text) if options.answers is None else None
+    running = asking.Running(options.program, text)
     try:
         begun = questions.commands_of(text, options.ask, own_lines)
     except Misfit:
-        if running:
-            running.stop()
+        running.stop()
         raise
     if all(command.record.is_asked for command in begun):
         warn(EMPTY)
-    output = running.output() if running else bytes_of(options.answers)
-    with Progress(called.ANSWERS_SAY) as advance:
-        found = answers.of_commands(begun, output, running is not None, advance)
+    output = running.output()
+    if options.answers is not None:
+        front.refuse_others(options.answers, bytes_of(options.answers), output)
+    found = answers.of_commands(begun, output)
     if not shows_refusals:
         end_where_refused(found, options.go_on)
     if options.diary is not None:
@@ -59,7 +60,8 @@ def read(options: Namespace, shows_refusals: bool = False, script: Optional[byte
         history.refuse_no_diary(found, options.diary)
     asked = [answer for answer in found if answer.command.record.is_asked]
     names = names_of(asked, [name for name, _ in named], questions.lines_of(options.ask, own_lines or 0))
-    return Found(found, asked, options.answers is None, names, output)
+    past = Past(options.program, Source(text), output, begun, found)
+    return Found(found, asked, names, past, output)
 
 
 def end_where_refused(found: Sequence[Answer], goes_on: bool) -> None:
@@ -79,22 +81,15 @@ def by_commits(options: Namespace, asked: Sequence[str], shows_refusals: bool, s
     dated = [question for question in asked if points[question]]
     if not dated:
         return list(asked)
-    refuse_days(options, dated[0])
-    own = read(Namespace(**{**vars(options), "ask": []}), shows_refusals, script)
-    commits = diary.commits_at(own.answers, options.diary, chain.from_iterable(points.values()))
+    if options.diary is None:
+        shown = records.short(dated[0].strip())
+        raise Misfit(f"{shown}: asof takes a commit's number; with --diary TABLE it also takes a day")
+    own = read(Namespace(**{**vars(options), "ask": [], "answers": None}), shows_refusals, script)
+    [rows] = own.past.ask(f"rows,{options.diary}")
+    commits = diary.commits_at(rows, chain.from_iterable(points.values()))
     for point, commit in commits.items():
         warn(f"asof {point} is commit {commit}, by {options.diary}")
     return [questions.with_commits(question, commits) for question in asked]
-
-
-def refuse_days(options: Namespace, question: str) -> None:
-    """Raises Misfit where a question as of a day can't be asked."""
-    shown = records.short(question.strip())
-    if options.diary is None:
-        raise Misfit(f"{shown}: asof takes a commit's number; with --diary TABLE it also takes a day")
-    if options.answers is not None:
-        remedy = "give a number, or leave --answers out"
-        raise Misfit(f"{shown}: asof takes no day with --answers, since the diary needs a run of its own: {remedy}")
 
 
 def names_of(asked: Sequence[Answer], names: Sequence[str], lines: Sequence[int]) -> Dict[int, str]:
@@ -120,14 +115,6 @@ def refuse_names(option: str, words: Sequence[str]) -> None:
             raise picks.nameless(f"{option} {records.short(word)}", records.short(question))
 
 
-def read_fit(options: Namespace, shows_refusals: bool = False) -> Found:
-    """What `read` gives to who looks at all answers: refuses those from a file that aren't to this script."""
-    found = read(options, shows_refusals)
-    if not found.is_own:
-        fitting.refuse_unfit(found.answers, found.answers)
-    return found
-
-
 def bytes_of(name: str) -> bytes:
     return streams.given() if name == "-" else Path(name).read_bytes()
 
@@ -147,10 +134,8 @@ def picked(found: Found, words: Sequence[str]) -> List[picks.Pick]:
 
 
 def look_at(found: Found, taken: Sequence[Answer]) -> None:
-    """Refuses answers that aren't to this script, unless the program has just been asked, and reports empty pasts."""
-    if not found.is_own:
-        fitting.refuse_unfit(found.answers, taken)
-    beginnings = replay.Beginnings(found.answers)
+    """Reports answers as of a commit before their table had rows."""
+    beginnings = Beginnings(found.answers)
     for answer in taken:
         for past in beginnings.notes_of(answer):
             warn(f"{answer.place}: {records.short(answer.command.text)}: {past}")

@@ -2,10 +2,10 @@
 from argparse import ArgumentParser, Namespace
 from typing import Tuple
 
-from ruzgalt.answers import export, next_script
+from ruzgalt.answers import export, history, next_script
 from ruzgalt.checking import raises
 from ruzgalt.commands import streams
-from ruzgalt.commands.given import last, read, read_fit, warn
+from ruzgalt.commands.given import last, read, warn
 from ruzgalt.commands.words import filled, pair, words_of_where
 from ruzgalt.errors import Misfit
 from ruzgalt.periods.rounding import ROUNDINGS
@@ -58,11 +58,13 @@ def words_of_raise(parser: ArgumentParser) -> None:
 
 
 def do_raise(options: Namespace) -> None:
-    found = read_fit(options)
+    found = read(options)
+    history.refuse_missing(found.answers, options.table)
     wish = raises.Wish(
         options.table, options.column, options.percent, options.start, options.end, options.where, options.rounding,
     )
-    made = raises.Raise(found.answers, wish)
+    [rows] = found.past.ask(f"rows,{options.table}")
+    made = raises.Raise(rows, wish)
     for note in made.notes():
         warn(note)
     if options.dry_run:

@@ -3,10 +3,10 @@ import shutil
 import sys
 from argparse import ArgumentParser, ArgumentTypeError, Namespace
 from pathlib import Path
-from typing import Sequence
 
 from ruzgalt.answers import Answer
 from ruzgalt.answers.amounts import Amounts
+from ruzgalt.answers.past import Past
 from ruzgalt.commands.words import decimals, filled, words_of_where
 from ruzgalt.errors import Misfit
 from ruzgalt.pictures import figures, svg, terminal
@@ -40,7 +40,7 @@ def pixels(word: str) -> int:
     return int(word)
 
 
-def drawn(found: Sequence[Answer], answer: Answer, options: Namespace) -> str:
+def drawn(past: Past, answer: Answer, options: Namespace) -> str:
     """The picture of an answer, as SVG or as text."""
     if options.height and not options.svg:
         raise Misfit("--height needs --svg: text has as many lines as it takes")
@@ -49,7 +49,7 @@ def drawn(found: Sequence[Answer], answer: Answer, options: Namespace) -> str:
     amounts = Amounts(options.decimals, options.german)
     name = "" if options.script == "-" else Path(options.script).name
     wish = figures.Wish(options.by, options.label, options.where, options.start, options.end, amounts, name)
-    picture = figures.of(found, answer, wish)
+    picture = figures.of(answer, wish, past.versions)
     if options.svg:
         return svg.draw(picture, options.width, options.height)
     return terminal.draw(picture, options.width or columns_of_terminal())

@@ -56,7 +56,7 @@ def answers_of(data: bytes, workers: int) -> List[Answer]:
     output = running.answer([data], workers).tobytes()
     with long_fields():
         try:
-            found = answers.of_commands(commands.commands(Source(data)), output, is_own=True)
+            found = answers.of_commands(commands.commands(Source(data)), output)
         except Misfit as misfit:
             raise unreadable(misfit) from None
         reason = reason_of([one for one in found if one.refusal and not one.command.form.is_query])

@@ -6,7 +6,7 @@ from typing import TYPE_CHECKING, Any, Iterable, Iterator, Optional, Sequence, T
 import numpy as np
 
 from ruzgalt.answers import changes, history
-from ruzgalt.checking.replay import Row, Version
+from ruzgalt.answers.past import Version
 from ruzgalt.frames import points, script
 from ruzgalt.frames.answer import Column, Columns
 from ruzgalt.frames.arrays import Cells, Ints, equal_to, of_objects
@@ -54,10 +54,7 @@ def history_of(asked: Asked, name: str, where: Any, commits: range, is_retroacti
 
 
 def versions_of(asked: Asked, table: Table, wanted: Sequence[Tuple[int, str]]) -> Iterator[Version]:
-    """All versions of the table's rows that have some values, each by its column's place.
-
-    They are as the tools know them when they have done all changes again.
-    """
+    """Yields all versions of the table's rows that have some values, each by its column's position."""
     question = script.command("between", table.name, "0", str(len(asked.book.commands)))
     columns = asked.book.answer(question).block("ippcc" + table.readers)
     for place, value in wanted:
@@ -67,9 +64,7 @@ def versions_of(asked: Asked, table: Table, wanted: Sequence[Tuple[int, str]]) -
     ids, start, end, made, closed, *cells = columns
     rows = rows_of(start, end, cells)
     for row_id, row, first, last in zip(ids.tolist(), rows, made.tolist(), closed.tolist()):
-        version = Version(row_id, Row(*row, 0), first)
-        version.closed = None if last < 0 else last
-        yield version
+        yield Version(row_id, row[0], row[1], first, None if last < 0 else last, row[2])
 
 
 def rows_of(start: Ints, end: Ints, cells: Sequence[Cells]) -> Iterator[changes.Held]:

@@ -6,11 +6,13 @@ import re
 import tempfile
 from contextlib import contextmanager
 from dataclasses import dataclass
+from functools import partial
 from pathlib import Path
 from typing import TYPE_CHECKING, Any, Iterator, Mapping, Optional, Sequence, Union
 
 from ruzgalt import answers
 from ruzgalt.answers import Answer
+from ruzgalt.answers.past import Versions, versions_of
 from ruzgalt.commands import answers_tool, files
 from ruzgalt.errors import Misfit
 from ruzgalt.frames import checks, instants, running
@@ -214,11 +216,15 @@ class Written:
         wanted = [] if where is None else checks.records("where", where)
         with refusing():
             wish = figures.Wish(by, label, wanted, limits[0], limits[1])
-            return Picture(svg.draw(figures.of(found, found[-1], wish), width, None))
+            return Picture(svg.draw(figures.of(found, wish, partial(versions_in, self.seen())), width, None))
 
 
-def answered(book: Book, question: Any) -> Sequence[Answer]:
-    """The answers to all changes, and to a question after them. Raises Refused, Stopped."""
+def versions_in(book: Book, name: str) -> Versions:
+    return Versions(answered(book, versions_of(name)))
+
+
+def answered(book: Book, question: Any) -> Answer:
+    """Returns the answer to a question after all changes. Raises Refused, Stopped."""
     if not isinstance(question, str):
         raise checks.wrong("question", question, "must be a question of the language, such as 'rows,pay'")
     with refusing():
@@ -229,7 +235,7 @@ def answered(book: Book, question: Any) -> Sequence[Answer]:
         raise checks.wrong("question", question, "must be one question, not a change")
     output = running.answer([text], book.workers).tobytes()
     try:
-        found = answers.of_commands(begun, output, is_own=True)
+        found = answers.of_commands(begun, output)
     except Misfit as misfit:
         raise unreadable(misfit) from None
     for place, one in enumerate(found[:-1]):
@@ -238,7 +244,7 @@ def answered(book: Book, question: Any) -> Sequence[Answer]:
             raise book.refusal(place, ["error", "", one.refusal.name])
     if found[-1].refusal:
         raise refusal(Command(begun[-1].record.fields, []), ["error", "", found[-1].refusal.name])
-    return found
+    return found[-1]
 
 
 @contextmanager

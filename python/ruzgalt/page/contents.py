@@ -8,7 +8,7 @@ from ruzgalt.answers.shown import Look
 from ruzgalt.commands import called
 from ruzgalt.commands.given import EMPTY
 from ruzgalt.page import drawings, findings, pairs
-from ruzgalt.page.sources import CLOSED, MADE, VALUES, Marked, Sources, Tally, tally
+from ruzgalt.page.sources import VALUES, Marked, Sources
 from ruzgalt.pictures import figures
 from ruzgalt.script.language import CHANGES
 from ruzgalt.script.records import short
@@ -47,13 +47,12 @@ class Room:
 
 def of(sources: Sources, diary: Optional[str]) -> Contents:
     """The contents. With a diary the commits have its days."""
-    counts = tally(list(sources.versions.values()))
     parts = Parts(sources)
     asked = list(filter(picks.is_asked, sources.answers))
     kept = parts.first(asked, QUESTIONS, "questions")
     days = days_of(sources, diary)
-    commits = list(commits_of(sources, counts, days))
-    found = findings.of(sources, counts)
+    commits = list(commits_of(sources, days))
+    found = findings.of(sources)
     doubtful = [*doubts_of(sources, diary, days), *found.doubtful]
     sources.look.refuse_strangers(*(answer.table for answer in kept), *sources.versions.values())
     data = {
@@ -61,7 +60,7 @@ def of(sources: Sources, diary: Optional[str]) -> Contents:
         "hasLastDays": sources.look.has_last_days,
         "script": as_object(sources.script), "scriptWord": sources.word, "command": sources.command,
         "files": [as_object(file) for file in sources.files],
-        "isOwn": sources.is_own, "isDoneAgain": sources.is_done_again, "hasPrinted": sources.has_printed,
+        "version": sources.version, "kept": as_object(sources.kept) if sources.kept else None,
         "tool": called.ANSWERS, "isInstalled": called.IS_INSTALLED, "answers": len(sources.answers),
         "refused": as_objects(found.refused), "idle": as_objects(found.idle), "doubtful": as_objects(doubtful),
         "counts": counts_of(found, len(doubtful) - len(found.doubtful), len(asked)),
@@ -105,7 +104,7 @@ class Parts:
         for answer in kept:
             has_all = self.add_records(answer, room, shown)
             is_past = drawn == PICTURES and figures.is_drawn(answer)
-            drawing = NO_ROOM if is_past else drawings.of(self.sources.answers, answer, self.sources.look.amounts)
+            drawing = NO_ROOM if is_past else drawings.of(answer, self.sources.look.amounts, self.sources.past)
             drawn += drawing.tree is not None
             yield {
                 "number": answer.number, "place": answer.place, "command": short(answer.command.text),
@@ -157,8 +156,7 @@ def days_of(sources: Sources, diary: Optional[str]) -> history.Days:
     if diary is None:
         return []
     history.refuse_missing(sources.answers, diary)
-    open_rows = (record for record in sources.versions[diary].texts() if not record[CLOSED])
-    return history.days_of(sources.tables[diary], ([*row[1:MADE], *row[VALUES:]] for row in open_rows))
+    return history.days_in(sources.past.versions(diary))
 
 
 def doubts_of(sources: Sources, diary: Optional[str], days: history.Days) -> Iterator[findings.Finding]:
@@ -170,7 +168,7 @@ def doubts_of(sources: Sources, diary: Optional[str], days: history.Days) -> Ite
         yield findings.Finding(f"--diary {diary}", "", "", reason, [])
 
 
-def commits_of(sources: Sources, counts: Tally, days: Sequence[Tuple[str, int]]) -> Iterator[List[str]]:
+def commits_of(sources: Sources, days: Sequence[Tuple[str, int]]) -> Iterator[List[str]]:
     """Of each commit: its number, its day, where its command stands and what it is, and what it did."""
     for answer in sources.answers:
         command = answer.command
@@ -179,7 +177,7 @@ def commits_of(sources: Sources, counts: Tally, days: Sequence[Tuple[str, int]])
             more = f" ({len(command.rows):,} rows)" if command.word == "load" else ""
             yield [
                 str(number), history.day_of(days, number) or "", answer.place, short(command.text) + more,
-                str(counts.added[number]), str(counts.closed[number]),
+                *map(str, sources.past.counts[number]),
             ]
 
 

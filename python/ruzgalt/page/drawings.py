@@ -1,11 +1,12 @@
 """The pictures of answers as trees of elements: what a browser makes of them it needn't read as XML."""
 import re
 import xml.etree.ElementTree
-from typing import Any, Dict, List, NamedTuple, Optional, Sequence
+from typing import Any, Dict, List, NamedTuple, Optional
 from xml.etree.ElementTree import Element
 
 from ruzgalt.answers import Answer
 from ruzgalt.answers.amounts import Amounts
+from ruzgalt.answers.past import Past
 from ruzgalt.commands import called
 from ruzgalt.errors import Misfit
 from ruzgalt.pictures import figures, svg
@@ -32,7 +33,7 @@ class Drawing(NamedTuple):
     why: str = ""
 
 
-def of(found: Sequence[Answer], answer: Answer, amounts: Amounts) -> Drawing:
+def of(answer: Answer, amounts: Amounts, past: Past) -> Drawing:
     if not figures.is_drawn(answer):
         return Drawing(None)
     count = len(answer.table.records)
@@ -43,16 +44,11 @@ def of(found: Sequence[Answer], answer: Answer, amounts: Amounts) -> Drawing:
         return Drawing(None, why)
     try:
         wish = figures.Wish(amounts=amounts.known_to(answer.table))
-        text = svg.draw(figures.of(of_one_table(found, answer), answer, wish), WIDTH)
+        text = svg.draw(figures.of(answer, wish, past.versions), WIDTH)
     except Misfit:
         return Drawing(None, "No picture of several facts in one: each has its own under Tables over time.")
     prefix = f"p{answer.number}-"
     return Drawing(tree_of(xml.etree.ElementTree.fromstring(text), prefix))
-
-
-def of_one_table(found: Sequence[Answer], answer: Answer) -> List[Answer]:
-    """The answers on the table of a division, whose rows need no others."""
-    return [one for one in found if one.command.record.fields[1:2] == answer.command.front[1:2]]
 
 
 def tree_of(element: Element, prefix: str) -> List[Any]:

@@ -13,22 +13,16 @@ function fileText(file) {
 
 function answeredBy() {
   const [command, program] = data.files;
-  if (!data.isOwn) {
-    return ["no program was run: the answers were read from ", ...fileText(command)];
-  }
   if (!command) {
     return ["a program whose file can't be read"];
   }
-  return program ? [...fileText(command), ", which runs ", ...fileText(program)] : fileText(command);
+  const version = data.version ? [`version ${data.version}: `] : [];
+  return [...version, ...fileText(command), ...(program ? [", which runs ", ...fileText(program)] : [])];
 }
 
-function doneAgain() {
-  if (!data.isDoneAgain) {
-    return "No. The program's answers stand here as it printed them.";
-  }
-  const refused = data.refused.length ? " but the refusals" : "";
-  return `Yes: the script's changes were done once more in Python, and each of ${counted(data.answers, "answer")}${refused} was `
-    + "compared with what they give, computed in another way. All are the same.";
+function runAgain() {
+  const again = `Yes: it was run twice, and printed the same bytes to ${counted(data.answers, "answer")}.`;
+  return data.kept ? [again, " They are the bytes of ", ...fileText(data.kept), "."] : [again];
 }
 
 function showHead() {
@@ -42,7 +36,7 @@ function showHead() {
   const findings = [[refused, "refused"], [idle, "touched nothing"], [doubtful, "may not be meant"]];
   const short = findings.map(([count, what]) => `${grouped(count)} ${what}`).join(", ");
   const counts = `${counted(data.newest, "commit")}, ${counted(questions, "question")}; ${short}.`;
-  const facts = [["Script", fileText(data.script)], ["Answered by", answeredBy()], ["Done again", [doneAgain()]], ["In short", [counts]]];
+  const facts = [["Script", fileText(data.script)], ["Answered by", answeredBy()], ["Run again", runAgain()], ["In short", [counts]]];
   for (const [what, text] of facts) {
     document.getElementById("facts").append(make("dt", {}, what), make("dd", {}, ...text));
   }
@@ -215,11 +209,8 @@ function showQuestions() {
 // --- Tables, and what the page is ---
 
 function showTables() {
-  const source = data.hasPrinted
-    ? "What is shown here is found in this page from versions that the program printed: behind the script it was asked "
-      + "between,TABLE,0,1000000 for each table."
-    : `What is shown here is found in this page from versions that ${data.tool} made when it did the script's changes once `
-      + "more. The program wasn't asked for them.";
+  const source = "What is shown here is found in this page from versions that the program printed: after the script it was "
+    + "asked between,TABLE,0,1000000 for each table.";
   const times = "Two times are kept apart: the day for which a row holds, and the commit from which on the store knew it.";
   section("tables", make("p", {}, source), make("p", {}, times));
   section("tables", ...(data.tables.length ? data.tables.map(tableOf) : [make("p", {}, "The script makes no table.")]));
@@ -231,8 +222,8 @@ function showAbout() {
     : `It was made by ${data.tool} of a clone of the repository; dipq-answers as it is installed names other commands.`;
   const left = data.leftOut.length ? data.leftOut : ["nothing"];
   section("about",
-    make("p", {}, "This page is one file, and asks no network. The same script and the same program, or answers, give the same "
-      + `page, byte by byte, by the same tool. ${made} So whoever has them makes it once more, and compares:`),
+    make("p", {}, "This page is one file, and asks no network. The same script and the same program give the same page, byte by "
+      + `byte, by the same tool. ${made} So whoever has them makes it once more, and compares:`),
     make("p", {}, make("code", {}, `sha256sum ${data.scriptWord}\n${data.command} > again.html\ncmp again.html PAGE`)),
     make("p", {}, "A period begins with its first point and ends before its second; 9999-12-31 stands for an end that isn't "
       + "known. Records are sorted and filtered in the page alone. What is saved as CSV has all records of a table that are in "

@@ -1,33 +1,24 @@
-"""Which script a page is of, who answered it, and each version of each of its tables."""
+"""Which script a page is of, which program answered it, and all versions of its tables."""
 import hashlib
 from argparse import Namespace
-from collections import Counter
 from pathlib import Path
-from typing import Counter as Counts
 from typing import Dict, List, NamedTuple, Optional, Sequence
 
+from ruzgalt import version, which
 from ruzgalt.answers import Answer, picks
+from ruzgalt.answers.past import Past, versions_of
 from ruzgalt.answers.shown import Look
-from ruzgalt.checking import fitting
-from ruzgalt.checking.again import texts_of
-from ruzgalt.checking.replay import Replay, behind
 from ruzgalt.commands import called, shell
-from ruzgalt.commands.given import Found, bytes_of, read
+from ruzgalt.commands.given import bytes_of, read
 from ruzgalt.commands.words import look_of
 from ruzgalt.errors import Misfit
-from ruzgalt.script.commands import commands
-from ruzgalt.script.forms import is_name
-from ruzgalt.script.questions import commands_of, named, put_behind
-from ruzgalt.script.reader import Source
 from ruzgalt.script.records import short
-from ruzgalt.script.schemas import PERIOD, Schema, Table, ints, unique
+from ruzgalt.script.schemas import Schema, Table
 
-# No commit has a greater number.
-NEWEST = 1_000_000
 # Where the program's own file stands, seen from the command that runs it: in the repository, and installed.
 PROGRAMS = ("crates/dipq/out/dipq", "../libexec/dipq/dipq")
-# The places in a version of the commit that made it, of the one that closed it, and of the first of its values.
-MADE, CLOSED, VALUES = 3, 4, 5
+# The position of the first value in a version.
+VALUES = 5
 
 
 class Marked(NamedTuple):
@@ -46,13 +37,13 @@ class Sources(NamedTuple):
     word: str
     command: str
     answers: List[Answer]
-    # What answered: the command and the program that it runs, or the file of the answers.
+    # What answered: the command, and the program that it runs if that is another file.
     files: List[Marked]
-    is_own: bool
-    is_done_again: bool
-    # The versions of each table, and whether the program printed them: else they are of the changes, done again.
-    versions: Dict[str, Table]
-    has_printed: bool
+    # The version of an installed program. Empty if the program is built in a clone.
+    version: str
+    # The file of answers, if there is one.
+    kept: Optional[Marked]
+    past: Past
     # The names of questions that have one, by their answers' numbers.
     names: Dict[int, str]
     # What stands above all, and how amounts and ends are shown.
@@ -62,7 +53,12 @@ class Sources(NamedTuple):
 
     @property
     def tables(self) -> Dict[str, Schema]:
-        return self.answers[-1].tables if self.answers else {}
+        return self.past.tables
+
+    @property
+    def versions(self) -> Dict[str, Table]:
+        """The answer to `between` of each table, with all its versions."""
+        return {name: answer.table for name, answer in zip(self.tables, self.past.ask(*map(versions_of, self.tables)))}
 
 
 def marked(name: str, data: bytes) -> Marked:
@@ -77,47 +73,17 @@ def files_of(program: str) -> List[Marked]:
     return [marked(file.name, file.read_bytes()) for file in files if file.is_file()][:2]
 
 
-def questions_for(script: bytes) -> List[str]:
-    """What is asked after the script for each version of its tables: nothing, where its end would take the question.
-
-    A table that is refused is asked for too, and that is refused.
-    """
-    made = [command.record.fields for command in commands(Source(script)) if command.word == "table"]
-    names = dict.fromkeys(fields[1] for fields in made if len(fields) > 1 and is_name(fields[1]))
-    asked = [f"between,{name},0,{NEWEST}" for name in names]
-    text, own_lines = put_behind(script, asked)
-    try:
-        commands_of(text, asked, own_lines)
-    except Misfit:
-        return []
-    return asked
-
-
 def ask(options: Namespace) -> Sources:
-    """The sources of a page of this script. Where the program answers, it is asked for versions after the script, and
-    answers are done again but where that isn't wanted. Raises Misfit where one isn't what the changes give.
-    """
-    if options.once and options.answers is not None:
-        raise Misfit("--once can't be given with --answers: answers of a file are always compared")
-    script = bytes_of(options.script)
-    words = list(options.ask)
-    asked = [question for _, question in map(named, words)]
-    versions = questions_for(put_behind(script, asked)[0]) if options.answers is None else []
-    options.ask = [*options.ask, *versions]
+    """Returns the sources of a page of this script. Raises Misfit if the program doesn't print the same bytes twice."""
+    script, words = bytes_of(options.script), list(options.ask)
     found = read(options, shows_refusals=True, script=script)
-    files = files_of(options.program) if found.is_own else [marked(options.answers, found.output)]
-    is_done_again = not options.once
-    replay = behind(found.answers)
-    if is_done_again:
-        refuse_others(found, replay)
-    own = found.answers[:len(found.answers) - len(versions)]
-    printed = {one.command.front[1]: one.table for one in found.answers[len(own):] if not one.refusal}
-    tables = own[-1].tables if own else {}
-    made = {name: printed[name] if name in printed else done_again(replay, tables[name]) for name in tables}
+    found.past.ask("log", *map(versions_of, found.past.tables))
+    kept = None if options.answers is None else marked(options.answers, found.output)
+    mark, names = marked(options.script, script), named_by(found.answers, options.pick, found.names)
     word, command = shell.quoted(word_of(options.script)), command_of(options, words)
-    mark, names = marked(options.script, script), named_by(own, options.pick, found.names)
-    kept = Sources(mark, word, command, own, files, found.is_own, is_done_again, made, bool(printed), names)
-    return kept._replace(title=options.title, note=options.note, look=look_of(options))
+    installed = version.version() if options.program == which.own() and version.WRITTEN.is_file() else ""
+    made = Sources(mark, word, command, found.answers, files_of(options.program), installed, kept, found.past, names)
+    return made._replace(title=options.title, note=options.note, look=look_of(options))
 
 
 def named_by(found: Sequence[Answer], words: Sequence[str], names: Dict[int, str]) -> Dict[int, str]:
@@ -143,46 +109,10 @@ def command_of(options: Namespace, asked: Sequence[str]) -> str:
     words.extend(["--note", options.note] if options.note else [])
     words.extend(word for name, digits in options.decimals for word in ("--decimals", f"{name}={digits}"))
     words.extend([*["--german"] * options.german, *["--last-day"] * options.last_day])
-    return shell.joined([*words, *(["--once"] if options.once else [])])
+    return shell.joined(words)
 
 
 def word_of(file: str) -> str:
     """The file in the folder of a shell, for which no option is taken."""
     name = Path(file).name if file != "-" else file
     return f"./{name}" if name.startswith("-") and file != "-" else name
-
-
-def refuse_others(found: Found, replay: Replay) -> None:
-    if not found.is_own:
-        fitting.refuse_unfit(found.answers, found.answers)
-        return
-    for answer in found.answers:
-        difference = None if answer.refusal else fitting.fault(found.answers, replay, answer)
-        if difference:
-            text = f"{answer.place}: {short(answer.command.text)}: {difference}"
-            raise Misfit(f"{text}: the program's answer differs from what its changes give, done again")
-
-
-def done_again(replay: Replay, schema: Schema) -> Table:
-    """The versions of a table, as `between` prints them."""
-    records: List[List[Optional[str]]] = []
-    for version in replay.versions[schema.name]:
-        row_id, start, end, *values = texts_of(version)
-        closed = None if version.closed is None else str(version.closed)
-        records.append([row_id, start, end, str(version.made), closed, *values])
-    return Table(unique([*ints("row_id"), *PERIOD, *ints("sys_from", "sys_to"), *schema.columns]), records)
-
-
-class Tally(NamedTuple):
-    """How many versions each commit made, and how many it closed."""
-
-    added: Counts[int]
-    closed: Counts[int]
-
-
-def tally(versions: Sequence[Table]) -> Tally:
-    found = Tally(Counter(), Counter())
-    for table in versions:
-        found.added.update(int(record[MADE] or 0) for record in table.records)
-        found.closed.update(int(record[CLOSED] or 0) for record in table.records)
-    return found

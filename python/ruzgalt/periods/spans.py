@@ -1,22 +1,10 @@
-"""United periods, the gaps between them, and the pairs that overlap.
+"""United periods, and the gaps between them.
 
 A period holds from its first point on and before its second. Points are numbers, or texts in the order of time.
 """
-from dataclasses import dataclass
-from typing import Generic, Iterable, Iterator, List, Optional, Tuple, TypeVar
+from typing import Iterable, Iterator, Optional, Tuple, TypeVar
 
 Point = TypeVar("Point", int, str)
-Thing = TypeVar("Thing")
-
-
-@dataclass(frozen=True)
-class Pair(Generic[Point, Thing]):
-    """Two that overlap, with the time that they share."""
-
-    first: Thing
-    second: Thing
-    start: Point
-    end: Point
 
 
 def united(periods: Iterable[Tuple[Point, Point]]) -> Iterator[Tuple[Point, Point]]:
@@ -48,13 +36,3 @@ def gaps(
         reached = end if reached is None else max(reached, end)
     if within and reached is not None and reached < within[1]:
         yield reached, within[1]
-
-
-def overlapping(rows: Iterable[Tuple[Point, Point, Thing]]) -> Iterator[Pair[Point, Thing]]:
-    """The pairs of these rows, each with its start and end, that share a point."""
-    running: List[Tuple[Point, Point, Thing]] = []
-    for start, end, thing in sorted(rows, key=lambda row: row[0]):
-        running = [other for other in running if other[1] > start]
-        for _, other_end, other in running:
-            yield Pair(other, thing, start, min(end, other_end))
-        running.append((start, end, thing))

@@ -1,10 +1,10 @@
 """What there is to draw of an answer: bars in lanes, or steps. How it is drawn, terminal.py and svg.py know."""
 from collections import defaultdict
 from dataclasses import replace
-from typing import Dict, Iterable, List, Optional, Sequence, Tuple
+from typing import Callable, Dict, Iterable, List, Optional, Sequence, Tuple
 
 from ruzgalt.answers import Answer, conditions
-from ruzgalt.checking import replay
+from ruzgalt.answers.past import Versions
 from ruzgalt.errors import Misfit
 from ruzgalt.pictures.cells import in_line
 from ruzgalt.pictures.shapes import NOTHING, Bar, Bars, Groups, Picture, Step, Steps, counted
@@ -18,16 +18,18 @@ from ruzgalt.script.schemas import PERIOD, Kind, Table, group_of, ints, unique
 
 __all__ = ["NOTHING", "Bar", "Bars", "Groups", "Picture", "Steps", "Wish", "is_drawn", "of"]
 
+# Returns the versions of a table of this name.
+VersionsOf = Callable[[str], Versions]
 DRAWN = (Answered.DIVISION, Answered.ROWS, Answered.PAIRS, Answered.STEPS, Answered.VERSIONS)
 
 
-def of(answers: Sequence[Answer], answer: Answer, wish: Wish) -> Picture:
-    """The picture of an answer. Raises Misfit where there is none."""
+def of(answer: Answer, wish: Wish, versions: VersionsOf) -> Picture:
+    """Returns the picture of an answer. Raises Misfit if there is none. Versions are read for a division."""
     wish.limits()
     refuse_unused(answer, wish)
     answered = answer.command.form.answered
     if answered is Answered.DIVISION:
-        return division(answers, answer, wish)
+        return division(answer, wish, versions)
     if not is_drawn(answer):
         drawn = "a division, rows, a join, an aggregate or versions"
         raise Misfit(f"{answer.place}: {short(answer.command.text)}: no picture can be drawn of it, only of {drawn}")
@@ -64,25 +66,23 @@ def refuse_unused(answer: Answer, wish: Wish) -> None:
             raise Misfit(f"{answer.place}: {short(answer.command.text)}: its picture can't be drawn with --{word}")
 
 
-def division(answers: Sequence[Answer], answer: Answer, wish: Wish) -> Bars:
-    """A lane for each part, and the instant. The rows' periods are those that the script's changes have left."""
-    versions = {str(version.row_id): version.row for version in replay.rows_of(answers, answer)}
+def division(answer: Answer, wish: Wish, versions: VersionsOf) -> Bars:
+    """A lane for each part, with the periods of its rows; and the instant."""
+    rows = {str(row.row_id): row for row in versions(answer.command.front[1]).at(answer.commit)}
     table = Table(unique([*ints("row_id"), *PERIOD, *answer.tables[answer.command.front[1]].columns]))
     conditions.places(table, wish.where)
     wish.amounts.refuse_strangers(table)
-    if {record[1] for record in answer.table.texts()} != set(versions):
-        raise Misfit(f"{answer.place}: {short(answer.command.text)}: the ids aren't those of the table's rows")
     parts, records, instant = [], [], "-"
     for part, row_id, instant in answer.table.texts():
-        row = versions[row_id]
+        row = rows[row_id]
         parts.append(int(part))
         records.append(dict(zip(table.names, [row_id, row.start, row.end, *row.values])))
     kept = [(part, record) for part, record in zip(parts, records) if wish.wants(record)]
     labels = [wish.label or "row_id"]
     bars = [bar_of(record, part, wish.labelled(table, record, labels)) for part, record in kept]
     lanes = [f"part {part}" for part in range(max(parts, default=-1) + 1)]
-    rows = counted(len(records), "row") if len(kept) == len(records) else f"{len(kept):,} of {len(records):,} rows"
-    title = wish.title(answer, f"{rows} in {counted(len(lanes), 'part')}, {instant}")
+    count = counted(len(records), "row") if len(kept) == len(records) else f"{len(kept):,} of {len(records):,} rows"
+    title = wish.title(answer, f"{count} in {counted(len(lanes), 'part')}, {instant}")
     return Bars(title, span_for(bars, wish), lanes, bars, instant if read_point(instant) else None)
 
 

@@ -3,7 +3,7 @@ from dataclasses import dataclass, replace
 from typing import Iterator, List, Optional, Sequence, Tuple
 
 from ruzgalt.script.language import BLOCKS, COMMANDS, NONE, Form
-from ruzgalt.script.reader import Block, Reader, Skipped, Source
+from ruzgalt.script.reader import Block, Place, Reader, Skipped, Source
 from ruzgalt.script.records import Record
 
 
@@ -62,14 +62,17 @@ class Command:
         return self.block[:-1] if self.is_ended else self.block
 
 
-def commands(source: Source) -> Iterator[Command]:
-    """The commands of a script, in the order of their answers; those of a block of commands come after its first."""
-    reader = Reader(source)
+def commands(source: Source, number: int = 1) -> Iterator[Command]:
+    """Yields the commands of a script, in the order of their answers; a block's own command comes before the others.
+
+    The first record has this number.
+    """
+    reader = Reader(source, Place(1, number))
     for record in reader:
         if record.word == "together":
             place = reader.place
             inner, is_ended = commands_within(reader)
-            skipped = Skipped(reader.number - place.number, is_ended, set())
+            skipped = Skipped(reader.number - place.number, is_ended)
             yield Command(record, Block(source, place, skipped, reader.line), is_ended)
             if is_ended and len(record.fields) == 1:
                 yield from inner

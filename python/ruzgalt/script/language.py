@@ -1,8 +1,8 @@
-"""The commands of the language, by their words: the one table that says what a command is made of, what it is answered,
-and for what it may be refused. docs/LANGUAGE.md defines them.
+"""The commands of the language, by their words: the one table of what a command is made of and what it is answered.
+docs/LANGUAGE.md defines them.
 
-A new command is a line in COMMANDS, where the fields after its word, and its answer, are such as others have. All else
-that knows a command by its word does something of that one alone: done again, it is in checking/again.
+A new command is a line in COMMANDS if the fields after its word, and its answer, are such as others have. All other
+code that knows a command by its word does something of that one only.
 """
 from dataclasses import dataclass
 from enum import Enum, auto
@@ -52,19 +52,17 @@ class Answered(Enum):
 
 @dataclass(frozen=True)
 class Form:
-    """A command as it is shown to a person, its answer, the names by which it may be refused, and what it is made of.
+    """A command as it is shown to a person, its answer, and what it is made of.
 
-    behind  the fields after the table, where no word but that is before them
-    part    the word of each record of its block, which ends by `end`; refused by these names
+    behind  the fields after the table, if there is no word before them
+    part    the word of each record of its block, which ends by `end`
     """
 
     text: str
     answered: Answered
-    refusals: str
     fields: Fields = Fields.TABLE
     behind: Tuple[Role, ...] = ()
     part: str = ""
-    part_refusals: str = ""
 
     @property
     def has_suffix(self) -> bool:
@@ -81,52 +79,37 @@ class Form:
         """Whether it is answered by a table."""
         return self.answered not in (Answered.NOTHING, Answered.COMMIT, Answered.TOGETHER)
 
-    @property
-    def is_barred(self) -> bool:
-        """Whether a block of questions has none, but for one load."""
-        return self.answered in (Answered.COMMIT, Answered.LOG, Answered.TOGETHER)
 
-
-OF_QUERIES = "BadCommand BadName BadNumber Future NoTable"
-OF_COLUMNS = f"{OF_QUERIES} NoColumn WrongKind"
-OF_VERSIONS = "BadCommand BadName BadNumber BadPeriod NoTable"
-OF_PORTIONS = "BadCommand BadName BadPoint BadPeriod NoTable NoColumn BadNumber TooLong BadUtf8 Full"
 SIDES = "L,R[,on,LCOL,RCOL..][,asof,N]"
 SPAN = (Role.COUNT, Role.COUNT)
 COMMANDS: Dict[str, Form] = {
     "table": Form(
-        "table,T,COLUMN,KIND..[,key,COLUMN..] (KIND is int or text)", Answered.COMMIT,
-        "BadCommand BadName TooMany TwiceNamed NoColumn TableExists Full", Fields.SCHEMA,
+        "table,T,COLUMN,KIND..[,key,COLUMN..] (KIND is int or text)", Answered.COMMIT, Fields.SCHEMA,
     ),
-    "load": Form(
-        "load,T", Answered.COMMIT, "Unended BadCommand BadName NoTable Full KeyOverlap",
-        part="row", part_refusals="BadCommand WrongWidth BadPoint BadPeriod BadNumber TooLong BadUtf8",
-    ),
-    "log": Form("log", Answered.LOG, "BadCommand", Fields.NOTHING),
+    "load": Form("load,T", Answered.COMMIT, part="row"),
+    "log": Form("log", Answered.LOG, Fields.NOTHING),
     "update": Form(
-        "update,T,FROM,TO,set,COLUMN,VALUE..[,where,COLUMN,VALUE..]", Answered.COMMIT, f"{OF_PORTIONS} KeyOverlap",
-        Fields.PORTION,
+        "update,T,FROM,TO,set,COLUMN,VALUE..[,where,COLUMN,VALUE..]", Answered.COMMIT, Fields.PORTION,
     ),
-    "rows": Form("rows,T[,asof,N]", Answered.ROWS, OF_QUERIES),
-    "delete": Form("delete,T,FROM,TO[,where,COLUMN,VALUE..]", Answered.COMMIT, OF_PORTIONS, Fields.PORTION),
-    "at": Form("at,T,POINT[,asof,N]", Answered.ROWS, f"{OF_QUERIES} BadPoint", behind=(Role.POINT,)),
-    "between": Form("between,T,M,N", Answered.VERSIONS, OF_VERSIONS, behind=SPAN),
-    "fromto": Form("fromto,T,M,N", Answered.VERSIONS, OF_VERSIONS, behind=SPAN),
-    "join": Form(f"join,{SIDES}", Answered.PAIRS, OF_COLUMNS, Fields.TABLES),
-    "anti": Form(f"anti,{SIDES}", Answered.ROWS, OF_COLUMNS, Fields.TABLES),
-    "dip": Form("dip,T[,asof,N]", Answered.DIVISION, OF_QUERIES),
+    "rows": Form("rows,T[,asof,N]", Answered.ROWS),
+    "delete": Form("delete,T,FROM,TO[,where,COLUMN,VALUE..]", Answered.COMMIT, Fields.PORTION),
+    "at": Form("at,T,POINT[,asof,N]", Answered.ROWS, behind=(Role.POINT,)),
+    "between": Form("between,T,M,N", Answered.VERSIONS, behind=SPAN),
+    "fromto": Form("fromto,T,M,N", Answered.VERSIONS, behind=SPAN),
+    "join": Form(f"join,{SIDES}", Answered.PAIRS, Fields.TABLES),
+    "anti": Form(f"anti,{SIDES}", Answered.ROWS, Fields.TABLES),
+    "dip": Form("dip,T[,asof,N]", Answered.DIVISION),
     "agg": Form(
         "agg,T,count[,by,COLUMN][,asof,N], or agg,T,FUNC,COLUMN[,by,COLUMN][,asof,N] (FUNC is sum, min or max)",
-        Answered.STEPS, OF_COLUMNS, Fields.AGGREGATE,
+        Answered.STEPS, Fields.AGGREGATE,
     ),
     "check": Form(
-        "check,T,PARTS,INSTANT[,asof,N]", Answered.VERDICT, f"{OF_QUERIES} Unended BadPoint",
-        behind=(Role.COUNT, Role.POINT), part="part", part_refusals="BadCommand BadNumber",
+        "check,T,PARTS,INSTANT[,asof,N]", Answered.VERDICT, behind=(Role.COUNT, Role.POINT), part="part",
     ),
-    "together": Form("together", Answered.TOGETHER, "BadCommand Unended", Fields.NOTHING),
+    "together": Form("together", Answered.TOGETHER, Fields.NOTHING),
 }
 # Of a word that is none of these.
-NONE = Form("", Answered.NOTHING, "BadCommand")
+NONE = Form("", Answered.NOTHING)
 
 
 def words_of(*fields: Fields) -> Tuple[str, ...]:

@@ -6,7 +6,7 @@ from ruzgalt.errors import Misfit
 from ruzgalt.script import commands, records
 from ruzgalt.script.commands import Command
 from ruzgalt.script.forms import POINT
-from ruzgalt.script.reader import Reader, Source
+from ruzgalt.script.reader import Reader, Source, count_lines
 from ruzgalt.script.records import Record, short
 
 
@@ -96,8 +96,3 @@ def taker_of(found: List[Record], begun: List[Command], line: int) -> str:
         return f"{[record for record in found if record.line < line][-1].place}, where a quote is open"
     blocks = [one for one in begun if one.record.number < own <= one.record.number + len(one.block)]
     return f"{blocks[-1].place}, {short(blocks[-1].text)}, as a record of its block"
-
-
-def count_lines(text: bytes) -> int:
-    """The lines of a text that ends with a line end: LF, CR, or both of them."""
-    return text.count(b"\n") + text.count(b"\r") - text.count(b"\r\n")

@@ -10,7 +10,7 @@ from bisect import bisect_left
 from contextlib import contextmanager
 from itertools import accumulate
 from threading import RLock
-from typing import Callable, Iterator, List, NamedTuple, Optional, Sequence, Set, Tuple, Union, overload
+from typing import Callable, Iterator, List, NamedTuple, Optional, Sequence, Tuple, Union, overload
 
 from ruzgalt.errors import Misfit
 from ruzgalt.script.records import Record
@@ -90,11 +90,10 @@ class Source:
 
 
 class Skipped(NamedTuple):
-    """Records of a block that were passed over: how many, whether `end` is the last, how many fields others have."""
+    """How many records of a block were skipped, and whether the last one is its `end`."""
 
     size: int
     is_ended: bool
-    widths: Set[int]
 
 
 class Reader:
@@ -152,51 +151,42 @@ class Reader:
 
     def skip_block(self) -> Skipped:
         """Passes over the records up to the one that is just `end`, or to the last."""
-        count, is_ended, widths = 0, False, set()
+        count, is_ended = 0, False
         for fields in self.fields:
             if fields:
                 count += 1
                 if fields == END:
                     is_ended = True
                     break
-                widths.add(len(fields))
         self.line = self.first_line + self.csv.line_num
         self.number += count
-        return Skipped(count, is_ended, widths)
+        return Skipped(count, is_ended)
 
-    def pieces(self, first: Record, width: int) -> Iterator[List[List[str]]]:
-        """The fields of the first record and of those after it with its word and so many fields, by pieces."""
-        word, piece, count = first.word, [list(first.fields)], 0
-        for fields in self.fields:
-            if len(fields) == width and fields[0] == word:
-                piece.append(fields)
-                if len(piece) == PIECE:
-                    count += PIECE
-                    yield piece
-                    piece = []
-            elif fields:
-                self.line = self.first_line + self.csv.line_num
-                self.number += count + len(piece) - 1
-                self.held = self.made(self.line - 1 - sum(map(breaks_in, fields)), fields)
-                break
-        else:
-            self.number += count + len(piece) - 1
-        if piece:
-            yield piece
+    def after_list(self, first: Record) -> "Reader":
+        """Returns a reader after a list of records as dipq prints it, of which only the first one was read.
 
-    def at_list_end(self, first: Record) -> Optional["Reader"]:
-        """A reader at the `end,N` of a list as dipq prints it, of which pieces were read; None where there is none.
-
-        Where an even number of quotes stands before it, it stands in no field.
+        In a long list only the `end,N` is searched: it isn't in a field if the number of quotes before it is even.
         """
-        data, begun = self.source.data, self.source.byte_of(self.first_line + self.csv.line_num)
+        for count, fields in enumerate(self.fields, 1):
+            if fields[:1] != [first.word]:
+                self.line = self.first_line + self.csv.line_num
+                self.number += count - 1
+                self.held = self.made(self.line - 1 - sum(map(breaks_in, fields)), fields)
+                return self
+            if count == PIECE:
+                break
+        data, line = self.source.data, self.first_line + self.csv.line_num
+        begun = self.source.byte_of(line)
         for found in LIST_END.finditer(data, begun - 1):
-            byte = found.start() + 1
-            if data.count(b'"', begun, byte) % 2 == 0:
-                ends = [data.count(end, begun, byte) for end in (b"\n", b"\r", b"\r\n")]
-                line = self.first_line + self.csv.line_num + ends[0] + ends[1] - ends[2]
-                return Reader(self.source, Place(line, first.number + int(found[1])))
-        return None
+            end = found.start() + 1
+            if data.count(b'"', begun, end) % 2 == 0:
+                return Reader(self.source, Place(line + count_lines(data[begun:end]), first.number + int(found[1])))
+        return self
+
+
+def count_lines(text: bytes) -> int:
+    """Returns the number of lines of a text that ends with a line end: LF, CR, or both of them."""
+    return text.count(b"\n") + text.count(b"\r") - text.count(b"\r\n")
 
 
 def breaks_in(field: str) -> int:
@@ -218,11 +208,6 @@ class Block(Sequence[Record]):
     def __init__(self, source: Source, place: Place, skipped: Skipped, end: int) -> None:
         self.source, self.place, self.end, self.skipped = source, place, end, skipped
         self.size = skipped.size
-
-    @property
-    def widths(self) -> Set[int]:
-        """How many fields its records have, but for an `end`."""
-        return self.skipped.widths
 
     def bytes(self) -> bytes:
         """The lines on which its records stand, and an `end`."""

@@ -112,13 +112,14 @@ class Diaries(unittest.TestCase):
 
     def is_as_for_the_tools(self, script, plain):
         """tools/answers takes the same commits of the diary's table."""
-        found = answers.of(script, running.answer([script], 1).tobytes())
+        script += b"rows,diary\n"
+        *_, rows = answers.of(script, running.answer([script], 1).tobytes())
         for day in ((FIRST + datetime.timedelta(days=place)).isoformat() for place in range(-1, 11)):
             number = plain.newest(datetime.date.fromisoformat(day))
             if number is None:
-                self.assertRaises(Misfit, diary.commits_at, found, "diary", [day])
+                self.assertRaises(Misfit, diary.commits_at, rows, [day])
             else:
-                self.assertEqual(diary.commits_at(found, "diary", [day]), {day: number})
+                self.assertEqual(diary.commits_at(rows, [day]), {day: number})
 
     @MANY
     @given(STEPS)

@@ -1,0 +1,151 @@
+"""What the program says of the store after a script: all versions of its tables, and answers to more questions."""
+from functools import cached_property
+from typing import Dict, Iterator, List, NamedTuple, Optional, Sequence, Tuple
+
+from ruzgalt.answers import asking
+from ruzgalt.answers.reading import Answer, Reading
+from ruzgalt.errors import Misfit
+from ruzgalt.script import commands
+from ruzgalt.script.commands import Command
+from ruzgalt.script.language import Answered
+from ruzgalt.script.questions import line_of
+from ruzgalt.script.reader import Source
+from ruzgalt.script.records import encode, to_record
+from ruzgalt.script.schemas import Schema
+
+# No commit has a greater number.
+NEWEST = 1_000_000
+
+
+class Version(NamedTuple):
+    """A version of a row: its id, period and values, the commit that made it, and the one that closed it, if any."""
+
+    row_id: int
+    start: str
+    end: str
+    made: int
+    closed: Optional[int]
+    values: Tuple[str, ...]
+
+
+class Versions:
+    """All versions of a table by rising id, as the answer to `between` lists them."""
+
+    def __init__(self, answer: Answer) -> None:
+        self.schema: Schema = answer.tables[answer.command.front[1]]
+        self.all = [
+            Version(int(row_id), start, end, int(made), int(closed) if closed else None, tuple(values))
+            for row_id, start, end, made, closed, *values in answer.table.texts()
+        ]
+
+    def at(self, commit: int) -> List[Version]:
+        """Returns the rows of a commit."""
+        return [one for one in self.all if one.made <= commit and (one.closed is None or commit < one.closed)]
+
+    @cached_property
+    def closed_by(self) -> Dict[int, List[Version]]:
+        """The versions that each commit closed."""
+        found: Dict[int, List[Version]] = {}
+        for one in self.all:
+            if one.closed is not None:
+                found.setdefault(one.closed, []).append(one)
+        return found
+
+
+def versions_of(name: str) -> str:
+    """Returns the question for all versions of a table."""
+    return f"between,{name},0,{NEWEST}"
+
+
+class Past:
+    """Runs the program on a script with more questions after it. Each question is asked once."""
+
+    def __init__(self, program: str, script: Source, output: bytes, begun: Sequence[Command],
+                 found: Sequence[Answer]) -> None:
+        self.program, self.front = program, front_of(script, output, begun)
+        self.tables = found[-1].tables if found else {}
+        self.newest = max((answer.commits for answer in found), default=0)
+        self.known: Dict[str, Answer] = {}
+        self.read: Dict[str, Versions] = {}
+
+    def run(self, *questions: str) -> List[Answer]:
+        """Returns the answers to commands after the script.
+
+        Raises Misfit if the program doesn't print the script's own answers again.
+        """
+        after = b"".join(map(line_of, questions))
+        output = asking.output(self.program, self.front.script + after)
+        if not output.startswith(self.front.output):
+            raise Misfit(f"{self.program} was run again on the same script and printed other answers")
+        reading = Reading(Source(output[len(self.front.output):]))
+        reading.tables, reading.commits = self.tables, self.newest
+        return list(reading.answers(commands.commands(Source(after, 0), self.front.records + 1)))
+
+    def ask(self, *questions: str) -> List[Answer]:
+        """Returns the answers to questions after the script. New ones are asked in one run."""
+        new = [one for one in dict.fromkeys(questions) if one not in self.known]
+        if new:
+            self.known.update(zip(new, self.run(*new)))
+        return [self.known[one] for one in questions]
+
+    def versions(self, name: str) -> Versions:
+        """Returns all versions of a table."""
+        if name not in self.read:
+            self.read[name] = Versions(*self.ask(versions_of(name)))
+        return self.read[name]
+
+    @cached_property
+    def counts(self) -> Dict[int, Tuple[int, int]]:
+        """How many versions each commit added and closed."""
+        [log] = self.ask("log")
+        return {int(number): (int(added), int(closed)) for number, *_, added, closed in log.table.texts()}
+
+
+class Front(NamedTuple):
+    """The complete statements of a script, ready for more lines after them; their answers and number of records."""
+
+    script: bytes
+    output: bytes
+    records: int
+
+
+def front_of(script: Source, output: bytes, begun: Sequence[Command]) -> Front:
+    """Returns the complete statements of a script with these commands.
+
+    If the last one has no `end`, it is left out with its answer, which is one line. An open quote of the last record is
+    closed.
+    """
+    last = next((command for command in reversed(begun) if not command.in_together), None)
+    if last is None:
+        return Front(b"", output, 0)
+    text, first, number = script.data, script.byte_of(last.line), last.record.number
+    if not last.is_ended:
+        return Front(text[:first], output[:output.rfind(b"\n", 0, -1) + 1], number - 1)
+    if last.form.part or last.form.answered is Answered.TOGETHER:
+        return Front(text.rstrip(b"\r\n") + b"\n", output, number + len(last.block))
+    return Front(text[:first] + encode(to_record(last.record.fields)) + b"\n", output, number)
+
+
+class Beginnings:
+    """Which commit made each table, and which one loaded its first rows: before that, a table has no rows."""
+
+    def __init__(self, found: Sequence[Answer]) -> None:
+        self.made: Dict[str, int] = {}
+        self.filled: Dict[str, int] = {}
+        for answer in found:
+            word = answer.command.word
+            if not answer.refusal and word in ("table", "load"):
+                begun = self.made if word == "table" else self.filled
+                if word == "table" or len(answer.command.rows):
+                    begun.setdefault(answer.command.record.fields[1], answer.commits)
+
+    def notes_of(self, answer: Answer) -> Iterator[str]:
+        """Names the tables of a query that have no rows yet at the commit of its suffix."""
+        if answer.command.as_of is None:
+            return
+        names = answer.command.front[1:1 + answer.command.form.tables]
+        for name in dict.fromkeys(names):
+            if self.made[name] > answer.commit:
+                yield f"{name} was made by commit {self.made[name]}, so commit {answer.commit} has no row of it"
+            elif self.filled.get(name, 0) > answer.commit:
+                yield f"{name} has rows from commit {self.filled[name]} on, so commit {answer.commit} has no row of it"
