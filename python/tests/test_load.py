@@ -100,12 +100,12 @@ class LastDays(Case):
 
     def test_rows_of_a_day_each_day_by_day_are_loaded_without_a_word(self) -> None:
         """The third starts on the day behind the first one's end, on which the second starts."""
-        days = ["A,1,2024-01-01,2024-01-02", "A,2,2024-01-02,2024-01-03", "A,3,2024-01-03,2024-01-04"]
+        days = ["A,1,2024-01-01,2024-01-02", "A,2,2024-01-02,2024-01-03", "A,4,2024-01-03,2024-01-04"]
         _, notes = load(rows(*days), *WORDS)
         self.assertEqual(notes, [])
         self.noted("2 start on it (line 3 after line 2)", rows(*days), *WORDS, "--last-day")
         part = "1 start on the day after it (line 4 after line 3) and 1 start on it (line 3 after line 2): a row"
-        self.noted(part, rows(*days[:2], "A,3,2024-01-04,2024-01-05"))
+        self.noted(part, rows(*days[:2], "A,4,2024-01-04,2024-01-05"))
 
     def test_last_days_of_months_on_which_rows_start_too_are_loaded_without_a_word(self) -> None:
         days = ["2024-01-31", "2024-02-29", "2024-03-31", "2024-04-30", "2024-05-31", "2024-06-30"]
@@ -243,7 +243,7 @@ class Separators(Case):
 class LookAlikeTexts(Case):
     def test_texts_that_look_alike_are_reported_once_with_a_count_and_a_line(self) -> None:
         for one, other in [("1", "001"), ("Müller", "MÜLLER"), ("José", "Jose\u0301"), ("A B", "A  B")]:
-            seconds = [f"{other},1,2024-03-03,2024-04-05", f"{other},2,2024-05-03,2024-06-05"]
+            seconds = [f"{other},1,2024-03-03,2024-04-05", f"{other},3,2024-05-03,2024-06-05"]
             text = rows(f"{one},1,2024-01-01,2024-02-05", *seconds)
             with self.subTest(other):
                 self.noted("(line 3, and 1 more rows)", text)
@@ -266,7 +266,7 @@ class LookAlikeTexts(Case):
             ("MÃ¼ller", "read in another encoding"), ("GroÃŸ", "another encoding"), ("DaÄŸ", "another encoding"),
             ("M\ufffdller", "has lost one of its"), ("A\x07B", "can't be seen"), ("A\tB", "can't be seen"),
             ("A\u2028B", "can't be seen"), ("M&uuml;ller", "as in HTML"), ("NULL", "write it for no value"),
-            ("Summe", "a sum of other rows"), ("# B", "or a comment"), ("#REF!", "or a comment"), ("'001", "sign for"),
+            ("# B", "or a comment"), ("#REF!", "or a comment"), ("'001", "sign for"),
             ("1001.0", "a number such as 1,234.50"), ("4800.50", "--decimals COLUMN=DIGITS makes it whole"),
         ]:
             for count in (0, 100):

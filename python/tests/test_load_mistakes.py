@@ -83,15 +83,28 @@ class Refused(Case):
 
 
 class Reported(Case):
-    def test_rows_with_sums_of_others_are_reported(self) -> None:
-        names = ("Total", "TOTAL:", "Total 2024", "Grand total", "Insgesamt", "Summe: ", "Zwischensumme", "Subtotals")
-        for name in names:
-            for count in (1, 100):
-                with self.subTest(name, count=count):
-                    others = [f"N{number},1,{PERIOD}" for number in range(count)]
-                    self.noted("it looks like a sum of other rows", rows(*others, f"{name},{count},{PERIOD}"))
-        for name in ("Totalenergies", "Summer", "Total Body Fitness"):
-            self.loaded(f"load,pay\nrow,{PERIOD},{name},1\nend\n", rows(f"{name},1,{PERIOD}"))
+    def test_a_last_row_with_the_sums_of_all_others_is_reported(self) -> None:
+        amounts = [(510050, 3), (-2000, 4), (480000, 5)] * 200
+        names = ["Name,Pay,Hours,Start,End"]
+        names.extend(f"N{place},{pay},{hours},{PERIOD}" for place, (pay, hours) in enumerate(amounts))
+        sums = [sum(column) for column in zip(*amounts)]
+        words, table = [*WORDS, "Hours"], ["--table", "table,pay,name,text,pay,int,hours,int,key,name"]
+        note = f"line 602: Pay {sums[0]} and Hours {sums[1]} are the sums of the 600 rows above; if it is a total"
+        for last in ("Total", "Summe 2024:", "ACME Group", "999", ""):
+            for more in (table[:0], table, ["--decimals", "Pay=0"]):
+                text = "\n".join([*names, f"{last},{sums[0]},{sums[1]},{PERIOD}", ""])
+                printed, notes = load(text, *words, *more)
+                self.assertIn(note, "".join(notes))
+                self.assertEqual(printed.count("\nrow,"), 601)
+        for last in (f"Total,{sums[0]},{sums[1] + 1},{PERIOD}", f"Total,0,{sums[1]},{PERIOD}"):
+            self.assertEqual(load("\n".join([*names, last, ""]), *words)[1], [])
+
+    def test_amounts_that_are_no_sums_are_loaded_without_a_word(self) -> None:
+        for lines in (
+            [f"A,5,{PERIOD}", f"B,5,{PERIOD}"], [f"A,0,{PERIOD}", f"B,0,{PERIOD}", f"C,0,{PERIOD}"],
+            [f"A,x,{PERIOD}", f"B,5,{PERIOD}", f"Total,5,{PERIOD}"], [f"Total,5,{PERIOD}"],
+        ):
+            self.assertEqual(load(rows(*lines), *WORDS)[1], [])
 
     def test_a_time_without_am_where_others_have_it_is_reported(self) -> None:
         text = rows("A,1,01/13/2024 06:30,01/13/2024 02:30 PM", "B,1,01/13/2024,01/14/2024")

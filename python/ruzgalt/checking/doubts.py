@@ -216,6 +216,35 @@ class Repeats:
         return sorted(Repeat(*row) for row in rows if counts[row[0]] > 1)
 
 
+class Totals:
+    """Reports a last row whose amounts are the sums of all rows above, whatever the row is called."""
+
+    def __init__(self, amounts: Dict[int, str]) -> None:
+        """The columns that may have amounts: their names by their indices."""
+        self.amounts = amounts
+        self.sums, self.last = dict.fromkeys(amounts, 0), dict.fromkeys(amounts, 0)
+        self.rows, self.line = 0, 0
+
+    def add(self, lines: Sequence[int], columns: Sequence[Sequence[str]]) -> None:
+        """Adds rows by their columns. A column that has anything but whole numbers has no amounts."""
+        for index in list(self.sums) if lines else ():
+            try:
+                numbers = list(map(int, columns[index]))
+                self.sums[index], self.last[index] = self.sums[index] + sum(numbers), numbers[-1]
+            except ValueError:
+                del self.sums[index]
+        self.rows, self.line = self.rows + len(lines), [self.line, *lines[-1:]][-1]
+
+    def notes(self) -> Iterator[str]:
+        """Reports it if there are at least two rows above: two rows with the same amount are common. 0 is no total."""
+        are_sums = all(total == 2 * self.last[index] for index, total in self.sums.items())
+        if self.rows > 2 and are_sums and any(self.last[index] for index in self.sums):
+            shown = " and ".join(f"{visible(self.amounts[index])} {self.last[index]}" for index in self.sums)
+            what = "are the sums" if len(self.sums) > 1 else "is the sum"
+            remedy = "if it is a total, leave the line out, since sums would count it too"
+            yield f"line {self.line}: {shown} {what} of the {self.rows - 1:,} rows above; {remedy}"
+
+
 class Repeat(NamedTuple):
     """A row with the number of its values, its period and its line."""
 

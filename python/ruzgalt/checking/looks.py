@@ -19,12 +19,6 @@ ENTITY = re.compile(r"&(?:#\d+|#x[0-9A-Fa-f]+|[A-Za-z]+\d*);")
 # What other programs write for no value.
 NO_VALUES = ("null", "none", "nan", "nat", "<na>", "n/a")
 WORDS = dict.fromkeys(NO_VALUES, "other programs write it for no value; here it is a text")
-# The rows that sum up others are named so, some with a year or a colon.
-TOTAL = re.compile(
-    r"(?:(?:grand |sub-?)?totals?|sums?|(?:gesamt|zwischen)?summen?|(?:ins)?gesamt)[ :.]*(?:\d{4})?[ :.]*",
-    re.IGNORECASE,
-)
-TOTALS = re.compile(f"^{TOTAL.pattern}$", re.IGNORECASE | re.MULTILINE)
 # Quotes of other kinds than those of CSV, and those where a space stands before them.
 QUOTES = ("''", '""', "\u2018\u2019", "\u201c\u201d", "\u201e\u201c", "\u201e\u201d", "\u00ab\u00bb", "\u00bb\u00ab")
 # Characters that look like those of ASCII: quotes, dashes, and letters of Cyrillic and Greek.
@@ -55,8 +49,6 @@ def doubt_of(value: str, mark: str) -> Optional[str]:
     is_plain, last = PLAIN.fullmatch(value), value[-1:]
     if value.lower() in WORDS:
         return WORDS[value.lower()]
-    if TOTAL.fullmatch(value):
-        return "it looks like a sum of other rows"
     if len(value) > 1 and value[0] + last in QUOTES:
         return "these quotes are part of the text"
     if last.isdigit() and ROUNDED.fullmatch(value):
@@ -133,8 +125,6 @@ class LookAlikes:
         """Whether of plain texts none looks like another one, or like one before."""
         lines = "\n".join(values)
         folds = (lines.translate(LIKE_ASCII) if LOOKING.search(lines) else lines).casefold().split("\n")
-        if TOTALS.search(lines):
-            return False
         return WORDS.keys().isdisjoint(folds) and all(map(eq, map(self.by_fold.setdefault, folds, values), values))
 
     def other(self, value: str) -> Optional[str]:

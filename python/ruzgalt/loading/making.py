@@ -7,7 +7,7 @@ from os.path import isfile
 from typing import Dict, Iterator, List, Optional, Sequence, Set, Tuple, cast
 from zlib import crc32
 
-from ruzgalt.checking.doubts import Ends, Notes, Overwrites, Repeats, Twins
+from ruzgalt.checking.doubts import Ends, Notes, Overwrites, Repeats, Totals, Twins
 from ruzgalt.commands import called
 from ruzgalt.errors import Misfit
 from ruzgalt.loading.columns import Column, End, Start, Text, form_of, mark_of, point_text
@@ -84,6 +84,8 @@ class Load:
         self.equals = Equals(options.drop_equal)
         self.nameless = [place for place, name in enumerate(sheet.header) if not name.strip()]
         key = ", ".join(options.column[place] for place in self.keys) or "table"
+        others = [place for place in range(len(options.column)) if place not in self.keys]
+        self.totals = Totals({2 + place: options.column[place] for place in others or self.keys})
         self.ends, self.overwrites = Ends(options.end, key, options.last_day), Overwrites(key)
 
     @property
@@ -138,6 +140,7 @@ class Load:
         texts = self.records_of(columns)
         self.twins.add(piece.lines, texts)
         self.repeats.add(piece.lines, columns)
+        self.totals.add(piece.lines, columns)
         if self.options.part:
             texts = list(compress(texts, map(self.is_of_part, zip(*columns))))
         self.printed += len(texts)
@@ -284,6 +287,7 @@ class Load:
             yield self.left_out
         if self.is_load and self.options.column and not (self.schema and self.schema.key):
             yield from self.repeats.notes()
+        yield from self.totals.notes() if self.is_load else ()
         yield from [*self.notes_of_points(), *self.notes_of_words(), *self.equals.notes()]
         yield from self.sheet.notes(self.places[:2], self.places[2:])
         if not self.is_load:

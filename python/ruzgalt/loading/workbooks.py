@@ -55,8 +55,10 @@ class Workbook:
             if any(map(str.strip, record)):
                 self.header = list(map(composed, record))
                 break
-        for found in (self.computed, self.dates, self.unseen, self.struck):
-            found.clear()
+        for rows in (self.unseen, self.struck):
+            rows.clear()
+        self.computed.clear()
+        self.dates.clear()
 
     def read(self, values: Any, formulas: Any) -> Iterator[Tuple[int, List[str]]]:
         """The number of each row, and its texts, as many as the header has at least."""
