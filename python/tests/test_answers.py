@@ -225,6 +225,12 @@ class Tables(unittest.TestCase):
             numbers = [int(record.split(",")[-1]) for record in records]
             self.assertEqual((numbers, set(numbers)), (sorted(numbers), {9, 10}))
 
+    def test_overlaps_are_those_of_the_answer_s_own_commit(self) -> None:
+        script = PAY.replace("2024-04-01", "2024-02-01") + "rows,pay\ndelete,pay,2024-01-01,2024-02-10\nrows,pay\n"
+        heads = "row_id,other_row_id,valid_from,valid_to,person\n"
+        for pick, start, ids in (("3", "2024-02-01", "1,2"), ("5", "2024-02-10", "3,4")):
+            self.prints(f"{heads}{ids},{start},2024-03-01,A\n", f"overlaps $S person --of {pick}", script, "")
+
     def test_history_tells_what_each_commit_changed_of_a_fact(self) -> None:
         script = PAY + "update,pay,2024-05-01,2024-06-01,set,euros,9,where,person,A\n"
         wanted = "commit,place,change,valid_from,valid_to,person,euros\n3,line 6,-,2024-05-01,2024-06-01,A,6\n"

@@ -250,6 +250,19 @@ class Only(ToolCase):
         self.check([*words, "person=" + "x" * 4097], "", 1, ": TooLong: field 7 (person), xxx")
         self.check([*words, "person=M\udcfcller"], "", 1, ": BadUtf8: field 7 (person), M\\xfcller, isn't UTF-8")
 
+    def test_a_row_that_another_one_is_like_is_refused(self) -> None:
+        row = "row,2024-01-01,2024-03-01,5\n"
+        with kept(f"table,t,a,int\nload,t\n{row}{row}row,2024-03-01,2024-04-01,5\nend\n") as name:
+            words = ["tools/answers", "only", name, "t"]
+            for row_id, other in (("1", "2"), ("2", "1")):
+                note = f"answers: row {other} has the same values as row {row_id}, and shares some of its time\n"
+                self.check([*words, row_id], "", 1, note)
+            self.check([*words, "3"], "", 0, "delete,t,2024-03-01,2024-04-01,where,a,5\n")
+            self.check([*words, "4"], "", 1, "answers: t has no row 4 at the script's end")
+        with kept(f"table,t,a,int,key,a\nload,t\n{row}{row.replace('5', '6')}end\n") as name:
+            note = "update,t,2024-01-01,2024-03-01,set,a,6,where,a,5: KeyOverlap: two rows with the same key (a) "
+            self.check(["tools/answers", "only", name, "t", "1", "--set", "a=6"], "", 1, note)
+
     def test_a_column_that_is_set_twice_is_refused(self) -> None:
         words = ["tools/answers", "only", EXAMPLE, "pay", "2", "--answers", EXAMPLE + ".stdout", "--set", "euros=4900"]
         self.check([*words, "--set", "person=Ada"], "", 0, "set,euros,4900,person,Ada,where,")

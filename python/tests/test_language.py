@@ -6,11 +6,15 @@ from unittest import mock
 from ruzgalt import answers
 from ruzgalt.answers import picks
 from ruzgalt.checking import refusals
+from ruzgalt.periods import spans
 from ruzgalt.pictures import figures
 from ruzgalt.script.language import COMMANDS, Answered, Form, Role
 from tests.support import TOP
 
 HOLDING = Form("holding,T,POINT[,asof,N]", Answered.ROWS, behind=(Role.POINT,))
+# Modules that apply a change, answer a query, or compare the rows of a key, without the program. Stores still have two:
+# frames/standing.py and frames/keys.py.
+DECIDING = ("checking/again.py", "checking/fitting.py", "checking/replay.py")
 SCRIPT = b"""table,t,k,text
 load,t
 row,2024-01-01,2024-02-01,a
@@ -31,6 +35,11 @@ class Language(unittest.TestCase):
             self.assertIsInstance(figures.of(found[2], figures.Wish(), mock.Mock()), figures.Bars)
             self.assertIn("isn't a day that exists", refusals.reason(found[3]))
             self.assertIn("isn't a table; the tables are t", refusals.reason(found[4]))
+
+    def test_only_the_program_decides_what_a_change_a_key_or_a_query_does(self) -> None:
+        package = TOP / "python" / "ruzgalt"
+        self.assertEqual([name for name in DECIDING if (package / name).exists()], [])
+        self.assertFalse(hasattr(spans, "overlapping"))
 
     def test_each_word_has_its_part_of_the_language_s_page(self) -> None:
         page = TOP.joinpath("docs/LANGUAGE.md").read_text(encoding="utf-8")

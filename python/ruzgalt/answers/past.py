@@ -15,6 +15,8 @@ from ruzgalt.script.schemas import Schema
 
 # No commit has a greater number.
 NEWEST = 1_000_000
+# The position in a version of the commit that closed it.
+CLOSED = 4
 
 
 class Version(NamedTuple):
@@ -28,15 +30,23 @@ class Version(NamedTuple):
     values: Tuple[str, ...]
 
 
+def version_of(record: Sequence[str]) -> Version:
+    """Returns the version that a record of an answer to `between` has."""
+    row_id, start, end, made, closed, *values = record
+    return Version(int(row_id), start, end, int(made), int(closed) if closed else None, tuple(values))
+
+
 class Versions:
-    """All versions of a table by rising id, as the answer to `between` lists them."""
+    """The versions of a table by rising id, from the answer to `between`. They are read when they are needed."""
 
     def __init__(self, answer: Answer) -> None:
         self.schema: Schema = answer.tables[answer.command.front[1]]
-        self.all = [
-            Version(int(row_id), start, end, int(made), int(closed) if closed else None, tuple(values))
-            for row_id, start, end, made, closed, *values in answer.table.texts()
-        ]
+        self.table = answer.table
+
+    @cached_property
+    def all(self) -> List[Version]:
+        """All versions."""
+        return list(map(version_of, self.table.texts()))
 
     def at(self, commit: int) -> List[Version]:
         """Returns the rows of a commit."""
@@ -44,11 +54,10 @@ class Versions:
 
     @cached_property
     def closed_by(self) -> Dict[int, List[Version]]:
-        """The versions that each commit closed."""
+        """The versions that each commit closed. Others aren't kept: most tables have few that are closed."""
         found: Dict[int, List[Version]] = {}
-        for one in self.all:
-            if one.closed is not None:
-                found.setdefault(one.closed, []).append(one)
+        for one in (version_of(record) for record in self.table.texts() if record[CLOSED]):
+            found.setdefault(one.closed or 0, []).append(one)
         return found
 
 

@@ -52,9 +52,8 @@ def in_answer(past: Past, answer: Answer, key: Sequence[str]) -> Table:
     schema = schema_of(answer)
     places = [schema.place(name) for name in key]
     columns = [schema.columns[place] for place in places]
-    _, name, *suffix = answer.command.record.fields
     on = [side for column in key for side in (column, column)]
-    [joined] = past.ask(to_record(["join", name, name, "on", *on, *suffix]))
+    [joined] = past.ask(to_record(["join", schema.name, schema.name, "on", *on, "asof", str(answer.commit)]))
     found: Dict[Values, List[Row]] = defaultdict(list)
     for start, end, one, other, *values in joined.table.texts():
         if int(one) < int(other):

@@ -31,9 +31,11 @@ def command_for(past: Past, table: str, row_id: int, set_to: Sequence[Tuple[str,
 
 
 def refuse_others(past: Past, command: str, table: str, row_id: int) -> None:
-    tried, there = past.run(command, f"between,{table},{past.newest},{past.newest}")
+    tried, log = past.run(command, "log")
     if tried.refusal:
         raise Misfit(f"{short(command)}: {tried.refusal.name}: {refusals.reason(tried)}")
-    for other, _, _, _, closed, *_ in there.table.texts():
-        if closed and other != str(row_id):
-            raise Misfit(f"row {other} has the same values as row {row_id}, and shares some of its time")
+    *_, (_, _, _, _, _, closed) = log.table.texts()
+    if closed != "1":
+        _, there = past.run(command, f"between,{table},{past.newest},{past.newest}")
+        other = next(one for one, _, _, _, closed, *_ in there.table.texts() if closed and one != str(row_id))
+        raise Misfit(f"row {other} has the same values as row {row_id}, and shares some of its time")
