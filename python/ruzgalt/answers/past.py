@@ -1,5 +1,6 @@
 """What the program says of the store after a script: all versions of its tables, and answers to more questions."""
 from functools import cached_property
+from itertools import compress
 from typing import Dict, Iterator, List, NamedTuple, Optional, Sequence, Tuple
 
 from ruzgalt.answers import asking
@@ -42,6 +43,8 @@ class Versions:
     def __init__(self, answer: Answer) -> None:
         self.schema: Schema = answer.tables[answer.command.front[1]]
         self.table = answer.table
+        # The rows of the last commit that was asked for. Refused commands follow one another, and change nothing.
+        self.last: Tuple[int, List[Version]] = (-1, [])
 
     @cached_property
     def all(self) -> List[Version]:
@@ -50,7 +53,10 @@ class Versions:
 
     def at(self, commit: int) -> List[Version]:
         """Returns the rows of a commit."""
-        return [one for one in self.all if one.made <= commit and (one.closed is None or commit < one.closed)]
+        if self.last[0] != commit:
+            is_there = (one.made <= commit and (one.closed is None or commit < one.closed) for one in self.all)
+            self.last = commit, list(compress(self.all, is_there))
+        return self.last[1]
 
     @cached_property
     def closed_by(self) -> Dict[int, List[Version]]:

@@ -7,7 +7,7 @@ from collections import defaultdict
 from dataclasses import replace
 from itertools import islice
 from operator import itemgetter
-from typing import Dict, Iterable, Iterator, List, NamedTuple, Sequence, Set, Tuple
+from typing import Dict, Iterator, List, NamedTuple, Sequence, Set, Tuple
 
 from ruzgalt.answers import Answer, asking, conditions, grouped
 from ruzgalt.answers.past import Past, Version, versions_of
@@ -173,9 +173,8 @@ def held(version: Version) -> Held:
     return Held(version.start, version.end, version.values, origin)
 
 
-def crowded(program: str, cases: Iterable[Sequence[Sequence[Held]]]) -> Iterator[List[List[Span]]]:
+def crowded(program: str, cases: Sequence[Sequence[Sequence[Held]]]) -> Iterator[List[List[Span]]]:
     """Yields for each case, and in it for each group, the times at which the program counts more than one row."""
-    cases = list(cases)
     trials = (counting(f"t{place}", groups) for place, groups in enumerate(cases))
     for groups, tried in zip(cases, asking.tried(program, trials)):
         found: List[List[Span]] = [[] for _ in groups]

@@ -21,8 +21,8 @@ function answeredBy() {
 }
 
 function runAgain() {
-  const again = `Yes: it was run twice, and printed the same bytes to ${counted(data.answers, "answer")}.`;
-  return data.kept ? [again, " They are the bytes of ", ...fileText(data.kept), "."] : [again];
+  const again = `The program ran twice on this script, and its ${counted(data.answers, "answer")} had the same bytes.`;
+  return data.kept ? [again, " So have the answers that were kept: ", ...fileText(data.kept), "."] : [again];
 }
 
 function showHead() {
