@@ -3,8 +3,8 @@
     PYTHONPATH=python python3 -m tests.run tools
     PYTHONPATH=python python3 -m tests.run frames
 
-There is a process for each processor. Text of tests that fail comes first, then what was left out and why. The last line
-has the counts, as ./check reads them.
+There is a process for each processor. The text of tests that fail comes first, then what was left out and why. The last
+line has the counts, as ./check reads them.
 """
 import io
 import multiprocessing

@@ -62,6 +62,16 @@ class Kept:
             self.note(crate, library)
         return library.is_dir()
 
+    def take_of_gate(self, copy: Path) -> None:
+        """Takes the libraries that the toolchain's gate has proved of these files, or reports why it has none."""
+        try:
+            given = give_of_gate(copy, self.toolchain)
+        except NothingKept as why:
+            print(f"dipq: {why}; what an earlier build kept is taken", file=sys.stderr)
+            return
+        for name in given.keys() & self.crates.by_name.keys():
+            self.note(self.crates[name], given[name])
+
     def place(self, crate: Crate) -> Path:
         """Where a library is to be made that `add` keeps."""
         return self.folder(crate) / f"new-{os.getpid()}" / f"{crate.name}.rlib"
@@ -95,9 +105,9 @@ def module_of(program: Path) -> ModuleType:
 
 
 def give_of_gate(copy: Path, toolchain: Toolchain) -> Dict[str, Path]:
-    """Puts into a copy of the repository the libraries that the toolchain's gate proved here, and returns where they are.
+    """Puts the libraries that the toolchain's gate proved into a copy of the repository, and returns where they are.
 
-    The gate keeps libraries under sums of its own, so its program is asked. Nothing that is proved here goes to the gate.
+    The gate keeps libraries under sums of its own, so its program is asked. Nothing that a build proves goes to the gate.
 
     Raises `NothingKept` if this toolchain's gate keeps no libraries, or keeps them in another way.
     """
