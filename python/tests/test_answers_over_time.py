@@ -205,7 +205,7 @@ class Words(ToolCase):
         self.check([*pay, "--sum", "sum_euros", "--to", "2024-13-01"], "", 1, "--to 2024-13-01: not a date or time")
         both = ["--from", "2024-02-01", "--to", "2024-02-01"]
         self.check([*pay, "--sum", "sum_euros", *both], "", 1, "--from 2024-02-01 isn't before --to 2024-02-01")
-        self.check([*pay, "--sum", "sum_euros", "--each", "day"], "", 2, "invalid choice: 'day'")
+        self.check([*pay, "--sum", "sum_euros", "--each", "hour"], "", 2, "invalid choice: 'hour'")
 
     def test_only_the_time_that_is_given_counts(self) -> None:
         cut = ["--sum", "sum_euros", "--from", "2024-06-16", "--to", "2024-07-01T12:00:00"]

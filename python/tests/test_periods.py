@@ -42,7 +42,7 @@ def runs(points: Set[int]) -> List[Tuple[int, int]]:
 def piece_by_date(day: date, each: str) -> Tuple[int, ...]:
     """What all days of one piece have in common, and no others."""
     by_word: Dict[str, Tuple[int, ...]] = {
-        "week": tuple(day.isocalendar())[:2], "month": (day.year, day.month),
+        "day": (day.toordinal(),), "week": tuple(day.isocalendar())[:2], "month": (day.year, day.month),
         "quarter": (day.year, (day.month + 2) // 3), "year": (day.year,),
     }
     return by_word[each]
@@ -89,7 +89,7 @@ class Pieces(unittest.TestCase):
         around = [day_at(one) for one in (start // pieces.DAY - 1, end // pieces.DAY) if 0 <= one < LATEST]
         self.assertNotIn(piece_by_date(day, each), [piece_by_date(one, each) for one in around])
         # At the end of time the last year's pieces are as long as those of others.
-        self.assertGreaterEqual(length, {"week": 7, "month": 28, "quarter": 90, "year": 365}[each])
+        self.assertGreaterEqual(length, {"day": 1, "week": 7, "month": 28, "quarter": 90, "year": 365}[each])
 
 
 class Amounts(unittest.TestCase):
