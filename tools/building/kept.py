@@ -107,7 +107,7 @@ def module_of(program: Path) -> ModuleType:
 def give_of_gate(copy: Path, toolchain: Toolchain) -> Dict[str, Path]:
     """Puts the libraries that the toolchain's gate proved into a copy of the repository, and returns where they are.
 
-    The gate keeps libraries under sums of its own, so its program is asked. Nothing that a build proves goes to the gate.
+    The gate keeps libraries under sums of its own, so its program is asked. Nothing that a build proves goes there.
 
     Raises `NothingKept` if this toolchain's gate keeps no libraries, or keeps them in another way.
     """
