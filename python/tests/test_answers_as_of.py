@@ -27,7 +27,7 @@ NO_DIARY = "a diary's first column must be an int, the newest commit from a row'
 # What each subcommand has beside the script and its questions.
 TOOLS = {
     "csv": "", "json": "", "sqlite": ":memory: --query=select\t*\tfrom\ta", "picture": "", "changed": "",
-    "overlaps": "person", "gaps": "person", "coalesce": "person", "months": "--sum euros --to 2025-01-01",
+    "overlaps": "person", "gaps": "person", "coalesce": "person", "months": "--sum euros --per=month --to 2025-01-01",
     "next": "--table t", "list": "", "history": "pay", "refusals": "", "only": "pay 1",
     "raise": "pay euros --percent 2 --from 2024-08-01 --dry-run --round half-up",
 }
@@ -90,7 +90,7 @@ class AsOf(unittest.TestCase):
         self.assertEqual(ran.said, notes)
 
     def test_a_difference_of_sums_is_by_the_answer_of_a_day(self) -> None:
-        months = "months --ask rows,pay --sum euros --from 2024-07-01 --to 2024-08-01 --diary diary --less"
+        months = "months --per month --ask rows,pay --sum euros --from 2024-07-01 --to 2024-08-01 --diary diary --less"
         ran = asked(f"{months} rows,pay,asof,2024-03-31")
         self.assertEqual(ran[:2], (0, "valid_from,valid_to,euros\n2024-07-01,2024-08-01,400\n"))
         self.assertEqual(ran.said, "answers: asof 2024-03-31 is commit 2, by diary\n")

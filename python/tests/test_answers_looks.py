@@ -120,7 +120,7 @@ class Words(ToolCase):
         for command, wanted in [
             (["gaps", "person", "--of", "3"], "valid_from;valid_to;person\r\n2024-02-01;2024-03-01;\"'=A;B\"\r\n"),
             (["coalesce", "person", "--of", "3"], "2024-01-01;2024-02-01;\"'=A;B\"\r\n"),
-            (["months", "3", "--sum", "euros", "--by", "person"], "2024-01-01;2024-02-01;\"'=A;B\";5\r\n"),
+            (["months", "3", "--per=month", "--sum=euros", "--by=person"], "2024-01-01;2024-02-01;\"'=A;B\";5\r\n"),
             (["changed", "4", "3"], "+;2024-01-01;2024-02-01;\"'=A;B\";5\r\n"),
             (["history", "pay"], "2;line 2;+;2024-01-01;2024-02-01;\"'=A;B\";5\r\n"),
             (["overlaps", "person", "--of", "3"], "row_id;other_row_id;valid_from;valid_to;person\r\n"),

@@ -29,10 +29,12 @@ START = date(2023, 12, 28)
 DAYS = st.integers(0, 70).map(lambda days: START + timedelta(days))
 AMOUNTS = st.one_of(st.integers(-(1 << 63), (1 << 63) - 1), st.integers(-9, 9))
 PAYROLL = ["tools/answers", "months", "examples/payroll.csv", "--answers", "examples/payroll.csv.stdout"]
+MONTHLY = ["--per", "month"]
 KEYS: Dict[str, Callable[[date], Any]] = {
     "month": lambda day: (day.year, day.month), "quarter": lambda day: (day.year, (day.month + 2) // 3),
-    "year": lambda day: day.year, "week": lambda day: day.isocalendar()[:2],
+    "year": lambda day: day.year, "week": lambda day: day.isocalendar()[:2], "day": lambda day: day,
 }
+EACH = st.sampled_from(sorted(KEYS))
 
 
 class Row(NamedTuple):
@@ -90,9 +92,9 @@ def read(text: str) -> List[List[str]]:
 Place = Tuple[Tuple[str, ...], Any]
 
 
-def plain_sums(rows: List[Row], each: str) -> Dict[Place, Fraction]:
-    """What each group comes to in each piece, by adding each day's share."""
-    key = KEYS[each]
+def plain_sums(rows: List[Row], each: str, per: str) -> Dict[Place, Fraction]:
+    """The amount of each group in each piece, day by day."""
+    key = KEYS[per]
     around = [START + timedelta(more) for more in range(-400, 600)]
     lengths: DefaultDict[Any, int] = defaultdict(int)
     for day in around:
@@ -100,29 +102,29 @@ def plain_sums(rows: List[Row], each: str) -> Dict[Place, Fraction]:
     found: DefaultDict[Place, Fraction] = defaultdict(Fraction)
     for row in rows:
         for day in row.days:
-            found[(row.group, key(day))] += Fraction(row.amount, lengths[key(day)])
+            found[(row.group, KEYS[each](day))] += Fraction(row.amount, lengths[key(day)])
     return found
 
 
-def differences(rows: List[Row], less: List[Row], each: str) -> Dict[Place, Fraction]:
-    """What each group comes to in each piece, less what it comes to by other rows."""
-    found, others = plain_sums(rows, each), plain_sums(less, each)
+def differences(rows: List[Row], less: List[Row], each: str, per: str) -> Dict[Place, Fraction]:
+    """The amount of each group in each piece, less that of other rows."""
+    found, others = plain_sums(rows, each, per), plain_sums(less, each, per)
     return {place: found.get(place, Fraction(0)) - others.get(place, Fraction(0)) for place in {*found, *others}}
 
 
 @unittest.skipUnless(PROGRAM.exists(), "a built program to answer records that hypothesis draws")
 class OverTime(unittest.TestCase):
     @DRAWN
-    @given(cases(), st.sampled_from(sorted(KEYS)))
-    def test_sums_are_those_of_days(self, case: Case, each: str) -> None:
+    @given(cases(), EACH, EACH)
+    def test_sums_are_those_of_days(self, case: Case, each: str, per: str) -> None:
         by = [word for name in case.named[:-1] for word in ("--by", name)]
         with kept(case.script) as script:
-            words = ["tools/answers", "months", script, "--program", str(PROGRAM), "--each", each]
+            words = ["tools/answers", "months", script, "--program", str(PROGRAM), "--each", each, "--per", per]
             status, text, said = run([*words, "--sum", case.named[-1], *by])
         self.assertEqual(status, 0, said)
         header, *records = read(text)
         self.assertEqual(header, ["valid_from", "valid_to", *case.named])
-        self.check_sums(records, plain_sums(case.rows, each), each, said)
+        self.check_sums(records, plain_sums(case.rows, each, per), each, said)
         for start, end, *_ in records:
             days = [date.fromisoformat(start) + timedelta(more) for more in (-1, 0)]
             self.assertNotEqual(*map(KEYS[each], days))
@@ -143,14 +145,15 @@ class OverTime(unittest.TestCase):
             self.assertTrue(exact.denominator > 1 or found[piece] == exact)
 
     @DRAWN
-    @given(cases(), st.sampled_from(sorted(KEYS)), st.sampled_from([None, "3", "rows,less"]), st.data())
+    @given(cases(), EACH, st.sampled_from([None, "3", "rows,less"]), st.data())
     def test_differences_and_wanted_values_are_those_of_days(
         self, case: Case, each: str, less: Optional[str], data: Any,
     ) -> None:
+        per = data.draw(EACH)
         some = st.lists(st.sampled_from(case.rows), max_size=4) if case.rows else st.just([])
         taken, added = data.draw(some), data.draw(some)
         value = data.draw(st.sampled_from([*(row.group[0] for row in case.rows), "none"])) if case.texts else None
-        words = ["months", "--program", str(PROGRAM), "--each", each, "--sum", case.named[-1]]
+        words = ["months", "--program", str(PROGRAM), "--each", each, "--per", per, "--sum", case.named[-1]]
         words += [word for name in case.named[:-1] for word in ("--by", name)]
         words += [] if value is None else ["--where", f"{case.named[0]}={value}"]
         has_zeros = data.draw(st.booleans())
@@ -159,7 +162,7 @@ class OverTime(unittest.TestCase):
             status, text, said = run(["tools/answers", *words, script, *([] if less is None else ["--less", less])])
         self.assertEqual(status, 0, said)
         counted, taken = ([one for one in rows if value in (None, *one.group[:1])] for rows in (added, taken))
-        wanted = differences(counted, taken if less else [], each)
+        wanted = differences(counted, taken if less else [], each, per)
         listed = {piece: exact for piece, exact in wanted.items() if exact or has_zeros}
         self.check_sums(read(text)[1:], listed, each, said)
         is_noted = value is not None and not (counted or less and taken)
@@ -194,11 +197,11 @@ class OverTime(unittest.TestCase):
 
 class Words(ToolCase):
     def test_what_can_t_be_counted_is_refused(self) -> None:
-        months = ["tools/answers", "months", EXAMPLE, "--answers", EXAMPLE + ".stdout"]
+        months = ["tools/answers", "months", EXAMPLE, "--answers", EXAMPLE + ".stdout", *MONTHLY]
         self.check([*months, "4", "--sum", "euros"], "", 1, "an `at` is of one point alone: ask by `rows`")
         self.check([*months, "6", "--sum", "euros"], "", 1, "versions of several commits")
         self.check([*months, "7", "--sum", "number"], "", 1, "its records aren't periods")
-        pay = [*PAYROLL, "--go-on"]
+        pay = [*PAYROLL, "--go-on", *MONTHLY]
         self.check([*pay, "--sum", "sum_euros"], "", 1, "9999-12-31,42150: no end is known: give --to, up to which")
         self.check([*pay, "--sum", "euros"], "", 1, "no column euros; its columns are valid_from, valid_to, sum_")
         self.check([*pay, "--sum", "valid_to"], "", 1, "valid_to: a start or an end")
@@ -207,20 +210,55 @@ class Words(ToolCase):
         self.check([*pay, "--sum", "sum_euros", *both], "", 1, "--from 2024-02-01 isn't before --to 2024-02-01")
         self.check([*pay, "--sum", "sum_euros", "--each", "hour"], "", 2, "invalid choice: 'hour'")
 
+    def test_no_amount_is_taken_for_one_of_a_kind_that_nobody_said(self) -> None:
+        told = "--sum sum_euros: say what an amount is: --per month if a record has it in each month, such as a pay"
+        for words in (MONTHLY[:0], [*MONTHLY, "--in-total"]):
+            self.check([*PAYROLL, "--go-on", "--sum", "sum_euros", *words], "", 1, told)
+        total = [*PAYROLL, "--go-on", "--in-total", "--sum"]
+        self.check([*total, "sum_euros"], "", 1, "agg,pay,sum,euros: its records are parts of rows, and each part has")
+
     def test_only_the_time_that_is_given_counts(self) -> None:
-        cut = ["--sum", "sum_euros", "--from", "2024-06-16", "--to", "2024-07-01T12:00:00"]
-        # 41,810 for 15 of 30 days, and 41,830 for half of a day of 31.
-        self.check([*PAYROLL, "--go-on", *cut], "", 0, "2024-06-01,2024-07-01,20905\n2024-07-01,2024-08-01,675\n")
+        sums, cut = [*PAYROLL, "--go-on", *MONTHLY, "--sum", "sum_euros"], ["--from", "2024-06-16", "--to"]
+        # 41,810 for 15 of 30 days, and 41,830 for half of a day of 31. Each piece has the time that counts.
+        pieces = "2024-06-16,2024-07-01,20905\n2024-07-01,2024-07-01T12:00:00,675\n"
+        self.check([*sums, *cut, "2024-07-01T12:00:00"], "", 0, pieces)
+        self.check([*sums, *cut, "2024-07-01"], "", 0, "valid_to,sum_euros\n2024-06-16,2024-07-01,20905\n")
+
+    def test_the_last_day_counts_where_ends_are_last_days(self) -> None:
+        months = [*PAYROLL, "--go-on", *MONTHLY, "--sum", "sum_euros", "--last-day"]
+        december = ["--from", "2024-12-01", "--to", "2024-12-31"]
+        self.check([*months, *december], "", 0, "last_day,sum_euros\n2024-12-01,2024-12-31,42150\n")
+        day = ["--from", "2024-12-31", "--to", "2024-12-31"]
+        self.check([*months, *day], "", 0, "last_day,sum_euros\n2024-12-31,2024-12-31,1360\n")
+        self.check([*months, "--from", "2025-01-01", *december[2:]], "", 1, "2025-01-01 is after --to 2024-12-31")
+        self.check([*months, "--to", "2024-12-31T12:00:00"], "", 1, "--last-day it is the last day that counts")
+
+    def test_an_amount_in_total_is_divided_over_its_record(self) -> None:
+        script = "table,t,k,text,cents,int\nload,t\nrow,2024-01-15,2025-01-15,a,120000\n{}end\n{}"
+        months = ["tools/answers", "months", "-", "--ask", "rows,t", "--sum", "cents", "--by", "k", "--in-total"]
+        years = "2024-01-01,2025-01-01,a,115410\n2025-01-01,2026-01-01,a,4590\n"
+        self.check([*months, "--each", "year"], script.format("", ""), 0, years)
+        january = "2025-01-01,2025-01-11,a,3279\n"
+        self.check([*months, "--from", "2025-01-01", "--to", "2025-01-11"], script.format("", ""), 0, january)
+        for row in ("2024-01-01,9999-12-31", "0001-01-01,2024-01-01"):
+            known = "start" if row.startswith("0001") else "end"
+            open_row = script.format(f"row,{row},b,5\n", "")
+            part = f"no {known} is known, so an amount in total can't be divided: leave the record out by --where"
+            self.check([*months, "--from", "2024-01-01", "--to", "2024-02-01"], open_row, 1, part)
+        change = "update,t,2024-07-01,2025-01-15,set,k,b,where,k,a\n"
+        note = "update,t,2024-07-01,2025-01-15,set,k,b,where,k,a: if it has cut a row, each part of the row has"
+        self.check(months, script.format("", change), 0, note)
+        self.assertNotIn("cut a row", run([*months[:4], "rows,t,asof,2", *months[5:]], script.format("", change))[2])
 
     def test_sums_by_what_is_summed_have_its_decimals(self) -> None:
         script = "table,t,cents,int\nload,t\nrow,2024-01-01,2024-02-01,4800\nend\n"
-        months = ["tools/answers", "months", "-", "--ask", "rows,t", "--by", "cents", "--sum", "cents"]
+        months = ["tools/answers", "months", "-", "--ask", "rows,t", "--by", "cents", "--sum", "cents", *MONTHLY]
         january = "valid_from,valid_to,cents,cents_\n2024-01-01,2024-02-01,48.00,"
         self.check([*months, "--decimals", "cents=2"], script, 0, f"{january}48.00\n")
         self.check([*months, "--decimals", "cents=2", "--decimals", "cents_=0"], script, 0, f"{january}4800\n")
 
     def test_a_difference_is_of_two_answers(self) -> None:
-        months = [*PAYROLL, "--go-on", "--sum", "sum_euros", "--from", "2024-05-01", "--to", "2024-08-01"]
+        months = [*PAYROLL, "--go-on", *MONTHLY, "--sum", "sum_euros", "--from", "2024-05-01", "--to", "2024-08-01"]
         june = "2024-05-01,2024-06-01,0\n2024-06-01,2024-07-01,480\n2024-07-01,2024-08-01,360\n"
         self.check([*months, "last", "--less", "last-1"], "", 0, june)
         self.check([*months, "--less", "last-1"], "", 0, june)

@@ -292,14 +292,15 @@ class Folders(ToolCase):
 
     def test_a_question_s_name_is_refused_where_nothing_has_it(self) -> None:
         for tool in (
-            "list", "csv", "picture", "changed", "overlaps person", "gaps person", "coalesce", "months --sum euros",
+            "list", "csv", "picture", "changed", "overlaps person", "gaps person", "coalesce",
+            "months --sum euros --per=month",
             "history pay", "refusals", "only pay 2", "raise pay euros --percent 1 --from 2024-01-01", "next --table t",
         ):
             name, *more = tool.split()
             words = ["tools/answers", name, EXAMPLE, *more, "--answers", EXAMPLE + ".stdout"]
             given = [*words, "--ask", "a b=rows,pay"]
             self.check(given, "", 1, f"answers: --ask a b=rows,pay: {self.ONLY} rows,pay\n")
-        less = ["tools/answers", "months", EXAMPLE, "--sum", "euros", "--less", "a=rows,pay,asof,2"]
+        less = ["tools/answers", "months", EXAMPLE, "--sum", "euros", "--per=month", "--less", "a=rows,pay,asof,2"]
         wrong = f"answers: --less a=rows,pay,asof,2: {self.ONLY} rows,pay,asof,2\n"
         self.check([*less, "--answers", EXAMPLE + ".stdout"], "", 1, wrong)
 
@@ -315,8 +316,8 @@ class Folders(ToolCase):
 
     def test_a_name_is_refused_where_nothing_has_it(self) -> None:
         for tool in (
-            "csv", "picture", "changed @9", "next --table t", "months --sum euros",
-            "gaps person --of", "coalesce --of", "months @9 --sum euros --less",
+            "csv", "picture", "changed @9", "next --table t", "months --sum euros --per=month",
+            "gaps person --of", "coalesce --of", "months @9 --per=month --sum euros --less",
         ):
             name, *more = tool.split()
             with self.subTest(tool):

@@ -92,19 +92,25 @@ class Pieces(unittest.TestCase):
         self.assertGreaterEqual(length, {"day": 1, "week": 7, "month": 28, "quarter": 90, "year": 365}[each])
 
 
+def row_of(start: int, end: int, amount: int) -> amounts.Row:
+    """A row of whole days."""
+    return amounts.Row(start * pieces.DAY, end * pieces.DAY, amount, (start * pieces.DAY, end * pieces.DAY))
+
+
 class Amounts(unittest.TestCase):
     @DRAWN
-    @given(rows(), WORDS)
-    def test_each_day_comes_to_its_part_of_its_piece(self, found: List[Tuple[int, int, int]], each: str) -> None:
+    @given(rows(), WORDS, WORDS)
+    def test_each_day_has_its_part_of_the_amount_per_piece(
+        self, found: List[Tuple[int, int, int]], each: str, per: str,
+    ) -> None:
         calendar, wanted = pieces.calendar(each), {}  # type: Any, Dict[int, Fraction]
         for start, end, amount in found:
             for day in range(start, end):
-                [(first, last)] = pieces.touched(day * pieces.DAY, (day + 1) * pieces.DAY, calendar)
-                share = Fraction(amount * pieces.DAY, last - first)
-                wanted[first] = wanted.get(first, Fraction(0)) + share
-        seconds = [(start * pieces.DAY, end * pieces.DAY, amount) for start, end, amount in found]
-        made = amounts.by_piece(seconds, calendar)
-        self.assertEqual([(calendar.start_of(one.piece), Fraction(*one.exact)) for one in made], sorted(wanted.items()))
+                [(first, last)] = pieces.touched(day * pieces.DAY, (day + 1) * pieces.DAY, pieces.calendar(per))
+                piece = calendar.number_of(day * pieces.DAY)
+                wanted[piece] = wanted.get(piece, Fraction(0)) + Fraction(amount * pieces.DAY, last - first)
+        made = amounts.by_piece([row_of(*one) for one in found], calendar, pieces.calendar(per))
+        self.assertEqual([(one.piece, Fraction(*one.exact)) for one in made], sorted(wanted.items()))
         exact = sum(wanted.values(), Fraction(0))
         whole = sum(one.whole for one in made)
         self.assertLessEqual(abs(whole - exact), Fraction(1, 2))
@@ -112,8 +118,32 @@ class Amounts(unittest.TestCase):
             self.assertLess(abs(one.whole - Fraction(*one.exact)), 1)
             self.assertEqual(one.is_rounded, one.whole != Fraction(*one.exact))
 
+    @DRAWN
+    @given(rows(), WORDS, st.integers(0, 40), st.integers(0, 40))
+    def test_an_amount_in_total_is_divided_over_its_row(
+        self, found: List[Tuple[int, int, int]], each: str, late: int, early: int,
+    ) -> None:
+        """Some days at the start and at the end of each row don't count."""
+        calendar, exact, wholes = pieces.calendar(each), {}, {}  # type: Any, Dict[int, Fraction], Dict[int, int]
+        cut = []
+        for start, end, amount in found:
+            row, counted = row_of(start, end, amount), range(start + late, end - early)
+            for day in counted:
+                piece = calendar.number_of(day * pieces.DAY)
+                exact[piece] = exact.get(piece, Fraction(0)) + Fraction(amount, end - start)
+                until = [rounding.rounded(amount * (one - start), end - start) for one in (day, day + 1)]
+                wholes[piece] = wholes.get(piece, 0) + until[1] - until[0]
+            times = (counted.start * pieces.DAY, counted.stop * pieces.DAY)
+            cut.extend([row._replace(start=times[0], end=times[1])] if counted else [])
+        made = amounts.by_piece(cut, calendar, None)
+        self.assertEqual([(one.piece, Fraction(*one.exact)) for one in made], sorted(exact.items()))
+        self.assertEqual({one.piece: one.whole for one in made}, wholes)
+        if not (late or early):
+            self.assertEqual(sum(one.whole for one in made), sum(amount for _, _, amount in found))
+
     def test_parts_of_a_day_are_counted_by_seconds(self) -> None:
-        [one] = amounts.by_piece([(0, pieces.DAY // 2, 31 * 4)], pieces.calendar("month"))
+        half = amounts.Row(0, pieces.DAY // 2, 31 * 4, (0, pieces.DAY // 2))
+        [one] = amounts.by_piece([half], pieces.calendar("month"), pieces.calendar("month"))
         self.assertEqual((one.piece, Fraction(*one.exact), one.whole), (0, Fraction(2), 2))
 
 

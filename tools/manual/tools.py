@@ -35,7 +35,7 @@ ANSWERS_EXAMPLES = [
      "dipq-answers sqlite pay.csv :memory: --ask pay=rows,pay \\\n"
      "    --query 'select person, max(euros) from pay group by person'"),
     ("Sums by month and person, as money and with last days; and what a raise would do:",
-     "dipq-answers months pay.csv --ask rows,pay --sum cents --by person --to 2025-01-01 \\\n"
+     "dipq-answers months pay.csv --ask rows,pay --sum cents --per month --by person --to 2024-12-31 \\\n"
      "    --decimals cents=2 --last-day\n"
      "dipq-answers raise pay.csv pay cents --percent 2.5 --from 2025-01-01 --round half-up --dry-run"),
     ("The last division of a script as a picture for a browser:", "dipq-answers picture posts.csv --svg > posts.svg"),

@@ -1,7 +1,7 @@
-"""What an answer's records come to in each month, quarter, year or week, by the values of some columns; and how much
-more that is than what another answer's come to.
+"""The amounts of an answer's records in each month, quarter, year, week or day, by the values of some columns; and how
+much more they are than those of another answer.
 """
-from typing import Dict, Iterable, Iterator, List, NamedTuple, Optional, Sequence, Tuple
+from typing import Dict, Iterator, List, NamedTuple, Optional, Sequence, Tuple
 
 from ruzgalt.answers import Answer, conditions, grouped
 from ruzgalt.errors import Misfit
@@ -17,17 +17,33 @@ NO_END = "9999-01-01"
 
 
 class Wish(NamedTuple):
-    """The column whose numbers are summed, those whose values have a sum each, the pieces, the time to count, which
-    records are counted, and whether sums that are exactly 0 are listed.
+    """What is summed.
+
+    summed      the column of amounts
+    per         the piece of the calendar in which a record has its amount; None if it has it once, in total
+    each        the pieces that have a sum each
+    by          the columns whose values have a sum each
+    start, end  the time that counts
+    where       the records that count
+    is_last     whether the end is the last day that counts
+    has_zeros   whether sums that are exactly 0 are listed
     """
 
     summed: str
-    by: Sequence[str] = ()
+    per: Optional[str]
     each: str = "month"
+    by: Sequence[str] = ()
     start: Optional[str] = None
     end: Optional[str] = None
     where: conditions.Where = ()
+    is_last: bool = False
     has_zeros: bool = True
+
+    @property
+    def seconds(self) -> Tuple[int, int]:
+        """The first second that counts, and the first one that doesn't any more."""
+        last = seconds(self.end or END) + (pieces.DAY if self.end and self.is_last else 0)
+        return seconds(self.start or BEGINNING), min(last, seconds(END))
 
 
 class Sums(NamedTuple):
@@ -53,38 +69,56 @@ class Side(NamedTuple):
 
 
 def sums(answer: Answer, wish: Wish, less: Optional[Answer] = None) -> Sums:
-    """The sums of each group in the order of time, which add up to its exact sum, rounded once.
-
-    Where there is another answer, its exact sums are taken from them.
-    """
+    """Returns the sums of each group in the order of time, less those of another answer if one is given."""
     refuse_points(wish)
     sides = [side_of(answer, wish, 1), *([side_of(less, wish, -1)] if less else [])]
     places = " and ".join(side.answer.place for side in sides)
     refuse_other_kinds(places, sides[0].columns, sides[-1].columns)
-    calendar, columns = pieces.calendar(wish.each), sides[0].columns
+    columns, each, per = sides[0].columns, pieces.calendar(wish.each), pieces.calendar(wish.per) if wish.per else None
     found: List[Row] = []
     rounded = 0
     for values in grouped.in_order(columns[:-1], {values for side in sides for values in side.records}):
-        made = amounts.by_piece((row for side in sides for row in rows_of(side, values, wish)), calendar)
+        made = amounts.by_piece((row for side in sides for row in rows_of(side, values, wish)), each, per)
         rounded += sum(one.is_rounded for one in made)
         # A sum that is rounded to 0 isn't 0.
         listed = (one for one in made if wish.has_zeros or one.whole or one.is_rounded)
-        found.extend([*period_of(one.piece, calendar), *values, str(one.whole)] for one in listed)
+        found.extend([*period_of(one.piece, each, wish), *values, str(one.whole)] for one in listed)
     counted = sum(len(records) for side in sides for records in side.records.values())
     return Sums(Table(unique([*PERIOD, *columns]), found), rounded, counted)
 
 
 def side_of(answer: Answer, wish: Wish, sign: int) -> Side:
     groups = grouped.by_columns(answer, wish.by, wish.where)
+    if wish.per is None and answer.command.word != "rows":
+        why = "its records are parts of rows, and each part has the whole amount"
+        raise Misfit(f"{answer.place}: {short(answer.command.text)}: {why}; with --in-total ask by `rows`")
     summed = answer.table.columns[summed_place(answer, wish.summed)]
     return Side(answer, [*groups.columns, summed], groups.records, sign)
 
 
 def rows_of(side: Side, values: grouped.Values, wish: Wish) -> Iterator[amounts.Row]:
-    """The counted part of each record of a group, with its amount."""
-    place = side.answer.table.place(wish.summed)
-    for start, end, record in cuts(side.answer, side.records.get(values, []), wish):
-        yield start, end, side.sign * int(record[place])
+    """The records of a group, each with the part of its period that counts, if there is one."""
+    place, amount = grouped.period_place(side.answer), side.answer.table.place(wish.summed)
+    first, last = wish.seconds
+    for record in side.records.get(values, []):
+        refuse_unknown(record, place, wish)
+        start, end = map(seconds, record[place:place + 2])
+        if max(start, first) < min(end, last):
+            yield amounts.Row(max(start, first), min(end, last), side.sign * int(record[amount]), (start, end))
+
+
+def refuse_unknown(record: Sequence[str], place: int, wish: Wish) -> None:
+    """Refuses a record whose start or end isn't known, if an option doesn't say where counting starts or ends."""
+    for what, is_unknown, limit, option in (
+        ("end", record[place + 1] >= NO_END, wish.end, "--to, up to which"),
+        ("start", record[place] == BEGINNING, wish.start, "--from, from which on"),
+    ):
+        why = f"{short(','.join(record))}: no {what} is known"
+        if is_unknown and wish.per is None:
+            remedy = "leave the record out by --where, or use --per if it has the amount in each month"
+            raise Misfit(f"{why}, so an amount in total can't be divided: {remedy}")
+        if is_unknown and limit is None:
+            raise Misfit(f"{why}: give {option} it counts")
 
 
 def summed_place(answer: Answer, name: str) -> int:
@@ -99,26 +133,15 @@ def refuse_points(wish: Wish) -> None:
     for word, point in (("from", wish.start), ("to", wish.end)):
         if point is not None and read_point(point) is None:
             raise Misfit(f"--{word} {short(point)}: not a date or time, such as {POINTS}")
-    if wish.start and wish.end and seconds(wish.start) >= seconds(wish.end):
-        raise Misfit(f"--from {wish.start} isn't before --to {wish.end}")
+    if wish.end and wish.is_last and len(wish.end) != 10:
+        raise Misfit(f"--to {wish.end}: with --last-day it is the last day that counts, so give it without a time")
+    if wish.start and wish.end and wish.seconds[0] >= wish.seconds[1]:
+        order = "is after" if wish.is_last else "isn't before"
+        raise Misfit(f"--from {wish.start} {order} --to {wish.end}")
 
 
-def cuts(answer: Answer, records: Iterable[Sequence[str]], wish: Wish) -> Iterator[Tuple[int, int, Sequence[str]]]:
-    """The part of each record's period that is counted, where there is one."""
-    place = grouped.period_place(answer)
-    first, last = seconds(wish.start or BEGINNING), seconds(wish.end or END)
-    for record in records:
-        start, end = record[place], record[place + 1]
-        if end >= NO_END and wish.end is None:
-            raise Misfit(f"{short(','.join(record))}: no end is known: give --to, up to which it counts")
-        if start == BEGINNING and wish.start is None:
-            raise Misfit(f"{short(','.join(record))}: no start is known: give --from, from which on it counts")
-        cut = max(seconds(start), first), min(seconds(end), last)
-        if cut[0] < cut[1]:
-            yield (*cut, record)
-
-
-def period_of(number: int, calendar: pieces.Calendar) -> Tuple[str, str]:
-    """The start and the end of a piece. That of the last one of all is the last point that there is."""
-    start, end = calendar.start_of(number), min(calendar.start_of(number + 1), seconds(END))
+def period_of(number: int, each: pieces.Calendar, wish: Wish) -> Tuple[str, str]:
+    """The part of a piece that counts, by its start and its end."""
+    first, last = wish.seconds
+    start, end = max(each.start_of(number), first), min(each.start_of(number + 1), last)
     return print_point(at_second(start)), print_point(at_second(end))
