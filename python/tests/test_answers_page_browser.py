@@ -373,6 +373,11 @@ class Shown(BrowserCase):
         heads = self.value("[...document.querySelectorAll('#questions th button')].map((one) => one.textContent)")
         self.assertEqual(heads, ["row_id", "valid_from", "last_day", "cents"])
         self.assertEqual(self.cells("#tables", 1)[0][:5], ["2024-03-01", "9999-12-31", "2", "", "-0.05"])
+        # Over a bar of a picture the same is shown as in the table beside it.
+        fact = "document.querySelector('#tables select[aria-label^=Fact]')"
+        self.value(f"{fact}.selectedIndex = 1; {fact}.dispatchEvent(new Event('change'))")
+        over = "row_id: 1, valid_from: 2024-01-01, last_day: 2024-02-29, sys_from: 2, sys_to: , cents: 12,345.67"
+        self.assertEqual(self.value("document.querySelector('#tables .square title').textContent"), over)
         self.of("--german")
         self.assertEqual([row[3] for row in self.cells("#questions")], ["12.345,67", "-0,05"])
 

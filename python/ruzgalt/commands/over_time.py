@@ -11,14 +11,14 @@ from ruzgalt.errors import Misfit
 from ruzgalt.periods import pieces
 from ruzgalt.script.records import short
 
-OF_MONTHS = """An amount --per month counts in each whole month of its record, and in a part of a month that part, by
-days. The sums of a group are whole numbers that add up to its exact sum, rounded once, half up: those with the largest
+OF_MONTHS = """An amount --per month counts in each whole month of its record, and in a part of a month that part of
+it. The sums of a group are whole numbers that add up to its exact sum, rounded once, half up: those with the largest
 remainders count one more. An amount --in-total is divided by days over the whole period of its record: up to a day the
 record has that part of the amount, rounded half up, so that its months add up to its amount. With --less the sums are
 differences: for each group and each month that a record of one of the two answers touches, the sum of the answer less
 that of the other."""
-WHICH_AMOUNT = """say what an amount is: --per month if a record has it in each month, such as a pay (or --per day, week,
-quarter, year), or --in-total if a record has it once for its whole period, such as a premium"""
+WHICH_AMOUNT = """say what an amount is: --per month if a record has it in each month, such as a pay (or each day, week,
+quarter or year), or --in-total if a record has it once for its whole period, such as a premium"""
 OF_COALESCE = """The periods are as long as possible. Without a COLUMN all records are one group."""
 
 

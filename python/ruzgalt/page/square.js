@@ -83,16 +83,17 @@ class Square {
       const shown = version.map((field, place) => shownField(this.columns[place], field));
       const label = different.map((place) => shown[place]).join(" ") || shown.slice(VALUES).join(" ") || `row ${version[0]}`;
       shades.set(label, shades.get(label) ?? shades.size % SHADES);
-      return this.bar(version, label, shades.get(label));
+      const title = this.names.map((name, place) => `${name}: ${shown[place]}`).join(", ");
+      return this.bar(version, label, shades.get(label), title);
     });
   }
 
-  bar(version, label, shade) {
+  bar(version, label, shade, title) {
     const x = this.across(version[FROM]), width = Math.max(this.across(version[TO]) - x, 2);
     const top = this.down(Number(version[MADE]));
     const end = version[CLOSED] === "" ? this.bottom : this.down(Number(version[CLOSED]));
-    const title = drawn("title", {}, this.names.map((name, place) => `${name}: ${version[place]}`).join(", "));
-    const box = drawn("rect", { class: `bar shade${shade}`, x, y: top + 1, width, height: end - top - 2 }, title);
+    const size = { x, y: top + 1, width, height: end - top - 2 };
+    const box = drawn("rect", { class: `bar shade${shade}`, ...size }, drawn("title", {}, title));
     const hasRoom = label.length * LETTER < width - 8;
     return hasRoom ? [box, drawn("text", { x: x + 4, y: (top + end) / 2 + 4 }, label)] : [box];
   }
