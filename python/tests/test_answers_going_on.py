@@ -97,6 +97,23 @@ class GoingOn(unittest.TestCase):
         )]
         self.assertEqual([record[1:] for record in made], own)
 
+    def test_a_raise_that_the_script_has_is_refused(self) -> None:
+        rows = "row,2024-01-01,9999-12-31,A,5000\nrow,2024-01-01,9999-12-31,B,6000\n"
+        load = f"table,t,dept,text,n,int\nload,t\n{rows}end\n"
+        words = ["tools/answers", "raise", "-", "t", "n", "--program", str(PROGRAM), "--percent"]
+        status, updates, said = run([*words, "2.5", "--from", "2025-01-01"], load)
+        self.assertEqual((status, updates.count("\n"), said), (0, 2, ""))
+        raised = load + updates
+        note = "raise of t: n was raised from 2025-01-01 on already, by 2 updates, the first from 6000 to 6150 (line 6)"
+        for percent, start in (("2.5", "2025-01-01"), ("3", "2025-01-01T00:00:00")):
+            found = run([*words, percent, "--from", start, "--round", "half-up"], raised)
+            self.assertEqual((found[:2], note in found[2]), ((1, ""), True), found)
+        more = run([*words, "2.5", "--from", "2025-01-01", "--round", "half-up", "--again"], raised)[1]
+        self.assertIn("set,n,5253,where,n,5125\n", more)
+        for other in (["--from", "2026-01-01"], ["--from", "2025-01-01", "--where", "dept=A"]):
+            status, updates, said = run([*words, "2.5", *other, "--round", "half-up"], raised)
+            self.assertEqual((status, updates != ""), (0, True), said)
+
     def test_a_sum_goes_on_by_its_group(self) -> None:
         script = printed([
             ["table", "t", "name", "text", "n", "int"], ["load", "t"], ["row", "2024-01-01", "2024-02-01", 'a"b', "7"],

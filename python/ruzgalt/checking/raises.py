@@ -48,6 +48,8 @@ class Raise:
         self.wish, self.schema = wish, rows.tables[wish.table]
         self.factor = factor_of(wish.percent)
         self.place = column_place(self.schema, wish.column)
+        # The other columns and values that the updates ask for.
+        self.others = [text for pair in wish.where if pair[0] != wish.column for text in pair]
         wanted = conditions.places(self.schema, wish.where)
         refuse_points(wish)
         there = [record[1:] for record in rows.table.texts() if conditions.has(record[3:], wanted)]
@@ -71,14 +73,28 @@ class Raise:
             raise Misfit(f"{amount} comes to {made.raised}, which has more than 64 bits, too many for a column")
         return made
 
+    def refuse_again(self, answers: Sequence[Answer]) -> None:
+        """Refuses a raise if the script has updates that changed the same amounts from the same point on."""
+        column = self.wish.column
+        form = ["update", self.wish.table, self.start, "set", column, "where", column, *self.others]
+        found = []
+        for answer in answers:
+            texts = answer.command.record.fields
+            others = [*texts[:2], *map(printed, texts[2:3]), *texts[4:6], *texts[7:9], *texts[10:]]
+            if others == form and not answer.refusal:
+                found.append(f"from {texts[9]} to {texts[6]} ({answer.place})")
+        if found:
+            updates = f"{len(found):,} updates, the first" if len(found) > 1 else "an update"
+            what = f"{column} was raised from {self.start} on already, by {updates} {found[0]}"
+            raise Misfit(f"raise of {self.wish.table}: {what}; --again raises the raised amounts once more")
+
     def updates(self) -> Iterator[List[str]]:
         """The record of each step that changes something."""
-        others = [text for name, value in self.wish.where if name != self.wish.column for text in (name, value)]
         for step in self.steps:
             if step.raised != step.amount:
                 portion = [self.wish.table, self.start, self.end]
                 changed = [self.wish.column, str(step.raised), "where", self.wish.column, str(step.amount)]
-                yield ["update", *portion, "set", *changed, *others]
+                yield ["update", *portion, "set", *changed, *self.others]
 
     def table(self) -> Table:
         """What each update would do."""

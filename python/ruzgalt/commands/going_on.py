@@ -54,6 +54,9 @@ def words_of_raise(parser: ArgumentParser) -> None:
         "--round", dest="rounding", choices=ROUNDINGS, metavar="HOW",
         help=f"how an amount becomes a whole number: {', '.join(ROUNDINGS)}, as Python's decimal has them",
     )
+    parser.add_argument(
+        "--again", action="store_true", help="raises amounts once more that the script has raised from the same point on",
+    )
     parser.add_argument("--dry-run", action="store_true", help="prints a table of what the updates would do instead")
 
 
@@ -65,6 +68,8 @@ def do_raise(options: Namespace) -> None:
     )
     [rows] = found.past.ask(f"rows,{options.table}")
     made = raises.Raise(rows, wish)
+    if not options.again:
+        made.refuse_again(found.answers)
     for note in made.notes():
         warn(note)
     if options.dry_run:
