@@ -54,9 +54,7 @@ def words_of_raise(parser: ArgumentParser) -> None:
         "--round", dest="rounding", choices=ROUNDINGS, metavar="HOW",
         help=f"how an amount becomes a whole number: {', '.join(ROUNDINGS)}, as Python's decimal has them",
     )
-    parser.add_argument(
-        "--again", action="store_true", help="raises amounts once more that the script has raised from the same point on",
-    )
+    parser.add_argument("--again", action="store_true", help="raises amounts that were raised from that point on already")
     parser.add_argument("--dry-run", action="store_true", help="prints a table of what the updates would do instead")
 
 
