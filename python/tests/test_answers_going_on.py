@@ -150,6 +150,8 @@ class Words(ToolCase):
         self.check([*pay, *more, "--percent", "0.001", "--where", "euros=4800"], "", 1, half)
         table = "rows,euros,exact,raised\n1,5400,5535,5535\n1,4800,4920,4920\n"
         self.check([*pay, *more, "--percent", "2.5"], "", 0, table)
+        note = "--to 2024-12-31: amounts of that day stay as they are; --to 2025-01-01 raises those of the last day too"
+        self.check([*pay, *more, "--percent", "2.5", "--to", "2024-12-31"], "", 0, note)
         self.check([*pay, *more, "--percent", "0.001", "--round", "down"], "", 0, "1,5400,5400.054,5400\n")
 
     def test_what_can_t_go_on_is_refused(self) -> None:

@@ -205,6 +205,8 @@ class Words(ToolCase):
         self.check([*pay, "--sum", "sum_euros"], "", 1, "9999-12-31,42150: no end is known: give --to, up to which")
         self.check([*pay, "--sum", "euros"], "", 1, "no column euros; its columns are valid_from, valid_to, sum_")
         self.check([*pay, "--sum", "valid_to"], "", 1, "valid_to: a start or an end")
+        ids = ["tools/answers", "months", EXAMPLE, "--ask", "rows,pay", "--program", str(PROGRAM), *MONTHLY]
+        self.check([*ids, "--sum", "row_id"], "", 1, "--sum row_id: a column of ids, whose sums mean nothing")
         self.check([*pay, "--sum", "sum_euros", "--to", "2024-13-01"], "", 1, "--to 2024-13-01: not a date or time")
         both = ["--from", "2024-02-01", "--to", "2024-02-01"]
         self.check([*pay, "--sum", "sum_euros", *both], "", 1, "--from 2024-02-01 isn't before --to 2024-02-01")

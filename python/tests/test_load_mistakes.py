@@ -69,6 +69,12 @@ class Refused(Case):
         words = [*WORDS, "--decimal-mark", ","]
         self.refused("--decimal-mark needs --decimals", rows(f"A,5,{PERIOD}"), *words)
 
+    def test_a_multiple_is_no_unit(self) -> None:
+        for unit in ("k€", "TEUR", "Mio.", "mn", "CR"):
+            with self.assertRaises(SystemExit), mock.patch("sys.stderr", Stream()) as said:
+                load(rows(f"A,5 {unit},{PERIOD}"), *CENTS, "--unit", unit)
+            self.assertIn(f"{unit}: a multiple or a sign, which can't be left out".encode(), said.bytes.getvalue())
+
     def test_points_of_other_forms_are_refused(self) -> None:
         for end, part in [
             ("2024/03/05", "use --dates 2024/12/31"), ("25-03-2024", "use --dates 31-12-2024"),
@@ -98,6 +104,10 @@ class Reported(Case):
                 self.assertEqual(printed.count("\nrow,"), 601)
         for last in (f"Total,{sums[0]},{sums[1] + 1},{PERIOD}", f"Total,0,{sums[1]},{PERIOD}"):
             self.assertEqual(load("\n".join([*names, last, ""]), *words)[1], [])
+
+    def test_a_first_row_with_the_sums_of_all_others_is_reported(self) -> None:
+        text = rows(f"Total,12,{PERIOD}", f"A,5,{PERIOD}", f"B,7,{PERIOD}")
+        self.noted("line 2: Pay 12 is the sum of the 2 rows below; if it is a total, leave the line out", text)
 
     def test_amounts_that_are_no_sums_are_loaded_without_a_word(self) -> None:
         for lines in (

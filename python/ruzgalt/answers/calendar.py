@@ -4,6 +4,7 @@ much more they are than those of another answer.
 from typing import Dict, Iterator, List, NamedTuple, Optional, Sequence, Tuple
 
 from ruzgalt.answers import Answer, conditions, grouped
+from ruzgalt.answers.changes import IDS
 from ruzgalt.errors import Misfit
 from ruzgalt.periods import amounts, pieces
 from ruzgalt.script.forms import POINTS, at_second, print_point, read_point, seconds
@@ -123,6 +124,8 @@ def refuse_unknown(record: Sequence[str], place: int, wish: Wish) -> None:
 
 def summed_place(answer: Answer, name: str) -> int:
     place = grouped.place_of(answer, name)
+    if name in IDS.get(answer.command.form.answered, ()):
+        raise Misfit(f"--sum {name}: a column of ids, whose sums mean nothing; give a column of amounts")
     if answer.table.columns[place].kind is not Kind.INT:
         raise Misfit(f"--sum {name}: a column of texts, and only numbers can be summed")
     return place

@@ -217,13 +217,16 @@ class Repeats:
 
 
 class Totals:
-    """Reports a last row whose amounts are the sums of all rows above, whatever the row is called."""
+    """Reports a last or first row whose amounts are the sums of all others, whatever the row is called."""
 
     def __init__(self, amounts: Dict[int, str]) -> None:
         """The columns that may have amounts: their names by their indices."""
         self.amounts = amounts
-        self.sums, self.last = dict.fromkeys(amounts, 0), dict.fromkeys(amounts, 0)
-        self.rows, self.line = 0, 0
+        self.sums = dict.fromkeys(amounts, 0)
+        # The amounts of the first and of the last row, and the lines of both.
+        self.first: Dict[int, int] = {}
+        self.last: Dict[int, int] = {}
+        self.rows, self.lines = 0, [0, 0]
 
     def add(self, lines: Sequence[int], columns: Sequence[Sequence[str]]) -> None:
         """Adds rows by their columns. A column that has anything but whole numbers has no amounts."""
@@ -231,18 +234,21 @@ class Totals:
             try:
                 numbers = list(map(int, columns[index]))
                 self.sums[index], self.last[index] = self.sums[index] + sum(numbers), numbers[-1]
+                self.first.setdefault(index, numbers[0])
             except ValueError:
                 del self.sums[index]
-        self.rows, self.line = self.rows + len(lines), [self.line, *lines[-1:]][-1]
+        if lines:
+            self.rows, self.lines = self.rows + len(lines), [self.lines[0] or lines[0], lines[-1]]
 
     def notes(self) -> Iterator[str]:
-        """Reports it if there are at least two rows above: two rows with the same amount are common. 0 is no total."""
-        are_sums = all(total == 2 * self.last[index] for index, total in self.sums.items())
-        if self.rows > 2 and are_sums and any(self.last[index] for index in self.sums):
-            shown = " and ".join(f"{visible(self.amounts[index])} {self.last[index]}" for index in self.sums)
-            what = "are the sums" if len(self.sums) > 1 else "is the sum"
-            remedy = "if it is a total, leave the line out, since sums would count it too"
-            yield f"line {self.line}: {shown} {what} of the {self.rows - 1:,} rows above; {remedy}"
+        """Reports it if there are at least two others: two rows with the same amount are common. 0 is no total."""
+        for line, amounts, where in zip(self.lines, (self.first, self.last), ("below", "above")):
+            are_sums = all(total == 2 * amounts[index] for index, total in self.sums.items())
+            if self.rows > 2 and are_sums and any(amounts[index] for index in self.sums):
+                shown = " and ".join(f"{visible(self.amounts[index])} {amounts[index]}" for index in self.sums)
+                what = "are the sums" if len(self.sums) > 1 else "is the sum"
+                remedy = "if it is a total, leave the line out, since sums would count it too"
+                yield f"line {line}: {shown} {what} of the {self.rows - 1:,} rows {where}; {remedy}"
 
 
 class Repeat(NamedTuple):

@@ -8,6 +8,7 @@ from ruzgalt.commands import streams
 from ruzgalt.commands.given import last, read, warn
 from ruzgalt.commands.words import filled, pair, words_of_where
 from ruzgalt.errors import Misfit
+from ruzgalt.loading.dates import is_month_end, shifted
 from ruzgalt.periods.rounding import ROUNDINGS
 from ruzgalt.script import records
 
@@ -54,7 +55,7 @@ def words_of_raise(parser: ArgumentParser) -> None:
         "--round", dest="rounding", choices=ROUNDINGS, metavar="HOW",
         help=f"how an amount becomes a whole number: {', '.join(ROUNDINGS)}, as Python's decimal has them",
     )
-    parser.add_argument("--again", action="store_true", help="raises amounts that were raised from that point on already")
+    parser.add_argument("--again", action="store_true", help="raises amounts that the script has raised already")
     parser.add_argument("--dry-run", action="store_true", help="prints a table of what the updates would do instead")
 
 
@@ -70,6 +71,9 @@ def do_raise(options: Namespace) -> None:
         made.refuse_again(found.answers)
     for note in made.notes():
         warn(note)
+    if options.end and is_month_end(made.end):
+        remedy = f"--to {shifted(made.end, 1)} raises those of the last day too"
+        warn(f"--to {options.end}: amounts of that day stay as they are; {remedy}")
     if options.dry_run:
         streams.show_records(export.to_csv(made.table()))
     else:

@@ -44,6 +44,8 @@ def part(word: str) -> Tuple[int, int]:
 def unit(word: str) -> str:
     if not decimals.UNIT.fullmatch(word):
         raise ArgumentTypeError(f"{word}: not a unit, such as EUR, which has no digit, mark or space")
+    if decimals.is_multiple(word) and len(word) > 1:
+        raise ArgumentTypeError(f"{word}: a multiple or a sign, which can't be left out; write the numbers without it")
     return word
 
 

@@ -64,6 +64,11 @@ def unit_of(text: str) -> str:
     return unit if unit.isprintable() else ""
 
 
+def is_multiple(unit: str) -> bool:
+    """Whether a unit may be a multiple, such as a thousand, or a side of an account."""
+    return unit.casefold().strip(".") in NO_UNITS
+
+
 def without(unit: str, text: str) -> str:
     """The text without the unit that stands before or after it."""
     sign = "-" if text.startswith("-") else ""
@@ -227,7 +232,7 @@ class Scale:
         is_number = any(number_in(without(unit, bare), mark) for mark in ".,")
         if unit and is_number:
             self.refuse_second(unit)
-        if unit and unit.casefold().strip(".") in NO_UNITS:
+        if is_multiple(unit):
             return f"; is {unit} a multiple, or a sign? write the number without it"
         return f"; use --unit {shlex.quote(unit)}" if unit and is_number else ""
 
