@@ -1,7 +1,7 @@
 """Amounts raised by a part of themselves: the updates that do it, one for each amount, exactly."""
 import re
 from collections import Counter
-from typing import Iterator, List, NamedTuple, Optional, Tuple
+from typing import Iterator, List, NamedTuple, Optional, Sequence, Tuple
 
 from ruzgalt.answers import Answer, conditions
 from ruzgalt.errors import Misfit
