@@ -24,7 +24,7 @@ def with_rows(past: Past, answer: Answer) -> Table:
     """Returns the records of a division, each with its row's period and values."""
     by_id = {str(row.row_id): row for row in rows_of(past, answer)}
     records = [[*record, *fields_of(by_id[record[1]])] for record in answer.table.texts()]
-    return Table(unique([*DIVISION, *PERIOD, *schema_of(answer).columns]), records)
+    return Table(unique([*DIVISION, *PERIOD, *answer.schema.columns]), records)
 
 
 def by_groups(past: Past, answer: Answer, names: Sequence[str]) -> Table:
@@ -37,12 +37,12 @@ def by_groups(past: Past, answer: Answer, names: Sequence[str]) -> Table:
         for part, place, instant in division.texts():
             row = group.rows[int(place) - 1]
             records.append([part, str(row.row_id), instant, *fields_of(row)])
-    return Table(unique([*DIVISION, *PERIOD, *schema_of(answer).columns]), records)
+    return Table(unique([*DIVISION, *PERIOD, *answer.schema.columns]), records)
 
 
 def of_groups(past: Past, answer: Answer, names: Sequence[str]) -> Iterator[Tuple[Group, Table]]:
     """Yields each group of equal values in these columns with its division, in which ids are 1, 2, 3 and so on."""
-    groups = groups_of(rows_of(past, answer), schema_of(answer), names)
+    groups = groups_of(rows_of(past, answer), answer.schema, names)
     trials = asking.tried(past.program, (trial_of(f"g{number}", group) for number, group in enumerate(groups)))
     return ((group, found[-1].table) for group, found in zip(groups, trials))
 
@@ -62,8 +62,8 @@ def counted(answer: Answer) -> Table:
 def counted_by_groups(past: Past, answer: Answer, names: Sequence[str]) -> Table:
     """Returns the same of each group's division, with the group's values. Groups are by their values."""
     records = [[*counts_of(division), *group.values] for group, division in of_groups(past, answer, names)]
-    schema = schema_of(answer)
-    return Table(unique([*COUNTS, *(schema.columns[schema.place(name)] for name in names)]), records)
+    columns = (answer.schema.columns[answer.schema.place(name)] for name in names)
+    return Table(unique([*COUNTS, *columns]), records)
 
 
 def counts_of(division: Table) -> List[Optional[str]]:
@@ -76,10 +76,6 @@ def counts_of(division: Table) -> List[Optional[str]]:
 def refuse_others(answer: Answer) -> None:
     if answer.command.word != "dip":
         raise Misfit(f"{answer.place}: {short(answer.command.text)}: not a division: ask by `dip`")
-
-
-def schema_of(answer: Answer) -> Schema:
-    return answer.tables[answer.command.front[1]]
 
 
 def fields_of(row: Version) -> List[str]:

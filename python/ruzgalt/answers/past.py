@@ -12,7 +12,6 @@ from ruzgalt.script.language import Answered
 from ruzgalt.script.questions import line_of
 from ruzgalt.script.reader import Source
 from ruzgalt.script.records import encode, to_record
-from ruzgalt.script.schemas import Schema
 
 # No commit has a greater number.
 NEWEST = 1_000_000
@@ -41,8 +40,7 @@ class Versions:
     """The versions of a table by rising id, from the answer to `between`. They are read when they are needed."""
 
     def __init__(self, answer: Answer) -> None:
-        self.schema: Schema = answer.tables[answer.command.front[1]]
-        self.table = answer.table
+        self.schema, self.table = answer.schema, answer.table
         # The rows of the last commit that was asked for. Refused commands follow one another, and change nothing.
         self.last: Tuple[int, List[Version]] = (-1, [])
 

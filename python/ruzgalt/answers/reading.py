@@ -41,6 +41,11 @@ class Answer:
         return self.command.line
 
     @property
+    def schema(self) -> Schema:
+        """The table that the command names first."""
+        return self.tables[self.command.record.fields[1]]
+
+    @property
     def refused(self) -> Refusal:
         """The refusal of one that has one."""
         if self.refusal is None:
@@ -162,18 +167,15 @@ class Reading:
 
     def divided(self, command: Command, first: Record, columns: List[Column]) -> Sequence[Row]:
         """A record for each row of each part, with the instant that all have."""
-        if first.word != "dip" or len(first.fields) != 4 or not all(map(is_count, first.fields[1:3])):
+        if first.word != "dip" or len(first.fields) != 4 or not is_count(first.fields[2]):
             raise misfit(command, "dip,ROWS,PARTS,INSTANT", first)
-        count, parts, instant = first.fields[1:]
+        _, _, parts, instant = first.fields
         place, found = self.output.place, 0
         for part in range(int(parts)):
             record = self.take(command, f"part,{part}")
             if list(record.fields[:2]) != ["part", str(part)]:
                 raise misfit(command, f"part,{part} with ids", record)
             found += len(record.fields) - 2
-        if found != int(count):
-            both = f"{count} rows are counted, but {found} are in parts"
-            raise Misfit(f"{command.place}: {short(command.text)}: {both}")
         return Rows(found, lambda: parts_at(self.source, place, int(parts), instant))
 
     def judged(self, command: Command, first: Record, columns: List[Column]) -> Sequence[Row]:

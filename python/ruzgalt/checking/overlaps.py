@@ -44,7 +44,7 @@ def schema_of(answer: Answer) -> Schema:
         raise Misfit(f"{answer.place}: {answer.command.text}: an `at` is of one point alone: ask by `rows`")
     if answer.command.word != "rows":
         raise Misfit(f"{answer.place}: {answer.command.text}: not a list of rows: ask by `rows`")
-    return answer.tables[answer.command.front[1]]
+    return answer.schema
 
 
 def in_answer(past: Past, answer: Answer, key: Sequence[str]) -> Table:
@@ -109,16 +109,12 @@ def changes_of(past: Past, refused: Sequence[Answer]) -> Dict[int, Change]:
         if answer.command.word == "load":
             found[answer.number] = Change(list(loaded(answer)), set())
         else:
-            texts, schema = answer.command.record.fields, schema_in(answer)
-            wanted = [(schema.place(texts[place]), texts[place + 1]) for place in where_places(texts)]
+            texts = answer.command.record.fields
+            wanted = [(answer.schema.place(texts[place]), texts[place + 1]) for place in where_places(texts)]
             updates.append((answer, [one for one in rows_at(past, answer) if conditions.has(one.values, wanted)]))
     for (answer, rows), tried in zip(updates, asking.tried(past.program, (trial_of(*one) for one in updates))):
         found[answer.number] = updated(answer, rows, tried[-1].table)
     return found
-
-
-def schema_in(answer: Answer) -> Schema:
-    return answer.tables[answer.command.record.fields[1]]
 
 
 def loaded(answer: Answer) -> Iterator[Held]:
@@ -129,7 +125,7 @@ def loaded(answer: Answer) -> Iterator[Held]:
 
 def trial_of(answer: Answer, rows: Sequence[Version]) -> List[Sequence[str]]:
     """Returns a script that loads these rows, updates them, and lists all versions."""
-    schema = replace(schema_in(answer), name=f"t{answer.number}", key=())
+    schema = replace(answer.schema, name=f"t{answer.number}", key=())
     loaded = (["row", row.start, row.end, *row.values] for row in rows)
     update, _, *others = answer.command.record.fields
     change = [[update, schema.name, *others], versions_of(schema.name).split(",")]
@@ -157,7 +153,7 @@ def updated(answer: Answer, rows: Sequence[Version], listed: Table) -> Change:
 
 def groups_of(past: Past, answer: Answer, change: Change) -> Iterator[List[Held]]:
     """Yields the rows that the change would leave for each value of the key that it adds rows of."""
-    key_of = itemgetter(*schema_in(answer).key)
+    key_of = itemgetter(*answer.schema.key)
     groups: Dict[object, List[Held]] = {}
     for row in change.added:
         groups.setdefault(key_of(row.values), []).append(row)
@@ -203,7 +199,7 @@ def pairs(groups: Sequence[Sequence[Held]], times: Sequence[Sequence[Span]]) -> 
 
 def lines_of(answer: Answer, groups: Sequence[Sequence[Held]], times: Sequence[Sequence[Span]]) -> Iterator[str]:
     """Yields for each pair of rows a line with the key and the time, and a line for each row."""
-    schema = schema_in(answer)
+    schema = answer.schema
     found = pairs(groups, times)
     for one, other in islice(found, PAIRS):
         key = ", ".join(f"{schema.names[place]} {to_record([one.values[place]])}" for place in schema.key)

@@ -30,7 +30,7 @@ def reason(answer: Answer) -> str:
 
 
 def key_overlap(answer: Answer) -> str:
-    schema = answer.tables[answer.command.record.fields[1]]
+    schema = answer.schema
     key = ", ".join(schema.names[place] for place in schema.key)
     about = f"two rows with the same key ({key}) would hold at the same time"
     return f"{about}: end one before the other starts, or change it by an update"
@@ -38,7 +38,7 @@ def key_overlap(answer: Answer) -> str:
 
 def wrong_width(answer: Answer) -> str:
     record = answer.refused.record
-    wanted = ",".join(["row", "FROM", "TO", *answer.tables[answer.command.record.fields[1]].names])
+    wanted = ",".join(["row", "FROM", "TO", *answer.schema.names])
     count = f"{len(record.fields)} fields, not the {wanted.count(',') + 1} of {wanted}"
     return f"{visible(record.text)} has {count}; put a text with a comma in double quotes, right between commas"
 

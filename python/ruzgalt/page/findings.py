@@ -76,7 +76,7 @@ def why_idle(answer: Answer, sources: Sources) -> str:
     if answer.command.word == "load":
         return "the load has no rows"
     texts = answer.command.record.fields
-    schema = answer.tables[texts[1]]
+    schema = answer.schema
     wanted = [(schema.place(texts[place]), texts[place + 1]) for place in where_places(texts)]
     rows = sources.past.versions(texts[1]).at(answer.commits - 1)
     for place, value in wanted:
