@@ -69,11 +69,11 @@ class Spans(unittest.TestCase):
         self.assertEqual(list(spans.united(periods)), runs(points_of(periods)))
 
     @DRAWN
-    @given(st.lists(SPANS, max_size=8), st.one_of(st.none(), SPANS))
-    def test_gaps_are_the_runs_of_the_other_points(self, periods: List[Tuple[int, int]], within: Any) -> None:
+    @given(st.lists(SPANS, max_size=8))
+    def test_gaps_are_the_runs_of_the_other_points(self, periods: List[Tuple[int, int]]) -> None:
         held = points_of(periods)
-        hull = range(*within) if within else range(min(held, default=0), max(held, default=0))
-        self.assertEqual(list(spans.gaps(periods, within)), runs(set(hull) - held))
+        hull = range(min(held, default=0), max(held, default=0))
+        self.assertEqual(list(spans.gaps(periods)), runs(set(hull) - held))
 
 
 class Pieces(unittest.TestCase):

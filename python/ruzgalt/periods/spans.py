@@ -21,18 +21,7 @@ def united(periods: Iterable[Tuple[Point, Point]]) -> Iterator[Tuple[Point, Poin
         yield begun
 
 
-def gaps(
-    periods: Iterable[Tuple[Point, Point]], within: Optional[Tuple[Point, Point]] = None,
-) -> Iterator[Tuple[Point, Point]]:
-    """The maximal periods at no point of which one of these holds: all of them lie within that one period.
-
-    Where none is given, they lie between the first start and the last end.
-    """
-    reached = within[0] if within else None
-    for start, end in united(periods):
-        gap = start if within is None else min(start, within[1])
-        if reached is not None and reached < gap:
-            yield reached, gap
-        reached = end if reached is None else max(reached, end)
-    if within and reached is not None and reached < within[1]:
-        yield reached, within[1]
+def gaps(periods: Iterable[Tuple[Point, Point]]) -> Iterator[Tuple[Point, Point]]:
+    """The maximal periods between the first start and the last end at no point of which one of these holds."""
+    found = list(united(periods))
+    return ((end, start) for (_, end), (start, _) in zip(found, found[1:]))

@@ -69,7 +69,7 @@ def refuse_unused(answer: Answer, wish: Wish) -> None:
 def division(answer: Answer, wish: Wish, versions: VersionsOf) -> Bars:
     """A lane for each part, with the periods of its rows; and the instant."""
     rows = {str(row.row_id): row for row in versions(answer.command.front[1]).at(answer.commit)}
-    table = Table(unique([*ints("row_id"), *PERIOD, *answer.tables[answer.command.front[1]].columns]))
+    table = Table(unique([*ints("row_id"), *PERIOD, *answer.schema.columns]))
     conditions.places(table, wish.where)
     wish.amounts.refuse_strangers(table)
     parts, records, instant = [], [], "-"
