@@ -40,7 +40,7 @@ grouped-from_rise items rise = λ i j d less inside. rise i j d (omega arith) in
 -- ---- items of lower classes, and of higher ones
 
 -- items of other classes are none of a class
-none_of : (class : ℕ) (items : List Item) → All (λ (x : Item). x.class ≡ class → ⊥) items → of_class class items ≡ []
+pub none_of : (class : ℕ) (items : List Item) → All (λ (x : Item). x.class ≡ class → ⊥) items → of_class class items ≡ []
 none_of class [] others = refl
 none_of class (x ∷ items) others =
     ap (λ b. cond b (x ∷ of_class class items) (of_class class items))
@@ -48,7 +48,7 @@ none_of class (x ∷ items) others =
     ∙ none_of class items (All-tail (λ (y : Item). y.class ≡ class → ⊥) x items others)
 
 -- a class without items has no plateau
-no_plateau : (measure : Measure) (items : List Item) (p : Plateau) → of_class p.class items ≡ []
+pub no_plateau : (measure : Measure) (items : List Item) (p : Plateau) → of_class p.class items ≡ []
     → IsPlateau measure items p → ⊥
 no_plateau measure items p none is =
     let h = is.maximal.inside p.period.from (first_held p.period) in
@@ -101,7 +101,7 @@ module _ (measure : Measure) (class : ℕ) (items low high : List Item) (parted 
     ]
 
     -- the plateaus of both
-    ArePlateaus-parted : (rows more : List Plateau) → ArePlateaus measure low rows → ArePlateaus measure high more
+    pub ArePlateaus-parted : (rows more : List Plateau) → ArePlateaus measure low rows → ArePlateaus measure high more
         → ArePlateaus measure items (rows ++ more)
     ArePlateaus-parted rows more one other =
         subst (λ (xs : List Item). ArePlateaus measure xs (rows ++ more)) (sym parted.whole)

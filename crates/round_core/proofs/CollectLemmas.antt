@@ -163,7 +163,7 @@ no_tally items t a e i = Contains-none a.min (subst (λ z. Contains (amounts z) 
 
 module _ (measure : Measure) (items : List Item) (steps : List Step)
     (same : (t : ℤ) → IsTallyAt items t (tally_at steps t)) where
-  value_of_steps : (v t : ℤ) → GivesValue measure steps v t → HasValue measure items v t
+  pub value_of_steps : (v t : ℤ) → GivesValue measure steps v t → HasValue measure items v t
   value_of_steps v t (a, e, g) = record { tally = a; is = subst (IsTallyAt items t) e (same t); gives = g }
 
   found : (v t : ℤ) (o : Option Tally) → IsTallyAt items t o → HasValue measure items v t
@@ -171,7 +171,7 @@ module _ (measure : Measure) (items : List Item) (steps : List Step)
   found v t None i h = absurd (no_tally items t h.tally i h.is)
   found v t (Some a) i h = (a, refl, IsTally-unique measure (holding items t) a h.tally i h.is ∙ h.gives)
 
-  value_of_items : (v t : ℤ) → HasValue measure items v t → GivesValue measure steps v t
+  pub value_of_items : (v t : ℤ) → HasValue measure items v t → GivesValue measure steps v t
   value_of_items v t h = found v t (tally_at steps t) (same t) h
 
 -- a class of which an item holds an instant has a tally there

@@ -55,8 +55,13 @@ pub(crate) fn joined(one: &Plateau, next: &Plateau) -> Option<Plateau>
     None
 }
 
-/// Adds the plateaus of a class, from its steps: neighbours that touch and have one value are one.
-fn close(
+/// Adds the constant intervals of a class, by start, from what its items come to at each instant, which `Steps::steps`
+/// returns: two steps that touch and have the same value are one interval.
+///
+/// # Errors
+///
+/// `NoMemory` if a growth is refused.
+pub fn add_plateaus(
     measure: Measure,
     class: u64,
     steps: &[Step],
@@ -102,7 +107,7 @@ pub(crate) fn plateaus_in(
         let steps = list.steps.steps();
         // Each step begins at most one plateau.
         plateaus.reserve(steps.len())?;
-        close(measure, list.class, steps, &mut plateaus)?;
+        add_plateaus(measure, list.class, steps, &mut plateaus)?;
     }
     Ok(plateaus)
 }

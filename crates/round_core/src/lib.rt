@@ -18,6 +18,7 @@ mod step_lists;
 mod tally_round;
 mod within;
 
+pub use closing::add_plateaus;
 pub use laws::classes_have_one_list;
 pub use measure::Measure;
 pub use plateau::{Plateau, Plateaus};

@@ -15,11 +15,11 @@ lists-preserved c =
     let list = c.in-Some.list in
     let added =
     subst (λ z. AddsAll PlateauBefore (IsStepPlateau c.args.measure list.class z) c.reserve.new.self.items
-    c.close.new.plateaus.items) c.steps-steps.ensures.value c.in_ok-close.ensures in
+    c.add_plateaus.new.plateaus.items) c.steps-steps.ensures.value c.in_ok-add_plateaus.ensures in
     collecting_more c.args.measure c.args.lists.items c.lists.lists.items c.pop_front.new.self.items list
-    c.lists.plateaus.items c.close.new.plateaus.items c.in-Some.ensures.items
+    c.lists.plateaus.items c.add_plateaus.new.plateaus.items c.in-Some.ensures.items
     (subst (λ l. AddsAll PlateauBefore (IsStepPlateau c.args.measure list.class list.steps.steps) l
-    c.close.new.plateaus.items) c.in_ok-reserve.ensures.items added)
+    c.add_plateaus.new.plateaus.items) c.in_ok-reserve.ensures.items added)
     c.lists.invariant
 
 pub returns : goal.returns

@@ -1,6 +1,6 @@
 use Rattle.std.proofs.Common.{length}
 use Rattle.round_core.proofs.ClosingLemmas.{IsClosing}
-use Rattle.round_core.proofs.closing.close.Given as goal
+use Rattle.round_core.proofs.closing.add_plateaus.Given as goal
 
 abbrev pub invariant-steps : goal.invariant-steps
 invariant-steps l = IsClosing l.measure l.class l.steps l.left l.row l.initial.plateaus.items l.plateaus.items

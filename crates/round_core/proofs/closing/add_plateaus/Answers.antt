@@ -1,6 +1,6 @@
 use Rattle.std.proofs.lemmas.List.{nil_from_length}
 use Rattle.round_core.proofs.ClosingLemmas.{closing_none, closing_start, closing_joined, closing_cut, closing_end}
-use Rattle.round_core.proofs.closing.close.Goals as goal
+use Rattle.round_core.proofs.closing.add_plateaus.Goals as goal
 
 pub returns-in_default : goal.returns-in_default
 returns-in_default c =
