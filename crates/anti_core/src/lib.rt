@@ -24,4 +24,5 @@ pub use laws::{
     anti_has_one_list, anti_is_that_of_codes, anti_is_that_of_its_lots, anti_is_that_of_stand_ins,
     unmet_periods_are_bordered,
 };
-pub use rows::{AntiRow, AntiRows};
+pub use rows::{AntiRow, AntiRows, add_rows};
+pub use united::united_items;

@@ -21,8 +21,12 @@ pub struct AntiRow {
 /// The rows of an anti-join, in their order, in chunks that were sorted apart.
 pub type AntiRows = ChunkedList<AntiRow>;
 
-/// Adds the rows of some gaps, in their order.
-pub(crate) fn add_rows(gaps: &[Gap], rows: &mut Vec<AntiRow>) -> Result<(), NoMemory>
+/// Adds the rows of some gaps, in their order: each has the id of its gap's left item and the gap's period.
+///
+/// # Errors
+///
+/// `NoMemory` if a growth is refused.
+pub fn add_rows(gaps: &[Gap], rows: &mut Vec<AntiRow>) -> Result<(), NoMemory>
     ensures { OnOk result (rows.new.items ≡ rows.old.items ++ map row_of_gap gaps.now) }
 {
     for gap in gaps {

@@ -64,8 +64,9 @@ fn united_piece(
     Ok(united_items(items))
 }
 
-/// The union of items. It takes no memory.
-fn united_items(mut items: Vec<Item>) -> Vec<Item>
+/// Returns the longest periods in which some item of each class holds, as items of their class with the id 0 and the
+/// amount 0, by class and start. The items' own list is used again: no memory is needed.
+pub fn united_items(mut items: Vec<Item>) -> Vec<Item>
     ensures { IsUnion items.items result.items }
 {
     items.sort_unstable_by_key(|item| (item.class, item.period.from));
