@@ -22,3 +22,4 @@ pub use laws::{
     join_has_one_list, join_is_that_of_codes, join_is_that_of_its_lots, join_is_that_of_stand_ins,
 };
 pub use rows::{JoinRow, JoinRows};
+pub use tiles::{Tile, are_read_often, cuts_of, tiles_cut_at};

@@ -1,6 +1,6 @@
-//! Left and right items in tiles: cut by time, so that items far from each other don't stand in one. That pays where many
-//! items of a side hold at once, but at other times than those of the other: the parts of both sides then have few items
-//! each, and nearly no part has an item that overlaps one of a part of the other side.
+//! Left and right items in tiles: cut by time, so that items far from each other don't stand in one. That pays where
+//! many items of a side hold at once, but at other times than those of the other: the parts of both sides then have few
+//! items each, and nearly no part has an item that overlaps one of a part of the other side.
 
 ghost use Rattle.std.specs.Prelude.{All, ◌≡◌, ◌≤◌, ◌++◌, length, filter, int_lt, IfOk, IfSome, IsPermutation, IsTrue, OnOk};
 ghost use Rattle.dip_core.specs.Item.{item_limit, HasDistinctIds};
@@ -13,10 +13,12 @@ use std::alloc::Global;
 use std::thread::Threads;
 use work_core::Crew;
 
-/// Left and right items to be read beside each other.
+/// Left and right items that are read next to each other.
 #[derive(Drop)]
-pub(crate) struct Tile {
+pub struct Tile {
+    /// The left items.
     pub left: Vec<Item>,
+    /// The right items.
     pub right: Vec<Item>,
 }
 
@@ -48,10 +50,14 @@ fn add_ends(
     Ok(())
 }
 
-/// The starts at which to cut, by all starts and all ends in their order: where no more hold than have started since the
-/// cut before, and where half of those that held at once since then have ended. So those that go on over cuts are no more
-/// than all starts and ends.
-fn cuts_of(alloc: Global, starts: &[Point], ends: &[Point]) -> Result<Vec<Point>, NoMemory> {
+/// Returns the starts at which to cut left and right items, from all their starts and all their ends, each in order. A
+/// cut is made where no more items hold than have started since the cut before, or than half of those that held at once
+/// since then, so that the items that go on over cuts are no more than all starts and ends.
+///
+/// # Errors
+///
+/// `NoMemory` if a growth is refused.
+pub fn cuts_of(alloc: Global, starts: &[Point], ends: &[Point]) -> Result<Vec<Point>, NoMemory> {
     let mut cuts = Vec::new(alloc);
     let (mut cut, mut most) = (0, 0);
     let (mut started, mut ended) = (0, 0);
@@ -215,6 +221,40 @@ fn reads_upto(tiles: &[Tile], most: u64) -> bool
     true
 }
 
+/// Whether so many items may be read so often in all pairs of parts that it pays to look for tiles.
+pub fn are_read_often(items: usize, most: u64) -> bool {
+    items as u64 <= most / READS
+}
+
+/// Returns the tiles of left and right items, both by rising start, cut at these points: each left and right item that
+/// share an instant are in exactly one tile together. `None` if more than half of `most` items would be read in them.
+///
+/// # Errors
+///
+/// `NoMemory` if a growth is refused.
+pub fn tiles_cut_at(
+    alloc: Global,
+    left: &[Item],
+    right: &[Item],
+    cuts: &[Point],
+    most: u64,
+) -> Result<Option<Vec<Tile>>, NoMemory>
+    requires left_few { length left.now ≤ item_limit }
+    requires right_few { length right.now ≤ item_limit }
+    requires left_ids { HasDistinctIds left.now }
+    requires right_ids { HasDistinctIds right.now }
+    requires left_rise { StartsRise left.now }
+    requires right_rise { StartsRise right.now }
+    ensures { IfOk result (λ found. IfSome found (λ tiles. AreTiles left.now right.now tiles.items
+        × (reads_in tiles.items ≤ most))) }
+{
+    let tiles = tiles_at(alloc, left, right, cuts)?;
+    if !reads_upto(&tiles, most / 2) {
+        return Ok(None);
+    }
+    Ok(Some(tiles))
+}
+
 /// The tiles of some items, where no more than half as many items are read in them as there are at most in all parts.
 pub(crate) fn tiles_of<R: Threads + Sync, G>(
     crew: &Crew<'_, R, G>,
@@ -229,15 +269,11 @@ pub(crate) fn tiles_of<R: Threads + Sync, G>(
     ensures { IfOk result (λ found. IfSome found (λ tiles. AreTiles left.now right.now tiles.items
         × (reads_in tiles.items ≤ most))) }
 {
-    if most / READS < (left.len() + right.len()) as u64 {
+    if !are_read_often(left.len() + right.len(), most) {
         return Ok(None);
     }
     let cuts = cuts_between(crew, left, right)?;
     let lefts = by_start(crew, left)?;
     let rights = by_start(crew, right)?;
-    let tiles = tiles_at(crew.alloc, &lefts, &rights, &cuts)?;
-    if !reads_upto(&tiles, most / 2) {
-        return Ok(None);
-    }
-    Ok(Some(tiles))
+    tiles_cut_at(crew.alloc, &lefts, &rights, &cuts, most)
 }
