@@ -242,9 +242,10 @@ class Totals:
 
     def notes(self) -> Iterator[str]:
         """Reports it if there are at least two others: two rows with the same amount are common. 0 is no total."""
-        for line, amounts, where in zip(self.lines, (self.first, self.last), ("below", "above")):
+        ends = (self.first, self.last) if self.rows > 2 else ()
+        for line, amounts, where in zip(self.lines, ends, ("below", "above")):
             are_sums = all(total == 2 * amounts[index] for index, total in self.sums.items())
-            if self.rows > 2 and are_sums and any(amounts[index] for index in self.sums):
+            if are_sums and any(amounts[index] for index in self.sums):
                 shown = " and ".join(f"{visible(self.amounts[index])} {amounts[index]}" for index in self.sums)
                 what = "are the sums" if len(self.sums) > 1 else "is the sum"
                 remedy = "if it is a total, leave the line out, since sums would count it too"
