@@ -183,6 +183,17 @@ class Workbooks(ToolCase):
             rows.append(f"1 row is struck out, at line {struck}")
             self.assertEqual(said, "".join(f"csv-to-load: the sheet: {row}, and all rows are loaded\n" for row in rows))
 
+    def test_merged_cells_are_reported(self) -> None:
+        book: Any = importlib.import_module("openpyxl").Workbook()
+        for row in (["From", "To", "Dept"], *[[date(2024, 1, 1), date(2024, 2, 1), "A"]] * 2):
+            book.active.append(row)
+        book.active.merge_cells("C2:C3")
+        data = io.BytesIO()
+        book.save(data)
+        status, text, said = loaded(data.getvalue(), ["Dept"])
+        self.assertEqual((status, text.count(",A\n"), text.count(",\n")), (0, 1, 1))
+        self.assertIn("the sheet: merged cells at C2:C3, of which only the first has the value; the others are", said)
+
     def test_of_several_sheets_one_is_named(self) -> None:
         row = [date(2024, 1, 1), date(2024, 2, 1), "x"]
         data = workbook({"A": [["None"]], "Löhne": [["From", "To", "Name"], row]})

@@ -12,7 +12,7 @@ from datetime import date, datetime, time
 from decimal import Decimal
 from importlib import import_module
 from itertools import islice
-from typing import Any, Counter as Counts, Iterator, List, Optional, Sequence, Set, Tuple
+from typing import Any, Counter as Counts, Iterator, List, Optional, Sequence, Tuple
 from xml.etree import ElementTree
 from zipfile import ZipFile
 
@@ -24,8 +24,9 @@ from ruzgalt.script.records import visible
 BEGINNING = b"PK\x03\x04"
 # How a workbook has a control character in a text, as the CR of a line that another program ended: XML has no such.
 ESCAPED = re.compile("_x00((?!00)[01][0-9A-Fa-f])_")
-# The start of a row in a sheet's XML, and what it has if the row is hidden.
+# In a sheet's XML the start of a row, what it has if the row is hidden, and merged cells. A filter hides rows too.
 ROW, HIDDEN = re.compile(rb"<(?:\w+:)?row\b[^>]*>"), re.compile(rb"""\bhidden=["'](?:1|true)["']""")
+MERGED = re.compile(rb"""<(?:\w+:)?mergeCell\b[^>]*\bref=["']([A-Z0-9:]+)""")
 NEEDED = "apt-get install python3-openpyxl, or save the sheet as CSV UTF-8"
 
 
@@ -48,7 +49,10 @@ class Workbook:
         self.unseen: List[int] = []
         self.struck: List[int] = []
         values, formulas = (sheet_of(data, name, has_values) for has_values in (True, False))
-        self.hidden = hidden_rows(data, values.title)
+        xml = xml_of(data, values.title)
+        starts = (re.search(rb"""\br=["'](\d+)""", row) for row in ROW.findall(xml) if HIDDEN.search(row))
+        self.hidden = {int(start[1]) for start in starts if start}
+        self.merged = [one.decode() for one in MERGED.findall(xml)]
         self.header: List[str] = []
         self.rows = self.read(values, formulas)
         for _, record in self.rows:
@@ -98,6 +102,10 @@ class Workbook:
             if rows:
                 count = f"{len(rows):,} rows are {what}, the first" if len(rows) > 1 else f"1 row is {what},"
                 yield f"the sheet: {count} at line {rows[0]}, and all rows are loaded"
+        if self.merged:
+            more = f" and {len(self.merged) - 1:,} more places" if len(self.merged) > 1 else ""
+            why = "of which only the first has the value; the others are empty"
+            yield f"the sheet: merged cells at {self.merged[0]}{more}, {why}"
         for place in [*points, *values]:
             if self.computed[place]:
                 how = "loaded with their last computed values"
@@ -138,11 +146,8 @@ def text_of_number(value: float, mark: str) -> str:
     return Figure(f"{whole}{mark}{decimals}{more}" if decimals else whole)
 
 
-def hidden_rows(data: bytes, title: str) -> Set[int]:
-    """Returns the numbers of the rows that a sheet hides, also by a filter.
-
-    openpyxl knows them only if it keeps all cells in memory.
-    """
+def xml_of(data: bytes, title: str) -> bytes:
+    """Returns the XML of a sheet: openpyxl knows hidden rows and merged cells only if it keeps all cells in memory."""
     try:
         with ZipFile(io.BytesIO(data)) as book:
             sheets = ElementTree.fromstring(book.read("xl/workbook.xml")).iterfind(".//{*}sheet")
@@ -150,11 +155,9 @@ def hidden_rows(data: bytes, title: str) -> Set[int]:
             key = next(value for name, value in sheet.items() if name.endswith("}id"))
             parts = ElementTree.fromstring(book.read("xl/_rels/workbook.xml.rels"))
             target = next(one.attrib["Target"] for one in parts if one.get("Id") == key)
-            rows = ROW.findall(book.read(posixpath.join("/xl", target)[1:]))
+            return book.read(posixpath.join("/xl", target)[1:])
     except (KeyError, StopIteration) as error:
         raise unreadable(error) from None
-    numbers = (re.search(rb"""\br=["'](\d+)""", row) for row in rows if HIDDEN.search(row))
-    return {int(number[1]) for number in numbers if number}
 
 
 def sheet_of(data: bytes, name: Optional[str], has_values: bool) -> Any:
