@@ -1,5 +1,5 @@
-"""The amounts of an answer's records in each month, quarter, year, week or day, by the values of some columns; and how
-much more they are than those of another answer.
+"""The amounts of an answer's records in each month, quarter, year, week or day, by the values of some columns, less the
+amounts of another answer.
 """
 from typing import Dict, Iterator, List, NamedTuple, Optional, Sequence, Tuple
 
@@ -18,10 +18,9 @@ NO_END = "9999-01-01"
 
 
 class Wish(NamedTuple):
-    """What is summed.
+    """The column of amounts, and how they are summed.
 
-    summed      the column of amounts
-    per         the piece of the calendar in which a record has its amount; None if it has it once, in total
+    per         the kind of piece that has a record's amount, such as "month"; None if the amount is in total
     each        the pieces that have a sum each
     by          the columns whose values have a sum each
     start, end  the time that counts
@@ -58,7 +57,7 @@ class Sums(NamedTuple):
 
 
 class Side(NamedTuple):
-    """An answer of which records are counted: the columns of the groups and of the amounts, and each group's records.
+    """An answer whose records are counted: the columns of the groups and of the amounts, and each group's records.
 
     The sign says whether amounts are added or taken away.
     """
@@ -70,7 +69,7 @@ class Side(NamedTuple):
 
 
 def sums(answer: Answer, wish: Wish, less: Optional[Answer] = None) -> Sums:
-    """Returns the sums of each group in the order of time, less those of another answer if one is given."""
+    """Returns the sums of each group in the order of time, less the sums of another answer if one is given."""
     refuse_points(wish)
     sides = [side_of(answer, wish, 1), *([side_of(less, wish, -1)] if less else [])]
     places = " and ".join(side.answer.place for side in sides)
@@ -132,7 +131,7 @@ def summed_place(answer: Answer, name: str) -> int:
 
 
 def refuse_points(wish: Wish) -> None:
-    """Refuses a time to count that is none."""
+    """Refuses a time to count that isn't a point, or is empty."""
     for word, point in (("from", wish.start), ("to", wish.end)):
         if point is not None and read_point(point) is None:
             raise Misfit(f"--{word} {short(point)}: not a date or time, such as {POINTS}")

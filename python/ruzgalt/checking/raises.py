@@ -16,7 +16,7 @@ NO_END, LAST = "9999-12-31", "9999-12-31T23:59:59"
 
 
 class Wish(NamedTuple):
-    """Which column of which table is raised by how much per cent, when, of which rows, and how it is rounded."""
+    """The table and the column, the per cent, the time, the rows and the rounding of a raise."""
 
     table: str
     column: str
@@ -28,7 +28,7 @@ class Wish(NamedTuple):
 
 
 class Step(NamedTuple):
-    """An amount, of how many rows, what it comes to exactly, and that as a whole number."""
+    """An amount, the count of its rows, the exact raised amount, and that as a whole number."""
 
     amount: int
     rows: int
@@ -41,7 +41,7 @@ class Step(NamedTuple):
 
 
 class Raise:
-    """The steps in an order in which no update touches what another one has raised."""
+    """The steps, in an order such that no update changes an amount that another one has raised."""
 
     def __init__(self, rows: Answer, wish: Wish) -> None:
         """Takes the answer to `rows` of the table."""
@@ -105,7 +105,7 @@ class Raise:
         ])
 
     def notes(self) -> Iterator[str]:
-        """What is to be known of it."""
+        """Reports rounded amounts, amounts that stay, and a raise without rows."""
         found = sum(step.is_rounded for step in self.steps)
         if found:
             yield f"{found:,} of {len(self.steps):,} amounts were rounded, {self.wish.rounding}"

@@ -1,4 +1,4 @@
-"""The words of `months` and `coalesce` of tools/answers, and what they print."""
+"""The options of `months` and `coalesce` of tools/answers, and the tables that they print."""
 from argparse import ArgumentParser, Namespace
 from typing import List, Optional, Sequence, Tuple
 
@@ -71,9 +71,9 @@ def do_months(options: Namespace) -> None:
 
 
 def decimals_with(options: Namespace, name: str) -> List[Tuple[str, int]]:
-    """The decimals of columns: that of the sums, of this name, has those of what is summed, if it has none of its own.
+    """The decimals of columns. The column of sums, of this name, has the decimals of the amounts, if it has no others.
 
-    It has another name where --by has taken that of what is summed.
+    It has another name than the amounts if --by has taken their name.
     """
     given: List[Tuple[str, int]] = options.decimals
     digits = Amounts(given).of(options.sum)

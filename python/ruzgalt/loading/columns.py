@@ -20,9 +20,9 @@ TO_SPACE = str.maketrans(SPACES, " " * len(SPACES))
 
 # So few new values are made one by one.
 FEW = 8
-# So many characters are no text that is too long: none has more than four bytes.
+# A text of at most this many characters is short enough, since no character has more than four bytes.
 SHORT = TEXT_LIMIT // 4
-# What stands in quotes in a record.
+# A field with one of these is quoted in a record.
 MARKED = re.compile('[,"\r\n]')
 # Whole numbers, a line each, that surely are some of the store.
 INTEGERS = re.compile(r"(?:(?:0|-?[1-9][0-9]{0,17})\n)+")
@@ -41,7 +41,7 @@ class Column(Dict[str, Optional[str]]):
     def made(self, values: Sequence[str]) -> Sequence[Optional[str]]:
         """The field of each value. New ones are made at once, where all are of a simple form, or else one by one."""
         if self.is_varied:
-            # What is nearly always new isn't looked for, since that takes longer than to make it.
+            # A search for values that are nearly always new takes longer than to make them.
             made = self.made_at_once(values)
             if made:
                 return made
@@ -145,7 +145,7 @@ class Text(Column):
             return values if INTEGERS.fullmatch(in_lines(values)) else []
         if not are_plain(values) or max(map(len, values)) > SHORT or not self.look_alikes.are_apart(values):
             return []
-        # Of what stands in quotes they have commas alone.
+        # Of the characters that need quotes they have only commas.
         return [f'"{value}"' if "," in value else value for value in values]
 
     def value(self, text: str) -> str:
@@ -173,7 +173,7 @@ class Text(Column):
             return text
         if INTEGER.fullmatch(text):
             raise Misfit(NUMBERS)
-        # Of a number with zeros in front cents are seldom meant.
+        # A number with leading zeros is seldom one of cents.
         digits = 0 if text.isdecimal() else 2
         raise Misfit(f"not a whole number, such as 5000; --decimals {self.name}={digits} makes other numbers whole")
 

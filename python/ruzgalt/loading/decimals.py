@@ -32,7 +32,7 @@ UNIT = re.compile(rf"[^\d.,+\-\u2212()\[\]\s{SPACES}{APOSTROPHES}\"]+\.?")
 WITH_UNIT = re.compile(
     rf"-?(?P<before>{UNIT.pattern})[{SPACES}]?-?\d.*|-?\d.*?[{SPACES}]?(?P<behind>{UNIT.pattern})", re.DOTALL,
 )
-# What stands there for thousands and millions, or for a side of an account, is no unit that could be left off.
+# Signs of thousands and millions, and of the sides of an account, which aren't units that can be left out.
 NO_UNITS = ("k", "t", "m", "b", "bn", "mn", "mio", "mrd", "tsd", "keur", "teur", "k€", "t€", "m€", "cr", "dr", "s", "h")
 
 
@@ -58,7 +58,7 @@ def number_in(text: str, mark: str) -> Optional[Number]:
 
 
 def unit_of(text: str) -> str:
-    """What stands before or after the digits of a text as a unit does; nothing of others."""
+    """Returns the unit before or after the digits of a text, or an empty text."""
     found = WITH_UNIT.fullmatch(text.strip(SPACES))
     unit = found["before"] or found["behind"] if found else ""
     return unit if unit.isprintable() else ""
@@ -70,7 +70,7 @@ def is_multiple(unit: str) -> bool:
 
 
 def without(unit: str, text: str) -> str:
-    """The text without the unit that stands before or after it."""
+    """Returns the text without the unit before or after it."""
     sign = "-" if text.startswith("-") else ""
     if text.endswith(unit):
         return text[:-len(unit)].rstrip(SPACES)
@@ -112,7 +112,7 @@ class Scale:
 
     def __init__(self, name: str, digits: int, marks: Marks, units: Sequence[str] = (), bare: str = "") -> None:
         self.name, self.digits, self.marks, self.units, self.how = name, digits, marks, units, bare
-        # The first unit of the column, of which all others must have the same.
+        # The first unit of the column. All others must be the same.
         self.unit, self.longest = "", 0
         # The first number with decimals, and the first one without any mark.
         self.marked = ""

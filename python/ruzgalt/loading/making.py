@@ -63,7 +63,7 @@ class Equals:
 
 
 class Load:
-    """The records made of a sheet's rows, with the faults of rows and what is noted of columns."""
+    """The records made of a sheet's rows, with the faults of rows and the notes on columns."""
 
     def __init__(self, sheet: Records, options: Namespace, schema: Optional[Schema]) -> None:
         self.sheet, self.options, self.schema = sheet, options, schema
@@ -121,7 +121,7 @@ class Load:
                 yield Text(name, self.options, kind, place in self.keys)
 
     def made(self) -> Iterator[bytes]:
-        """What the rows become, by pieces. Where something is at fault, the rest is read for its faults."""
+        """Returns the records made of the rows, by pieces. After a fault, the rest is read for its faults only."""
         for piece in self.sheet.pieces():
             yield self.made_of(self.equals.without(self.whole(piece)))
         self.refuse_doubtful()
@@ -265,7 +265,7 @@ class Load:
         return names
 
     def records_of(self, columns: List[Sequence[str]]) -> List[str]:
-        """The records of a load, or else a change for each row. Fields stand in quotes already that need them."""
+        """Returns the records of a load, or a change for each row. Fields that need quotes have them already."""
         made = zip(repeat(self.made_word), *columns) if self.is_load else map(self.change_of, zip(*columns))
         return list(map(",".join, made))
 
