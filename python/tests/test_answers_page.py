@@ -393,7 +393,7 @@ class Programs(unittest.TestCase):
             program.chmod(0o700)
             status, printed, said = run(["tools/answers", "page", name, "--program", str(program)])
         self.assertEqual((status, printed), (1, ""))
-        self.assertIn("was run again on the same script and printed other answers", said)
+        self.assertIn("it was run again on the same script, and printed other answers: name it by --program", said)
 
     def test_the_program_that_a_command_runs_is_shown_beside_it(self) -> None:
         with tempfile.TemporaryDirectory() as folder:

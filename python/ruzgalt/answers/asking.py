@@ -12,12 +12,12 @@ from ruzgalt.script.reader import Source
 
 
 NAMED_BY = "name it by --program or by DIPQ in the environment, or put dipq on the PATH"
-# A script has 64 tables at most. It is kept to so many records, which are far fewer than a script may have.
+# The number of tables that a script may have, and the number of records of a script of trials, which may have more.
 TABLES, RECORDS = 64, 500_000
 
 
 class Running:
-    """The program at work on a script. What it says on standard error stands there too."""
+    """Runs the program on a script. Its messages on standard error are shown."""
 
     def __init__(self, program: str, script: bytes) -> None:
         self.program = program
@@ -32,7 +32,7 @@ class Running:
                 raise Misfit(f"{program}: {why_not(error)}: {NAMED_BY}") from None
 
     def output(self) -> bytes:
-        """What it answers, when it has ended."""
+        """Waits until it has ended, and returns its answers."""
         with self.printed:
             status = self.process.wait()
             if status not in (0, 1):
@@ -65,7 +65,7 @@ def tried(program: str, trials: Iterable[List[Sequence[str]]]) -> Iterator[List[
         found: List[List[Answer]] = []
         for answer in answers.of(script, output(program, script)):
             if answer.refusal:
-                raise Misfit(f"{program} refused a trial on rows of the script: {answer.refusal.name}")
+                raise Misfit(f"{program}: it refused rows of the script in a trial: {answer.refusal.name}; {NAMED_BY}")
             if answer.command.word == "table":
                 found.append([])
             found[-1].append(answer)
@@ -73,7 +73,7 @@ def tried(program: str, trials: Iterable[List[Sequence[str]]]) -> Iterator[List[
 
 
 def batches(trials: Iterable[List[Sequence[str]]]) -> Iterator[List[List[Sequence[str]]]]:
-    """Yields as many trials at once as one script has room for."""
+    """Yields lists of trials, each for one script."""
     some: List[List[Sequence[str]]] = []
     count = 0
     for trial in trials:
@@ -89,8 +89,8 @@ def batches(trials: Iterable[List[Sequence[str]]]) -> Iterator[List[List[Sequenc
 def faulty(program: str, script: bytes) -> List[str]:
     """A line for each row that the program refuses by itself: one whose record is at fault, whatever the others are.
 
-    Each row is loaded alone, into a table of the same columns without a key, since rows of one key that overlap are
-    no fault of a single row.
+    Each row is loaded by itself, into a table of the same columns without a key, since rows of one key that overlap
+    are no fault of a single row.
     """
     tried = list(single_loads(Source(script)))
     text = records.to_text(fields for _, loads in tried for fields in loads)

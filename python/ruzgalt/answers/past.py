@@ -89,7 +89,8 @@ class Past:
         after = b"".join(map(line_of, questions))
         output = asking.output(self.program, self.front.script + after)
         if not output.startswith(self.front.output):
-            raise Misfit(f"{self.program} was run again on the same script and printed other answers")
+            why = "it was run again on the same script, and printed other answers"
+            raise Misfit(f"{self.program}: {why}: {asking.NAMED_BY}")
         reading = Reading(Source(output[len(self.front.output):]))
         reading.tables, reading.commits = self.tables, self.newest
         return list(reading.answers(commands.commands(Source(after, 0), self.front.records + 1)))

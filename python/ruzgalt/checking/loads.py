@@ -1,4 +1,4 @@
-"""What may not be meant in the rows that all loads of a table bring: last days as ends, and texts that look alike."""
+"""The rows of loads, and possible mistakes in all loads of a table: last days as ends, and texts that look alike."""
 from itertools import islice
 from typing import Dict, Iterator, List, NamedTuple, Tuple
 
@@ -10,7 +10,7 @@ from ruzgalt.script.reader import LOOKED_AT, Block, Reader
 from ruzgalt.script.schemas import Kind, Schema
 
 
-# In so many loads at most rows are looked at, since each is looked for in the script.
+# Rows are checked if a table has fewer loads, since each load's rows are searched in the script.
 LOADS = 1_000
 
 
@@ -56,7 +56,7 @@ class Loads:
         return self.count <= LOOKED_AT and len(self.answers) < LOADS
 
     def add(self, answer: Answer) -> None:
-        """Adds the rows of an accepted load, where the table's are so few that they are looked at."""
+        """Adds the rows of an accepted load, if the table has few enough to check them."""
         self.count += len(answer.command.rows)
         if not self.are_few or answer.command.record.is_asked or not self.places:
             return

@@ -40,7 +40,7 @@ def by_kind(found: Sequence[Mark]) -> List[List[Mark]]:
 
 
 def without_key(found: Sequence[Answer]) -> Iterator[Schema]:
-    """The tables whose rows no key keeps apart, or one of all columns, where so few are loaded that they are looked at.
+    """Yields the tables without a key, or with one of all columns, if they have few enough loaded rows to check them.
 
     A key of all columns lets in two salaries of one person at a time, unless they are equal.
     """
@@ -54,7 +54,7 @@ def without_key(found: Sequence[Answer]) -> Iterator[Schema]:
 
 
 def questions_for(found: Sequence[Answer]) -> Iterator[str]:
-    """Yields what is asked about the past for the marks: only tables of which versions are looked at."""
+    """Yields the questions that the marks need: all versions only of tables whose versions are checked."""
     for answer in found:
         word, texts = answer.command.word, answer.command.record.fields
         if answer.refusal:
@@ -83,7 +83,7 @@ def of(found: Sequence[Answer], past: Past) -> List[Mark]:
 
 
 class Marks:
-    """The marks of a script's answers, which are looked at one after another."""
+    """Finds the marks of a script's answers, one answer after another."""
 
     def __init__(self, found: Sequence[Answer], past: Past) -> None:
         self.found, self.past = found, past
@@ -116,7 +116,7 @@ class Marks:
             self.look_at_portion(answer)
 
     def add(self, answer: Answer, note: Optional[str], kind: str = "") -> None:
-        """Adds a mark, where there is something to say. Without a kind, those of the same words are of one."""
+        """Adds a mark, if there is a note. Without a kind, marks of the same words are of one kind."""
         if note:
             self.marks.append(Mark(answer, note, kind or note))
 
@@ -165,7 +165,7 @@ class Marks:
         return f"it was refused whole, and {count} of its other rows are in no later load" if count else None
 
     def all(self) -> List[Mark]:
-        """Returns all marks in the order of the answers, with those of whole tables."""
+        """Returns all marks in the order of the answers, with the marks of whole tables."""
         for loads in self.by_table.values():
             for note in loads.notes():
                 self.add(loads.answers[-1], note)

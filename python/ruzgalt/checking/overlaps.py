@@ -64,7 +64,7 @@ def in_answer(past: Past, answer: Answer, key: Sequence[str]) -> Table:
 
 
 def gaps_in_answer(answer: Answer, key: Sequence[str]) -> Table:
-    """Returns the times between rows of one key at which none of it holds."""
+    """Returns the times between rows of one key without a row."""
     schema = schema_of(answer)
     places = [schema.place(name) for name in key]
     columns = [schema.columns[place] for place in places]
@@ -78,7 +78,7 @@ def gaps_in_answer(answer: Answer, key: Sequence[str]) -> Table:
 
 
 class Change(NamedTuple):
-    """What a refused change would have done: the rows that it adds, and the ids of those that it closes."""
+    """What a refused change would have done: the rows that it adds, and the ids of the rows that it closes."""
 
     added: Sequence[Held]
     closed: Set[int]
@@ -135,7 +135,7 @@ def trial_of(answer: Answer, rows: Sequence[Version]) -> List[Sequence[str]]:
 def updated(answer: Answer, rows: Sequence[Version], listed: Table) -> Change:
     """Returns what an update does to rows, which have the ids 1, 2, 3 and so on in this list of versions.
 
-    New rows are in the order of those that they replace. The last one in place of a row ends where that ended.
+    New rows are in the order of the rows that they replace. The last one that replaces a row ends where that one ends.
     """
     added: List[Held] = []
     closed: Set[int] = set()
@@ -170,7 +170,7 @@ def held(version: Version) -> Held:
 
 
 def crowded(program: str, cases: Sequence[Sequence[Sequence[Held]]]) -> Iterator[List[List[Span]]]:
-    """Yields for each case, and in it for each group, the times at which the program counts more than one row."""
+    """Yields for each case the times of each group when the program counts more than one of its rows."""
     trials = (counting(f"t{place}", groups) for place, groups in enumerate(cases))
     for groups, tried in zip(cases, asking.tried(program, trials)):
         found: List[List[Span]] = [[] for _ in groups]
@@ -187,7 +187,7 @@ def counting(name: str, groups: Sequence[Sequence[Held]]) -> List[Sequence[str]]
 
 
 def pairs(groups: Sequence[Sequence[Held]], times: Sequence[Sequence[Span]]) -> Iterator[Tuple[Held, Held]]:
-    """Yields the pairs of rows of a group of which the second begins at a crowded time, while the first one holds."""
+    """Yields pairs of rows of a group: the second begins at a crowded time, while the first one holds."""
     for group, crowds in zip(groups, times):
         ordered = sorted(group, key=itemgetter(0)) if crowds else []
         for place, row in enumerate(ordered):

@@ -16,7 +16,7 @@ def command_for(past: Past, table: str, row_id: int, set_to: Sequence[Tuple[str,
     schema, named = rows.tables[table], [name for name, _ in set_to]
     for name in named:
         schema.place(name)
-        # Of two values the language takes the second, but a person may mean the first.
+        # The language takes the second value, but a person may mean the first.
         if named.count(name) > 1:
             raise Misfit(f"--set {name}: given twice")
     found = [record for record in rows.table.texts() if record[0] == str(row_id)]

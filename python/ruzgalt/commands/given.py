@@ -32,7 +32,7 @@ def read(options: Namespace, shows_refusals: bool = False, script: Optional[byte
     """Returns the program's answers to the script, which is read if it isn't given.
 
     Raises Misfit if a command was refused, unless refusals are shown or passed over; if a question of --ask was
-    refused, in whose place another answer would be shown; or if answers that were kept aren't the program's.
+    refused, since another answer would be shown instead; or if answers that were kept aren't the program's.
     """
     if options.script == options.answers == "-":
         raise Misfit("standard input can't be both the script and its answers")
