@@ -1,12 +1,12 @@
-"""Puts the program that was built into the package's wheel, and says on which machines it runs; see pyproject.toml."""
+"""Puts the built programs into the package's wheel, and says on which machines they run; see pyproject.toml."""
 import atexit
-import platform
 import re
 import shutil
 import subprocess
 import sys
 import tempfile
 from pathlib import Path
+from platform import machine
 from typing import Tuple
 
 from setuptools import Distribution, setup
@@ -18,7 +18,9 @@ except ImportError:  # Before setuptools 70 it was of the package wheel.
     from wheel.bdist_wheel import bdist_wheel
 
 TOP = Path(__file__).resolve().parent
-PROGRAM = TOP / "crates" / "dipq" / "out" / "dipq"
+# The programs by their commands.
+CRATES = {"dipq": "dipq", "dipq-live": "dipq_live"}
+PROGRAMS = {name: TOP / "crates" / crate / "out" / crate for name, crate in CRATES.items()}
 sys.path.insert(0, str(TOP / "python"))
 
 from ruzgalt.version import version  # noqa: E402
@@ -32,7 +34,7 @@ class Package(Distribution):
 
 
 class WithProgram(build_py):
-    """The package's files, with the program, the command that runs it, and the version. In place it has a clone's."""
+    """The package's files, the programs, the commands that run them, and the version. In place it has a clone's."""
 
     def run(self) -> None:
         if not self.editable_mode:
@@ -41,39 +43,41 @@ class WithProgram(build_py):
         if not self.editable_mode:
             package = Path(self.build_lib, "ruzgalt")
             (package / "VERSION").write_text(f"{version()}\n")
-            add_program(package)
+            for name, program in PROGRAMS.items():
+                add_program(package, name, program)
 
 
 class OfPlatform(bdist_wheel):
-    """A wheel of any Python, for the machines that the program runs on."""
+    """A wheel of any Python, for the machines that the programs run on."""
 
     def get_tag(self) -> Tuple[str, str, str]:
-        return "py3", "none", platform_of(PROGRAM) if PROGRAM.is_file() else "any"
+        return "py3", "none", platform() if all(map(Path.is_file, PROGRAMS.values())) else "any"
 
 
 def refuse_unbuilt() -> None:
-    """Ends where no program is built, or one of other sources than those that are here."""
-    if subprocess.run([TOP / "tools" / "is-built"], stderr=subprocess.DEVNULL).returncode:
-        sys.exit("ruzgalt: a wheel has the program in it, which isn't built here: `./dipq </dev/null` builds it")
+    """Ends if a program isn't built, or is built from other sources than those that are here."""
+    for name, program in PROGRAMS.items():
+        if subprocess.run([TOP / "tools" / "is-built", TOP, program.name], stderr=subprocess.DEVNULL).returncode:
+            sys.exit(f"ruzgalt: a wheel has {name} in it, which isn't built here: `./{name} </dev/null` builds it")
 
 
-def add_program(package: Path) -> None:
-    command = package / "bin" / "dipq"
-    program = package / "libexec" / "dipq"
+def add_program(package: Path, name: str, built: Path) -> None:
+    """Puts a program and the command that runs it into the package."""
+    command, program = package / "bin" / name, package / "libexec" / name
     for place in (command, program):
-        place.parent.mkdir()
-    shutil.copyfile(PROGRAM, program)
-    words = [str(TOP / "tools" / "command-of"), "../libexec/dipq"]
+        place.parent.mkdir(exist_ok=True)
+    shutil.copyfile(built, program)
+    words = [str(TOP / "tools" / "command-of"), f"../libexec/{name}"]
     command.write_bytes(subprocess.run(words, stdout=subprocess.PIPE, check=True).stdout)
     for place in (command, program):
         place.chmod(0o755)
 
 
-def platform_of(program: Path) -> str:
-    """Machines with this processor, and a C library that has all calls of the program."""
-    found = re.findall(rb"GLIBC_(\d+)\.(\d+)", program.read_bytes())
-    major, minor = max((int(major), int(minor)) for major, minor in found)
-    return f"manylinux_{major}_{minor}_{platform.machine()}"
+def platform() -> str:
+    """Machines with this processor, and a C library that has all calls of the programs."""
+    data = b"".join(program.read_bytes() for program in PROGRAMS.values())
+    major, minor = max((int(major), int(minor)) for major, minor in re.findall(rb"GLIBC_(\d+)\.(\d+)", data))
+    return f"manylinux_{major}_{minor}_{machine()}"
 
 
 # Nothing is left in the repository, nor taken from what an earlier build left.

@@ -9,8 +9,8 @@ from typing import List, Optional
 
 # The folder that has python/: a clone, or what `make install` made.
 TOP = Path(__file__).resolve().parents[2]
-# A wheel has the program in the package.
-WITHIN = Path(__file__).resolve().with_name("bin") / "dipq"
+# A wheel has the programs in the package.
+WITHIN = Path(__file__).resolve().with_name("bin")
 
 
 def program() -> str:
@@ -18,9 +18,9 @@ def program() -> str:
     return os.environ.get("DIPQ") or own() or shutil.which("dipq") or "dipq"
 
 
-def own() -> Optional[str]:
-    """The program that came with the package: within it, or beside the folder python/."""
-    return next((str(place) for place in (WITHIN, TOP / "dipq") if place.is_file()), None)
+def own(name: str = "dipq") -> Optional[str]:
+    """The program that came with the package: within it, or next to the folder python/."""
+    return next((str(place / name) for place in (WITHIN, TOP) if (place / name).is_file()), None)
 
 
 def is_of_clone(command: str) -> bool:

@@ -495,7 +495,7 @@ class Hints(unittest.TestCase):
                 place.mkdir(exist_ok=True)
                 (place / "dipq").write_text("#!/bin/sh\n")
                 (place / "dipq").chmod(0o700)
-            places = mock.patch.multiple(which, TOP=folder, WITHIN=folder / "within" / "dipq")
+            places = mock.patch.multiple(which, TOP=folder, WITHIN=folder / "within")
             with mock.patch.dict(os.environ, {"PATH": f"{folder}/bin"}), places:
                 os.environ.pop("DIPQ", None)
                 self.assertEqual(which.program(), f"{folder}/within/dipq")

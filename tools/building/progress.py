@@ -32,7 +32,7 @@ class Progress:
         )
         number = min(len(self.proved) + 1, len(self.crates))
         name = next(waiting, self.program)
-        line = f"dipq: proving {number} of {len(self.crates)} crates, {name}; {self.minutes()} min"
+        line = f"{self.program}: proving {number} of {len(self.crates)} crates, {name}; {self.minutes()} min"
         start, end = ("\r", "\x1b[K") if self.on_terminal else ("", "\n")
         print(start + line, end=end, file=sys.stderr, flush=True)
 

@@ -1,7 +1,7 @@
-"""The page of dipq: what it prints for --help, and the language of docs/LANGUAGE.md.
+"""The pages of dipq and dipq-live: what they print for --help, and in dipq's the language of docs/LANGUAGE.md.
 
-What the help page says goes into the sections that each manual page has. Those of the language are sections too, but
-for its usual mistakes and what it says of ./dipq.
+What the help page says goes into the sections that each manual page has. The parts of the language are sections too,
+except its usual mistakes and what it says of ./dipq.
 """
 import re
 from pathlib import Path
@@ -12,11 +12,11 @@ from manual.roff import exact, item, markdown, opening, paragraph, prose, sectio
 TOP = Path(__file__).resolve().parents[2]
 LEFT_OUT = ("Usual mistakes", "The program")
 ENVIRONMENT = """\
-Settings of the C library. Where it isn't set, dipq runs with large pages of memory."""
+Settings of the C library. If it isn't set, the program runs with large pages of memory."""
 SEE_ALSO = r"""
-\fBdipq-answers\fR(1), \fBdipq-load\fR(1). In the repository of Ruzgalt, and in /usr/share/doc/dipq where its
-package is installed: docs/LANGUAGE.md, which lists usual mistakes too; docs/RECIPES.md and docs/LOADING.md,
-command lines that go further; examples/, scripts with their answers."""
+\fB{}\fR(1), \fBdipq-answers\fR(1), \fBdipq-load\fR(1). In the repository of Ruzgalt, and in
+/usr/share/doc/dipq where its package is installed: docs/LANGUAGE.md, which lists usual mistakes too;
+docs/RECIPES.md and docs/LOADING.md, command lines that go further; examples/, scripts with their answers."""
 
 
 def language() -> Iterator[str]:
@@ -28,9 +28,9 @@ def language() -> Iterator[str]:
             yield from section(name, markdown(rest))
 
 
-def help_page() -> str:
-    """The page that the program prints."""
-    source = (TOP / "crates" / "dipq" / "src" / "help.rt").read_text(encoding="utf-8")
+def help_page(name: str) -> str:
+    """The page that a program prints."""
+    source = (TOP / "crates" / name.replace("-", "_") / "src" / "help.rt").read_text(encoding="utf-8")
     page = re.search(r'HELP: &str = "\\\n(.*?)(?<!\\)";', source, re.S)
     return re.sub(r"\\(.)", r"\1", page[1] if page else "")
 
@@ -43,14 +43,14 @@ def entries(block: str) -> Iterator[str]:
 
 def usage(text: str) -> str:
     """A line of usage: what is typed as it stands is bold, and what another text stands for is italic."""
-    words = re.compile(r"(--[a-z]+|dipq)|\b([A-Z]+)\b")
+    words = re.compile(r"(--[a-z]+|dipq(?:-live)?)|\b([A-Z]+)\b")
     return words.sub(lambda it: rf"\fB{exact(it[1])}\fR" if it[1] else rf"\fI{it[2]}\fR", text)
 
 
-def parts_of_help() -> Dict[str, List[str]]:
+def parts_of_help(name: str) -> Dict[str, List[str]]:
     """What the help page says, for each section: its blocks, by how they look."""
-    first, *blocks, _ = help_page().strip("\n").split("\n\n")
-    parts: Dict[str, List[str]] = {"name": [rf"dipq \- {prose(first.removeprefix('dipq ').rstrip('.'))}"]}
+    first, *blocks, _ = help_page(name).strip("\n").split("\n\n")
+    parts: Dict[str, List[str]] = {"name": [rf"{exact(name)} \- {prose(first.removeprefix(f'{name} ').rstrip('.'))}"]}
     parts.update({name: [] for name in ("synopsis", "description", "options", "exit status", "examples")})
     for block, after in zip(blocks, [*blocks[1:], ""]):
         if block.startswith("usage:"):
@@ -67,13 +67,15 @@ def parts_of_help() -> Dict[str, List[str]]:
     return parts
 
 
-def page() -> Iterator[str]:
-    parts = parts_of_help()
-    yield from opening("dipq")
-    for name in ("name", "synopsis", "description", "options"):
-        yield from section(name, parts[name])
-    yield from language()
-    for name in ("exit status", "examples"):
-        yield from section(name, parts[name])
+def page(name: str) -> Iterator[str]:
+    """The page of a program. dipq's has the language too."""
+    parts, is_dipq = parts_of_help(name), name == "dipq"
+    yield from opening(name)
+    for part in ("name", "synopsis", "description", "options"):
+        yield from section(part, parts[part])
+    yield from language() if is_dipq else ()
+    for part in ("exit status", "examples"):
+        yield from section(part, parts[part]) if parts[part] else ()
     yield from section("environment", item(r"\fBGLIBC_TUNABLES\fR", [prose(ENVIRONMENT)]))
-    yield from section("see also", [".PP", " ".join(SEE_ALSO.split())])
+    see_also = SEE_ALSO.format(exact("dipq-live" if is_dipq else "dipq"))
+    yield from section("see also", [".PP", " ".join(see_also.split())])

@@ -1,11 +1,14 @@
--- A script's store has calls enough: its bytes are few, and each record takes some.
+-- A script's store has calls enough: its bytes are few, and each record takes some. Its history is legal.
 use Rattle.std.proofs.Common.{ℕ, ◌*◌, ◌≤◌, List, [], ◌∷◌, Bool, true, false, cond, length, arith}
 use Rattle.csv.specs.Reading.{default_config, is_bom, strip_bom}
 use Rattle.csv.specs.declared.parser.State.TheVariants as st
+use Rattle.book_core.specs.History.{IsLegal}
 use Rattle.turn_core.specs.Limits.{call_limit}
 use Rattle.command_core.specs.Records.{AreScriptRecords, Record}
 use Rattle.command_core.proofs.Shrinking.{records-few, work_left}
 use Rattle.stream_core.specs.Faults.{script_limit}
+use Rattle.script_core.specs.Ledgers.{ledger_history}
+use Rattle.script_core.specs.declared.ledger.Ledger.{Ledger}
 
 -- no more is left of a text without its mark
 strip-less : (text : List ℕ) → length (strip_bom text) ≤ length text
@@ -26,3 +29,7 @@ calls-enough script records (t, left, reached, none) within =
     let few : length records ≤ work_left st.StartRecord (strip_bom script) =
     records-few default_config records st.StartRecord t (strip_bom script) left reached in
     omega (arith, few, strip-less script, within)
+
+-- all that its pass has seen was accepted
+pub ledger-legal : (ledger : Ledger) → IsLegal (ledger_history ledger)
+ledger-legal ledger = ledger.pass.legal

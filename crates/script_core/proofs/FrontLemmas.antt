@@ -1,19 +1,19 @@
 -- The commands that were done when a run stops are the first of all commands of its script.
 use Rattle.std.proofs.Common.{◌≡◌, ℕ, ◌<◌, List, [], ◌∷◌, ◌++◌, length, take, refl, sym, ap, ◌∙◌, subst, arith}
 use Rattle.std.specs.Io.KnownBytes.{Appends}
-use Rattle.command_core.specs.Records.{Record}
+use Rattle.book_core.specs.History.{IsLegal}
 use Rattle.answer_core.specs.RecordBytes.{bytes_of}
 use Rattle.stream_core.specs.Counted.{Sink}
-use Rattle.script_core.specs.Script.{Done, Place, Step, Steps, WritesBefore, WritesWithin, output_of, start_of}
+use Rattle.script_core.specs.Script.{Done, Place, Step, Steps, WritesBefore, WritesWithin, output_of}
 use Rattle.script_core.specs.Writing.{Answering}
-use Rattle.script_core.proofs.OutputExistence.{all_done}
+use Rattle.script_core.proofs.OutputExistence.{rest_done}
 use Rattle.script_core.proofs.OutputUniqueness.{no_step, one_step}
 
 -- these commands follow the first ones, to the place behind all of them
-abbrev Follow : List Done → List Done → Place → Place → List Done → Type 0
+abbrev pub Follow : List Done → List Done → Place → Place → List Done → Type 0
 Follow all first mid last rest = (all ≡ first ++ rest) × Steps mid rest last
 
-first_follow : (old mid last : Place) (first all : List Done) → Steps old first mid → Steps old all last
+pub first_follow : (old mid last : Place) (first all : List Done) → Steps old first mid → Steps old all last
     → last.left ≡ [] → (rest : List Done) × Follow all first mid last rest
 first_follow old mid last [] all same steps over = (all, (refl, subst (λ z. Steps z all last) same steps))
 first_follow old mid last (c ∷ cs) [] (next, step, more) same over =
@@ -40,15 +40,15 @@ next_is_first place last after next (d ∷ ds) step (mid, step', more) over =
     (ds, ap (λ l. l ∷ ds) (sym (one_step place next d after mid step step').0))
 
 -- the answers to some first commands were written, and there are more
-pub writes_before : (records : List Record) (before after : Sink) (first : List Done) (place : Place)
-    → Steps (start_of records) first place → 0 < length place.left
-    → Appends before.written after.written (output_of first) → Answering WritesBefore records before after
-writes_before records before after first place steps more written =
-    let (dones, f) = all_done records in
-    let (rest, (is, onward)) = first_follow (start_of records) place f.place first dones steps f.steps f.over in
-    let (next, later, starts) = some_next place f.place rest more onward f.over in (
+pub writes_before : (start : Place) (before after : Sink) (first : List Done) (place : Place)
+    → IsLegal start.history → Steps start first place → 0 < length place.left
+    → Appends before.written after.written (output_of first) → Answering WritesBefore start before after
+writes_before start before after first place legal steps more written =
+    let (dones, (last, all, over)) = rest_done start legal in
+    let (rest, (is, onward)) = first_follow start place last first dones steps all over in
+    let (next, later, starts) = some_next place last rest more onward over in (
       dones,
-      f,
+      (last, all, over),
       record {
         first = first;
         next = next;
@@ -59,16 +59,17 @@ writes_before records before after first place steps more written =
     )
 
 -- those were written, and a front of the next command's answer
-pub writes_within : (records : List Record) (before after : Sink) (first : List Done) (next : Done) (place last : Place)
-    (size : ℕ) → Steps (start_of records) first place → Step place next last → size < length (bytes_of next.answer)
+pub writes_within : (start : Place) (before after : Sink) (first : List Done) (next : Done) (place mid : Place)
+    (size : ℕ) → IsLegal start.history → Steps start first place → Step place next mid
+    → size < length (bytes_of next.answer)
     → Appends before.written after.written (output_of first ++ take size (bytes_of next.answer))
-    → Answering WritesWithin records before after
-writes_within records before after first next place last size steps step short written =
-    let (dones, f) = all_done records in
-    let (rest, (is, onward)) = first_follow (start_of records) place f.place first dones steps f.steps f.over in
-    let (later, starts) = next_is_first place f.place last next rest step onward f.over in (
+    → Answering WritesWithin start before after
+writes_within start before after first next place mid size legal steps step short written =
+    let (dones, (last, all, over)) = rest_done start legal in
+    let (rest, (is, onward)) = first_follow start place last first dones steps all over in
+    let (later, starts) = next_is_first place last mid next rest step onward over in (
       dones,
-      f,
+      (last, all, over),
       record {
         first = first;
         next = next;

@@ -13,6 +13,7 @@ use Rattle.command_core.proofs.StatementExistence.{some_statement}
 use Rattle.script_core.specs.Answer.{Answers, IsAnswerTo}
 use Rattle.script_core.specs.Script.{AreStatementsOf, Done, Finished, IsOutput, Place, Steps, output_of, start_of}
 use Rattle.script_core.proofs.AnswerExistence.{Reply, answers_by, some_reply}
+use Rattle.script_core.specs.Writing.{AreRest}
 use Rattle.script_core.proofs.OutputUniqueness.{takes_one}
 use Rattle.script_core.proofs.TogetherExistence.{some_block}
 
@@ -116,10 +117,16 @@ some_rest (suc n) place legal few = elim (cases_lt 0 (length place.left)) [
 none_is_legal : IsLegal []
 none_is_legal n c e = cc e
 
+-- all statements from a place on, after a legal history
+pub rest_done : (start : Place) → IsLegal start.history → (dones : List Done) × AreRest start dones
+rest_done start legal =
+    let rest : Rest start = some_rest (length start.left) start legal (omega arith) in
+    (rest.dones, (rest.last, rest.steps, rest.over))
+
 pub all_done : (records : List Record) → (dones : List Done) × Finished records dones
 all_done records =
-    let rest : Rest (start_of records) = some_rest (length records) (start_of records) none_is_legal (omega arith) in
-    (rest.dones, record { place = rest.last; steps = rest.steps; over = rest.over })
+    let (dones, (last, steps, over)) = rest_done (start_of records) none_is_legal in
+    (dones, record { place = last; steps = steps; over = over })
 
 pub some_output : (script : List ℕ) → (output : List ℕ) × IsOutput script output
 some_output script =

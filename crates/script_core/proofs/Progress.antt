@@ -3,16 +3,16 @@ use Rattle.std.proofs.Common.{◌≡◌, ℕ, suc, Bool, false, ◌||◌, inl, i
 use Rattle.std.specs.Io.KnownBytes.{Appends}
 use Rattle.std.proofs.lemmas.List.Concat.{flat_map-append}
 use Rattle.std.proofs.lemmas.List.Sums.{sum_by-append}
-use Rattle.std.proofs.KnownBytes.{Appends-kept, Appends-trans}
-use Rattle.std.proofs.lemmas.List.{take-append-drop, append-nil, length-append, length-drop, length-take, drop-drop}
+use Rattle.std.proofs.KnownBytes.{Appends-kept, Appends-nil, Appends-trans}
+use Rattle.std.proofs.lemmas.List.{take-append-drop, append-nil, length-append, length-drop, length-take, drop-drop, nil_from_length}
 use Rattle.script_core.specs.Answer.{Answers}
 use Rattle.command_core.specs.Records.{Record}
 use Rattle.command_core.specs.Statement.{AreMembers, Member, States, Statement, begins_load, commands_in, placed_in, stated, opened_together}
 use Rattle.answer_core.specs.RecordBytes.{bytes_of}
-use Rattle.script_core.specs.Script.{Done, Place, Step, Steps, Tells, WritesBefore, output_of, start_of}
-use Rattle.script_core.specs.Writing.{Answering, ExplainsAnswering}
+use Rattle.script_core.specs.Script.{Done, Place, Step, Steps, Tells, WritesAll, WritesBefore, output_of}
+use Rattle.script_core.specs.Writing.{Answering, AnswersAll, ExplainsAnswering, behind}
 use Rattle.script_core.proofs.FrontLemmas.{writes_before, writes_within}
-use Rattle.book_core.specs.History.{History}
+use Rattle.book_core.specs.History.{History, IsLegal}
 use Rattle.answer_core.specs.PrintedRecords.{errors_in}
 use Rattle.stream_core.specs.Counted.{Sink}
 use Rattle.stream_core.specs.Faults.{ExplainsWriting}
@@ -59,15 +59,15 @@ commands-few number own later statement (inr (inl t)) =
     )
 commands-few number own later statement (inr (inr u)) = omega (arith, ap commands_in u.states, ap length u.whole)
 
--- the place before the record of this index
-abbrev place_at : List Record → History → ℕ → Place
-place_at records history at = record { history = history; number = at + 1; left = drop at records }
+-- the place before the record of this index, of those that are left at a place
+abbrev place_at : Place → History → ℕ → Place
+place_at start history at = record { history = history; number = start.number + at; left = drop at start.left }
 
 -- the statements before the record of this index are done, their answers written, and this is their outcome
-pub record Progress (records : List Record) (old now : Option (List ℕ)) (history : History) (at : ℕ)
+pub record Progress (start : Place) (old now : Option (List ℕ)) (history : History) (at : ℕ)
     (outcome : Outcome) : Type 0 where
   pub dones : List Done
-  pub steps : Steps (start_of records) dones (place_at records history at)
+  pub steps : Steps start dones (place_at start history at)
   pub written : Appends old now (output_of dones)
   pub tells : Tells outcome dones
 
@@ -84,39 +84,61 @@ output-more dones next =
     ∙ ap (λ bytes. output_of dones ++ bytes) (append-nil (bytes_of next.answer))
 
 -- the statement at a place, by what it takes and how it is answered
-step-at : (records : List Record) (before after : History) (at taken : ℕ) (statement : Statement)
-    (answer : List Record) → taken ≤ length (drop at records)
-    → States (at + 1) (take taken (drop at records)) (drop taken (drop at records)) statement
-    → Answers before (at + 1) statement answer after
-    → Step (place_at records before at) (record { statement = statement; answer = answer })
-    (place_at records after (at + taken))
-step-at records before after at taken statement answer within states answers =
-    let rest : drop taken (drop at records) ≡ drop (at + taken) records = drop-drop taken at records in
+step-at : (start : Place) (before after : History) (at taken : ℕ) (statement : Statement)
+    (answer : List Record) → taken ≤ length (drop at start.left)
+    → States (start.number + at) (take taken (drop at start.left)) (drop taken (drop at start.left)) statement
+    → Answers before (start.number + at) statement answer after
+    → Step (place_at start before at) (record { statement = statement; answer = answer })
+    (place_at start after (at + taken))
+step-at start before after at taken statement answer within states answers =
+    let rest : drop taken (drop at start.left) ≡ drop (at + taken) start.left = drop-drop taken at start.left in
     record {
-      own = take taken (drop at records);
-      taken = sym (take-append-drop taken (drop at records)) ∙ ap (λ left. take taken (drop at records) ++ left) rest;
-      number = omega (arith, length-take taken (drop at records));
-      states = subst (λ left. States (at + 1) (take taken (drop at records)) left statement) rest states;
+      own = take taken (drop at start.left);
+      taken = sym (take-append-drop taken (drop at start.left)) ∙ ap (λ l. take taken (drop at start.left) ++ l) rest;
+      number = omega (arith, length-take taken (drop at start.left));
+      states = subst (λ l. States (start.number + at) (take taken (drop at start.left)) l statement) rest states;
       answers = answers;
     }
 
+-- nothing is done yet
+pub progress-none : (start : Place) (written : Option (List ℕ)) (outcome : Outcome) → outcome.commands ≡ 0
+    → outcome.errors ≡ 0 → Progress start written written start.history 0 outcome
+progress-none start written outcome no_commands no_errors = record {
+  dones = [];
+  steps = ap (λ n. record { history = start.history; number = n; left = start.left }) (omega arith);
+  written = Appends-nil written;
+  tells = record { commands = no_commands; errors = no_errors };
+}
+
+-- all is done
+pub progress-over : (start : Place) (before now : Sink) (history : History) (at : ℕ) (outcome : Outcome)
+    → length start.left ≤ at → at ≤ length start.left
+    → Progress start before.written now.written history at outcome
+    → AnswersAll start history before now outcome
+progress-over start before now history at outcome all within p =
+    let none : drop at start.left ≡ [] = nil_from_length (drop at start.left) (omega (arith, length-drop at start.left)) in
+    let here : place_at start history at ≡ behind start history =
+    ap (λ l. record { history = history; number = start.number + at; left = l }) none
+    ∙ ap (λ n. record { history = history; number = start.number + n; left = [] }) (omega arith) in
+    (p.dones, subst (λ place. Steps start p.dones place) here p.steps, record { written = p.written; tells = p.tells })
+
 -- one more statement is done
-pub progress-more : (records : List Record) (old mid new : Option (List ℕ)) (before after : History) (at taken : ℕ)
+pub progress-more : (start : Place) (old mid new : Option (List ℕ)) (before after : History) (at taken : ℕ)
     (sofar outcome : Outcome) (statement : Statement) (answer : List Record)
-    → Progress records old mid before at sofar → taken ≤ length (drop at records)
-    → States (at + 1) (take taken (drop at records)) (drop taken (drop at records)) statement
-    → Answers before (at + 1) statement answer after → Appends mid new (bytes_of answer)
+    → Progress start old mid before at sofar → taken ≤ length (drop at start.left)
+    → States (start.number + at) (take taken (drop at start.left)) (drop taken (drop at start.left)) statement
+    → Answers before (start.number + at) statement answer after → Appends mid new (bytes_of answer)
     → outcome.commands ≡ sofar.commands + commands_in statement → outcome.errors ≡ sofar.errors + errors_in answer
-    → Progress records old new after (at + taken) outcome
-progress-more records old mid new before after at taken sofar outcome statement answer p within states answers writes
+    → Progress start old new after (at + taken) outcome
+progress-more start old mid new before after at taken sofar outcome statement answer p within states answers writes
     commands errors =
     let next : Done = record { statement = statement; answer = answer } in
     let dones = p.dones in
     record {
       dones = dones ++ next ∷ [];
-      steps = steps-more (start_of records) (place_at records before at)
-          (place_at records after (at + taken)) dones next p.steps
-          (step-at records before after at taken statement answer within states answers);
+      steps = steps-more start (place_at start before at)
+          (place_at start after (at + taken)) dones next p.steps
+          (step-at start before after at taken statement answer within states answers);
       written = subst (Appends old new) (sym (output-more dones next)) (Appends-trans old mid new _ _ p.written writes);
       tells = record {
         commands = omega (
@@ -131,34 +153,36 @@ progress-more records old mid new before after at taken sofar outcome statement 
     }
 
 -- the answers to the statements before this index were written, and there are more
-pub progress-begun : (records : List Record) (before now : Sink) (history : History) (at : ℕ) (outcome : Outcome)
-    → at < length records → Progress records before.written now.written history at outcome
-    → Answering WritesBefore records before now
-progress-begun records before now history at outcome below p =
-    writes_before records before now p.dones (place_at records history at) p.steps
-    (omega (arith, length-drop at records)) p.written
+pub progress-begun : (start : Place) (before now : Sink) (history : History) (at : ℕ) (outcome : Outcome)
+    → IsLegal start.history → at < length start.left → Progress start before.written now.written history at outcome
+    → Answering WritesBefore start before now
+progress-begun start before now history at outcome legal below p =
+    writes_before start before now p.dones (place_at start history at) legal p.steps
+    (omega (arith, length-drop at start.left)) p.written
 
 -- why the writing of a statement's answer stopped
-pub progress-stopped : (records : List Record) (old mid new : Sink) (before after : History) (at taken : ℕ)
+pub progress-stopped : (start : Place) (old mid new : Sink) (before after : History) (at taken : ℕ)
     (sofar : Outcome) (statement : Statement) (answer : List Record) (fault : RunFault)
-    → Progress records old.written mid.written before at sofar → taken ≤ length (drop at records)
-    → States (at + 1) (take taken (drop at records)) (drop taken (drop at records)) statement
-    → Answers before (at + 1) statement answer after → 0 < length (drop at records) → old.failures ≤ mid.failures
-    → ExplainsWriting (bytes_of answer) mid new fault → ExplainsAnswering records old new fault
-progress-stopped records old mid new before after at taken sofar statement answer ReadFault p within states answers
+    → IsLegal start.history → Progress start old.written mid.written before at sofar
+    → taken ≤ length (drop at start.left)
+    → States (start.number + at) (take taken (drop at start.left)) (drop taken (drop at start.left)) statement
+    → Answers before (start.number + at) statement answer after → 0 < length (drop at start.left)
+    → old.failures ≤ mid.failures
+    → ExplainsWriting (bytes_of answer) mid new fault → ExplainsAnswering start old new fault
+progress-stopped start old mid new before after at taken sofar statement answer ReadFault legal p within states answers
     more le why = why
-progress-stopped records old mid new before after at taken sofar statement answer TooLong p within states answers
+progress-stopped start old mid new before after at taken sofar statement answer TooLong legal p within states answers
     more le why = why
-progress-stopped records old mid new before after at taken sofar statement answer NoMemory p within states answers
+progress-stopped start old mid new before after at taken sofar statement answer NoMemory legal p within states answers
     more le why =
-    writes_before records old new p.dones (place_at records before at) p.steps more
+    writes_before start old new p.dones (place_at start before at) legal p.steps more
     (Appends-kept old.written mid.written new.written (output_of p.dones) p.written why)
-progress-stopped records old mid new before after at taken sofar statement answer WriteFault p within states answers
+progress-stopped start old mid new before after at taken sofar statement answer WriteFault legal p within states answers
     more le (grown, (size, short, writes)) = (
       omega (arith, grown, le),
-      writes_within records old new p.dones (record { statement = statement; answer = answer })
-          (place_at records before at)
-          (place_at records after (at + taken)) size p.steps
-          (step-at records before after at taken statement answer within states answers) short
+      writes_within start old new p.dones (record { statement = statement; answer = answer })
+          (place_at start before at)
+          (place_at start after (at + taken)) size legal p.steps
+          (step-at start before after at taken statement answer within states answers) short
           (Appends-trans old.written mid.written new.written _ _ p.written writes),
     )

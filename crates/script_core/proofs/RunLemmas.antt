@@ -7,14 +7,15 @@ use Rattle.std.proofs.Math.Seq.{take-append_seam}
 use Rattle.std.proofs.lemmas.Result.{IfErr-weaker, IfOk-weaker}
 use Rattle.std.proofs.lemmas.List.{take-append-drop}
 use Rattle.std.proofs.lemmas.List.Concat.{flat_map-append}
+use Rattle.book_core.specs.History.{History}
 use Rattle.command_core.specs.Records.{AreScriptRecords, Record}
 use Rattle.answer_core.specs.RecordBytes.{bytes_of}
 use Rattle.stream_core.specs.Counted.{Sink, Source}
 use Rattle.stream_core.specs.FailureCount.{greatest_count}
 use Rattle.stream_core.specs.declared.fault.RunFault.{RunFault}
 use Rattle.stream_core.specs.declared.fault.RunFault.TheVariants.{ReadFault, TooLong, NoMemory, WriteFault}
-use Rattle.script_core.specs.Script.{AppendsFront, AreStatementsOf, Done, ExplainsRun, IsOutput, ReadsAnd, ReadsStatements, ReadsScript, RunsAll, Streams, Tells, WritesAll, WritesBefore, WritesWithin, output_of}
-use Rattle.script_core.specs.Writing.{Answering, AnswersAll, ExplainsAnswering}
+use Rattle.script_core.specs.Script.{AppendsFront, AreStatementsOf, Done, ExplainsRun, IsOutput, ReadsAnd, ReadsStatements, ReadsScript, RunsAll, Streams, Tells, WritesAll, WritesBefore, WritesWithin, output_of, start_of}
+use Rattle.script_core.specs.Writing.{Answering, AnswersAll, ExplainsAnswering, behind}
 use Rattle.script_core.specs.declared.outcome.Outcome.{Outcome}
 use Rattle.script_core.proofs.OutputUniqueness.{one_list_of_dones, one_outcome}
 
@@ -23,16 +24,19 @@ use Rattle.script_core.proofs.OutputUniqueness.{one_list_of_dones, one_outcome}
 -- the commands of the records are those of the script
 reads_and : (Writes : List Done → Sink → Sink → Type 0) (before after : Streams) (script : List ℕ)
     (records : List Record) → ReadsScript before.reader after.reader script → AreScriptRecords script records
-    → Answering Writes records before.writer after.writer → ReadsAnd Writes before after
-reads_and Writes before after script records reads parsed (dones, finished, writes) =
-    let statements : AreStatementsOf script dones =
-    record { records = records; parsed = parsed; finished = finished } in
+    → Answering Writes (start_of records) before.writer after.writer → ReadsAnd Writes before after
+reads_and Writes before after script records reads parsed (dones, (last, steps, over), writes) =
+    let statements : AreStatementsOf script dones = record {
+      records = records;
+      parsed = parsed;
+      finished = record { place = last; steps = steps; over = over };
+    } in
     (dones, record { script = script; reads = reads; statements = statements }, writes)
 
 explains_run : (before after : Streams) (script : List ℕ) (records : List Record) (fault : RunFault)
     → ReadsScript before.reader after.reader script → AreScriptRecords script records
-    → before.writer.failures < greatest_count → ExplainsAnswering records before.writer after.writer fault
-    → ExplainsRun before after fault
+    → before.writer.failures < greatest_count
+    → ExplainsAnswering (start_of records) before.writer after.writer fault → ExplainsRun before after fault
 explains_run before after script records ReadFault reads parsed room why = absurd why
 explains_run before after script records TooLong reads parsed room why = absurd why
 explains_run before after script records NoMemory reads parsed room why =
@@ -42,19 +46,23 @@ explains_run before after script records WriteFault reads parsed room why = (
   reads_and WritesWithin before after script records reads parsed why.1,
 )
 
-pub ok-run : (before after : Streams) (script : List ℕ) (records : List Record) (result : Result Outcome RunFault)
+pub ok-run : (before after : Streams) (script : List ℕ) (records : List Record) (history : History)
+    (result : Result Outcome RunFault)
     → ReadsScript before.reader after.reader script → AreScriptRecords script records
-    → IfOk result (AnswersAll records before.writer after.writer) → IfOk result (RunsAll before after)
-ok-run before after script records result reads parsed =
-    IfOk-weaker result (AnswersAll records before.writer after.writer) (RunsAll before after)
-    (λ outcome. reads_and (WritesAll outcome) before after script records reads parsed)
+    → IfOk result (AnswersAll (start_of records) history before.writer after.writer)
+    → IfOk result (RunsAll before after)
+ok-run before after script records history result reads parsed =
+    IfOk-weaker result (AnswersAll (start_of records) history before.writer after.writer) (RunsAll before after)
+    (λ outcome all. reads_and (WritesAll outcome) before after script records reads parsed
+    (all.0, (behind (start_of records) history, all.1, refl), all.2))
 
 pub fault-run : (before after : Streams) (script : List ℕ) (records : List Record) (result : Result Outcome RunFault)
     → ReadsScript before.reader after.reader script → AreScriptRecords script records
-    → before.writer.failures < greatest_count → IfErr result (ExplainsAnswering records before.writer after.writer)
+    → before.writer.failures < greatest_count
+    → IfErr result (ExplainsAnswering (start_of records) before.writer after.writer)
     → IfErr result (ExplainsRun before after)
 fault-run before after script records result reads parsed room =
-    IfErr-weaker result (ExplainsAnswering records before.writer after.writer) (ExplainsRun before after)
+    IfErr-weaker result (ExplainsAnswering (start_of records) before.writer after.writer) (ExplainsRun before after)
     (λ fault. explains_run before after script records fault reads parsed room)
 
 -- ---- a script that the reader has

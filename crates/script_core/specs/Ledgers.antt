@@ -1,9 +1,11 @@
 -- What contracts read of a script's store, and of its snapshots.
-use Rattle.std.specs.Prelude.{◌≡◌, ℕ, Option, Some, length}
+use Rattle.std.specs.Prelude.{◌≡◌, ℕ, List, Option, Some, length}
 use Rattle.book_core.specs.History.{History}
+use Rattle.command_core.specs.Records.{Record}
 use Rattle.store_core.specs.Passes.{calls_left, seen}
 use Rattle.store_core.specs.Snapshots.{history, number_shown}
 use Rattle.store_core.specs.declared.snapshot.Snapshot.{Snapshot}
+use Rattle.script_core.specs.Script.{Place}
 use Rattle.script_core.specs.declared.ledger.Ledger.{Ledger}
 
 -- its history, which its one pass has seen
@@ -13,6 +15,10 @@ ledger_history ledger = seen ledger.pass
 -- how many calls it has left
 abbrev pub left_in : Ledger → ℕ
 left_in ledger = calls_left ledger.pass
+
+-- where a script stands whose store this is: the number of its next record, and the records that are left
+abbrev pub place_in : Ledger → ℕ → List Record → Place
+place_in ledger number left = record { history = ledger_history ledger; number = number; left = left }
 
 -- the commit that a snapshot shows, as a command names one
 abbrev pub commit_shown : Snapshot → Option ℕ

@@ -1,25 +1,34 @@
--- What the answering of some records writes.
-use Rattle.std.specs.Prelude.{List}
-use Rattle.command_core.specs.Records.{Record}
+-- What the answering of statements writes.
+use Rattle.std.specs.Prelude.{ℕ, ◌+◌, ◌≡◌, List, [], length}
+use Rattle.book_core.specs.History.{History}
 use Rattle.stream_core.specs.Counted.{Sink}
 use Rattle.stream_core.specs.FailureCount.{HasGrown}
 use Rattle.stream_core.specs.declared.fault.RunFault.{RunFault}
 use Rattle.stream_core.specs.declared.fault.RunFault.TheVariants.{ReadFault, TooLong, NoMemory, WriteFault}
-use Rattle.script_core.specs.Script.{Done, Finished, WritesAll, WritesBefore, WritesWithin}
+use Rattle.script_core.specs.Script.{Done, Place, Steps, WritesAll, WritesBefore, WritesWithin}
 use Rattle.script_core.specs.declared.outcome.Outcome.{Outcome}
 
--- this of what the statements of these records answer was written
-abbrev pub Answering : (List Done → Sink → Sink → Type 0) → List Record → Sink → Sink → Type 0
-Answering Writes records before after = (dones : List Done) × Finished records dones × Writes dones before after
+-- these are all statements from a place on
+abbrev pub AreRest : Place → List Done → Type 0
+AreRest start dones = (last : Place) × Steps start dones last × (last.left ≡ [])
 
--- the answers to all statements of these records
-abbrev pub AnswersAll : List Record → Sink → Sink → Outcome → Type 0
-AnswersAll records before after outcome = Answering (WritesAll outcome) records before after
+-- this of what the statements from a place on answer was written
+abbrev pub Answering : (List Done → Sink → Sink → Type 0) → Place → Sink → Sink → Type 0
+Answering Writes start before after = (dones : List Done) × AreRest start dones × Writes dones before after
 
--- why the answering of records stopped
-abbrev pub ExplainsAnswering : List Record → Sink → Sink → RunFault → Type 0
-ExplainsAnswering records before after ReadFault = ⊥
-ExplainsAnswering records before after TooLong = ⊥
-ExplainsAnswering records before after NoMemory = Answering WritesBefore records before after
-ExplainsAnswering records before after WriteFault =
-    HasGrown before.failures after.failures × Answering WritesWithin records before after
+-- the place behind all records that are left at a place, after this history
+abbrev pub behind : Place → History → Place
+behind start history = record { history = history; number = start.number + length start.left; left = [] }
+
+-- the answers to all statements from a place on, after which the history is this
+abbrev pub AnswersAll : Place → History → Sink → Sink → Outcome → Type 0
+AnswersAll start history before after outcome =
+    (dones : List Done) × Steps start dones (behind start history) × WritesAll outcome dones before after
+
+-- why the answering of the statements from a place on stopped
+abbrev pub ExplainsAnswering : Place → Sink → Sink → RunFault → Type 0
+ExplainsAnswering start before after ReadFault = ⊥
+ExplainsAnswering start before after TooLong = ⊥
+ExplainsAnswering start before after NoMemory = Answering WritesBefore start before after
+ExplainsAnswering start before after WriteFault =
+    HasGrown before.failures after.failures × Answering WritesWithin start before after

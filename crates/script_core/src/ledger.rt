@@ -17,7 +17,7 @@ use turn_core::CALL_LIMIT;
 /// A store and its one pass, whose calls answer what a book answers. Contracts see the history, and how many calls
 /// there are left.
 #[derive(Drop)]
-pub(crate) struct Ledger {
+pub struct Ledger {
     store: Store,
     pass: Pass,
     ghost one: { passes_of pass ≡ 1 },
@@ -28,7 +28,7 @@ impl Ledger {
     ghost use Rattle.script_core.specs.Ledgers.{ledger_history, left_in, ShowsAll};
 
     /// A store without a table.
-    pub(crate) fn new(alloc: Global) -> Result<Ledger, NoMemory>
+    pub fn new(alloc: Global) -> Result<Ledger, NoMemory>
         ensures { IfOk result
             (λ ledger. (ledger_history ledger ≡ []) × (left_in ledger ≡ call_limit)) }
     {

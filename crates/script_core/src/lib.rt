@@ -16,6 +16,7 @@ mod session;
 mod together;
 
 pub use laws::{complete_runs_agree, script_has_one_output, statement_has_one_answer};
+pub use ledger::Ledger;
 pub use outcome::Outcome;
-pub use session::run;
+pub use session::{answer_each, run};
 pub use stream_core::{Counted, RunFault};

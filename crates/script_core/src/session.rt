@@ -8,7 +8,7 @@ ghost use Rattle.stream_core.specs.Counted.{failures_of, inner_of, sink_of};
 ghost use Rattle.stream_core.specs.FailureCount.{greatest_count};
 ghost use Rattle.stream_core.specs.Faults.{last_failures, retry_limit};
 ghost use Rattle.work_core.specs.Limits.{worker_limit};
-ghost use Rattle.script_core.specs.Ledgers.{ledger_history, left_in};
+ghost use Rattle.script_core.specs.Ledgers.{ledger_history, left_in, place_in};
 ghost use Rattle.script_core.specs.Performing.{PrintsNext, PrintsStatement};
 ghost use Rattle.script_core.specs.Script.{AppendsFront, ExplainsRun, IsOutput, RunsAll, streams_of};
 ghost use Rattle.script_core.specs.Writing.{AnswersAll, ExplainsAnswering};
@@ -83,22 +83,32 @@ fn answer_next<T: Threads + Wait + Sync>(
     Ok((reported, taken))
 }
 
-/// Answers the statements of some records, the first of them on an empty ledger, and writes each
-/// answer whole. What a statement's records took is given back before its answer is written.
-fn answer_each<T: Threads + Wait + Sync, W: Write>(
+/// Answers the statements of some records, the first of them of this number, and writes each answer whole. What a
+/// statement's records took is given back before its answer is written.
+///
+/// # Errors
+///
+/// `NoMemory` with the answers of some first statements written, of which there are more; `WriteFault` with those of
+/// all statements before written, and a front of the statement's own. Of the store nothing is said then.
+pub fn answer_each<T: Threads + Wait + Sync, W: Write>(
     crew: &Crew<'_, T, OpenGate>,
-    mut ledger: Ledger,
+    ledger: &mut Ledger,
+    number: u64,
     mut records: Records,
     writer: &mut Counted<W>,
     patience: &mut Patience,
 ) -> Result<Outcome, RunFault>
-    requires begun { ledger_history ledger ≡ [] }
-    requires left { 2 * length records ≤ left_in ledger }
-    ensures ok { IfOk result
-        (AnswersAll records (sink_of W.contents writer.old) (sink_of W.contents writer.new)) }
-    ensures fault { IfErr result
-        (ExplainsAnswering records (sink_of W.contents writer.old)
-        (sink_of W.contents writer.new)) }
+    requires numbers { number + length records ≤ 2 ^ 64 }
+    requires left { 2 * length records ≤ left_in ledger.old }
+    ensures ok { IfOk result (AnswersAll (place_in ledger.old number records)
+        (ledger_history ledger.new)
+        (sink_of W.contents writer.old) (sink_of W.contents writer.new)) }
+    ensures fault { IfErr result (ExplainsAnswering (place_in ledger.old number records)
+        (sink_of W.contents writer.old) (sink_of W.contents writer.new)) }
+    ensures few { IfOk result (λ outcome. (outcome.errors ≤ outcome.commands)
+        × (outcome.commands ≤ length records)) }
+    ensures left { IfOk result
+        (λ _. left_in ledger.old ≤ left_in ledger.new + 2 * length records) }
     ensures counts { failures_of writer.old ≤ failures_of writer.new }
     ensures tries { failures_of writer.new + patience.new.left
         ≤ failures_of writer.old + patience.old.left + last_failures result }
@@ -111,9 +121,9 @@ fn answer_each<T: Threads + Wait + Sync, W: Write>(
     let count = records.len();
     let mut at = 0;
     while at < count {
-        let number = at as u64 + 1;
+        let next = number + at as u64;
         let lines = Lines::all(&records);
-        let (reported, taken) = answer_next(crew, &mut ledger, number, lines, &mut printer)?;
+        let (reported, taken) = answer_next(crew, ledger, next, lines, &mut printer)?;
         records.advance(taken);
         printer.write_to(writer, patience)?;
         outcome.commands += reported.commands;
@@ -177,8 +187,8 @@ pub fn run<T: Threads + Wait + Sync, R: Read, W: Write>(
         ≤ failures_of reader.old + failures_of writer.old + retry_limit + last_failures result }
 {
     let mut patience = Patience::new();
-    let ledger = Ledger::new(alloc)?;
+    let mut ledger = Ledger::new(alloc)?;
     let records = read_script(rt, alloc, reader, &mut patience, workers)?;
     let crew = Crew::new(rt, alloc, workers, &OpenGate);
-    answer_each(&crew, ledger, records, writer, &mut patience)
+    answer_each(&crew, &mut ledger, 1, records, writer, &mut patience)
 }

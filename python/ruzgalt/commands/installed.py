@@ -1,4 +1,4 @@
-"""The commands that a wheel installs: dipq, dipq-answers, dipq-load."""
+"""The commands that a wheel installs: dipq, dipq-live, dipq-answers, dipq-load."""
 import os
 import signal
 import sys
@@ -7,10 +7,18 @@ from ruzgalt import which
 
 
 def dipq() -> int:
-    """Becomes the program that came with the package, so that its signals and its status are what the caller sees."""
-    program = which.own()
+    return become("dipq")
+
+
+def dipq_live() -> int:
+    return become("dipq-live")
+
+
+def become(name: str) -> int:
+    """Becomes a program that came with the package, so that its signals and its status are what the caller sees."""
+    program = which.own(name)
     if program is None:
-        sys.exit("dipq: the package has no program: install its wheel, or call dipq by its path")
+        sys.exit(f"{name}: the package has no program: install its wheel, or call {name} by its path")
     # Python ignores these, and what it becomes would do so too.
     for ignored in (signal.SIGPIPE, signal.SIGXFSZ):
         signal.signal(ignored, signal.SIG_DFL)

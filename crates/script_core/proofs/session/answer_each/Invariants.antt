@@ -1,7 +1,7 @@
 -- The commands before `at` are done, and their answers are written.
 use Rattle.std.proofs.Common.{◌≡◌, ◌+◌, ◌*◌, ◌≤◌, ◌-◌, [], drop, length}
 use Rattle.stream_core.specs.Counted.{failures_of, inner_of}
-use Rattle.script_core.specs.Ledgers.{ledger_history, left_in}
+use Rattle.script_core.specs.Ledgers.{ledger_history, left_in, place_in}
 use Rattle.script_core.proofs.Progress.{Progress}
 use Rattle.script_core.proofs.session.answer_each.Given as goal
 
@@ -14,9 +14,9 @@ invariant-loop-at g l = record {
   counts : failures_of l.fn.writer ≤ failures_of l.writer;
   tries : failures_of l.writer + l.patience.left ≤ failures_of l.fn.writer + l.fn.patience.left;
   begins : l.printer ≡ [];
-  progress : Progress l.fn.records (g.W.Write.contents (inner_of l.fn.writer))
+  progress : Progress (place_in l.fn.ledger l.fn.number l.fn.records) (g.W.Write.contents (inner_of l.fn.writer))
       (g.W.Write.contents (inner_of l.writer)) (ledger_history l.ledger) l.at l.outcome;
-  left : 2 * length l.fn.records ≤ left_in l.ledger + 2 * l.at;
+  left : left_in l.fn.ledger ≤ left_in l.ledger + 2 * l.at;
 }
 
 abbrev pub decreases-loop-at : goal.decreases-loop-at

@@ -3,8 +3,8 @@ use Rattle.std.specs.Prelude.{ℕ, ◌==◌, Bool, true, false, if◌then◌else
 use Rattle.stream_core.specs.declared.fault.RunFault.{RunFault}
 use Rattle.stream_core.specs.declared.fault.RunFault.TheVariants.{WriteFault}
 use Rattle.script_core.specs.declared.outcome.Outcome.{Outcome}
-use Rattle.dipq.specs.declared.Ending.{Ending}
-use Rattle.dipq.specs.declared.Ending.TheVariants.{Answered, Helped, Usage, Fault}
+use Rattle.program_core.specs.declared.ending.Ending.{Ending}
+use Rattle.program_core.specs.declared.ending.Ending.TheVariants.{Answered, Helped, Usage, Fault}
 
 -- the ending of a run with that outcome or fault, whose output could be flushed or couldn't
 abbrev pub ending_of : Result Outcome RunFault → Bool → Ending

@@ -1,0 +1,10 @@
+pub mod BlockLemmas
+pub mod DoneLemmas
+pub mod FedLemmas
+pub mod FeedLemmas
+pub mod LineLemmas
+pub mod ScanLemmas
+pub mod SessionLemmas
+pub mod StreamLemmas
+pub mod TextLemmas
+pub mod WholeLemmas

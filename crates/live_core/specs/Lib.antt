@@ -1,0 +1,6 @@
+pub mod Portions
+pub mod Runs
+pub mod Scanning
+pub mod Standing
+pub mod Texts
+pub mod Whole
