@@ -1,0 +1,81 @@
+//! Rows of a caller as items, and why they can't be.
+
+ghost use Rattle.std.specs.Prelude.{◌≡◌, pos, length, slice_index_or, IfOk, IfErr, MatchOption};
+ghost use Rattle.ruzgalt_c.specs.Rows.{ArePeriodEnds, AreRows, SomeRowHasNoPeriod};
+ghost use Rattle.ruzgalt_c.specs.declared.rows.Fault.TheVariants.{NoPeriod};
+
+use dip_core::Item;
+use period_core::{Period, Point};
+use std::alloc::{AllocError, Global};
+
+/// Why there is no answer.
+#[derive(Clone, Copy, Debug, PartialEq, Eq)]
+pub enum Fault {
+    /// Some row is no period.
+    NoPeriod,
+    /// A growth was refused.
+    NoMemory,
+}
+
+impl From<AllocError> for Fault {
+    fn from(_: AllocError) -> Fault {
+        Fault::NoMemory
+    }
+}
+
+/// Returns the rows as items, whose ids are the rows' indices. A row without a class, or without an amount, has 0.
+pub(crate) fn items_of(
+    alloc: Global,
+    class: &[u64],
+    from: &[i64],
+    to: &[i64],
+    amount: &[i64],
+) -> Result<Vec<Item>, Fault>
+    requires { length to.now ≡ length from.now }
+    ensures rows { IfOk result (λ items. AreRows (record
+        { class = class.now; from = from.now; to = to.now; amount = amount.now }) items.items) }
+    ensures fault { IfErr result (λ f. f ≡ NoPeriod → SomeRowHasNoPeriod from.now to.now) }
+{
+    let Ok(mut items) = Vec::with_capacity(alloc, from.len()) else {
+        return Err(Fault::NoMemory);
+    };
+    for k in 0..from.len() {
+        let Some(period) = period_of(from[k], to[k]) else {
+            return Err(Fault::NoPeriod);
+        };
+        let item = Item {
+            period,
+            id: k as u64,
+            class: class_at(class, k),
+            amount: amount_at(amount, k),
+        };
+        let Ok(()) = items.push(item) else {
+            return Err(Fault::NoMemory);
+        };
+    }
+    Ok(items)
+}
+
+/// The class of row k.
+fn class_at(class: &[u64], k: usize) -> u64
+    ensures { result ≡ slice_index_or class.now k 0 }
+{
+    if k < class.len() { class[k] } else { 0 }
+}
+
+/// The amount of row k.
+fn amount_at(amount: &[i64], k: usize) -> i64
+    ensures { result ≡ slice_index_or amount.now k (pos 0) }
+{
+    if k < amount.len() { amount[k] } else { 0 }
+}
+
+/// The period from one second on and before the other, if there is one.
+fn period_of(from: i64, to: i64) -> Option<Period>
+    ensures { MatchOption result (¬ ArePeriodEnds from to)
+        (λ p. (p.from ≡ from) × (p.to ≡ to)) }
+{
+    let from = Point::from_number(from).ok()?;
+    let to = Point::from_number(to).ok()?;
+    Period::new(from, to).ok()
+}
