@@ -20,7 +20,7 @@ def copied(top: Path, name: str) -> Iterator[Path]:
             for part in filter(lambda part: (crate.folder / part).is_dir(), PARTS):
                 shutil.copytree(crate.folder / part, to / part)
         lines = (top / "crates.txt").read_text().splitlines()
-        wanted = [line for line in lines if line.partition(":")[0].strip() in crates.by_name]
+        wanted = [line for line in lines if line.split(":")[0].split()[:1] in [[name] for name in crates.by_name]]
         (copy / "crates.txt").write_text("\n".join(wanted) + "\n")
         shutil.copy(top / "HANDLES", copy)
         yield copy

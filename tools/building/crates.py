@@ -45,9 +45,10 @@ class Crates:
         """Those of the repository at this folder."""
         found = {}
         for line in (top / "crates.txt").read_text().splitlines():
-            name, _, libraries = line.partition("#")[0].partition(":")
-            if name.strip():
-                found[name.strip()] = Crate(name.strip(), top / "crates" / name.strip(), tuple(libraries.split()))
+            words, _, libraries = line.partition("#")[0].partition(":")
+            if words.strip():
+                name = words.split()[0]  # What stands after it, as staticlib, is how the crate is built.
+                found[name] = Crate(name, top / "crates" / name, tuple(libraries.split()))
         return cls(found)
 
     def __iter__(self) -> Iterator[Crate]:
