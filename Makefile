@@ -1,5 +1,5 @@
 # Builds dipq and dipq-live, checks the repository, and puts the programs, the tools, their manual pages and the Python
-# package where a shell, `man` and Python find them; or makes a Debian package of them, or a wheel.
+# package where a shell, `man` and Python find them; or makes a Debian package of them, a wheel, or the library for C.
 #
 #     make                                 proves and builds the programs, where that isn't done
 #     make check                           the gate
@@ -7,6 +7,7 @@
 #     make uninstall PREFIX="$HOME/.local"
 #     make package                         out/dipq_VERSION_ARCHITECTURE.deb
 #     make wheel                           out/ruzgalt-VERSION-py3-none-PLATFORM.whl
+#     make library                         out/libruzgalt.so, libruzgalt.a, ruzgalt.h and ruzgalt.pc
 #
 # DESTDIR is put before each of these places. A program is found from where its command is, so all that is installed may
 # be moved together.
@@ -28,7 +29,7 @@ commands = $(foreach tool,$(tools),$(lastword $(subst :, ,$(tool))))
 
 SHELL = bash
 .SHELLFLAGS = -eu -o pipefail -c
-.PHONY: all check install uninstall package wheel
+.PHONY: all check install uninstall package wheel library
 
 all:
 	for program in $(programs); do "./$$program" </dev/null; done
@@ -69,3 +70,6 @@ package: all
 
 wheel: all
 	tools/make-wheel
+
+library:
+	tools/make-library

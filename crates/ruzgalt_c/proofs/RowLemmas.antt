@@ -1,5 +1,5 @@
 -- Rows as items, and the numbers of their parts.
-use Rattle.std.proofs.Common.{◌≡◌, ℕ, zero, suc, ◌+◌, ◌<◌, List, [], ◌∷◌, ◌++◌, length, get_or, arith, inl, inr, subst, sym, length-append}
+use Rattle.std.proofs.Common.{◌≡◌, ◌⊎◌, ℕ, zero, suc, ◌+◌, ◌<◌, ◌≤◌, List, [], ◌∷◌, ◌++◌, length, get_or, arith, inl, inr, subst, sym, length-append}
 use Rattle.std.specs.Prelude.{All, Contains}
 use Rattle.std.proofs.lemmas.Bool.{cases_lt}
 use Rattle.std.proofs.lemmas.List.{get_or_append_left, get_or_push}
@@ -10,6 +10,8 @@ use Rattle.dip_core.specs.Division.{all_of, part_at}
 use Rattle.dip_core.proofs.IdsLemmas.{HasDistinctIds-from_rising}
 use Rattle.dip_core.proofs.PartedLemmas.{distinct-later, ids-apart}
 use Rattle.dip_core.proofs.StepLemmas.{contains-all_of}
+use Rattle.grid_core.specs.Bundles.{ClassesRise}
+use Rattle.anti_core.specs.United.{StandByClass}
 use Rattle.ruzgalt_c.specs.Rows.{AreRows, Columns, IsRow}
 
 -- the next row as one more item
@@ -50,3 +52,17 @@ parts-apart (p ∷ ps) zero (suc k) x y distinct lt h m e =
     ids-apart p (all_of ps) x y distinct h (contains-all_of ps k y m) e
 parts-apart (p ∷ ps) (suc j) (suc k) x y distinct lt h m e =
     parts-apart ps j k x y (distinct-later p (all_of ps) distinct) (omega arith) h m e
+
+-- items by class and start rise by class
+pub rise-stand : (items : List Item) → StandByClass items → ClassesRise items
+rise-stand items stand = λ i j d upto inside.
+    (elim (equal_or_less i j upto) [
+      | inl e ↦ subst (λ (k : ℕ). (get_or items i d).class ≤ (get_or items k d).class) e (omega arith)
+      | inr less ↦ elim (stand i j d less inside) [
+        | inl lower ↦ omega (arith, lower)
+        | inr (same, earlier) ↦ omega (arith, same)
+      ]
+    ])
+  where
+    equal_or_less : (m n : ℕ) → m ≤ n → (m ≡ n) ⊎ (m < n)
+    equal_or_less m n h = grind arith

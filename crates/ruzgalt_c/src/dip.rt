@@ -3,13 +3,13 @@
 ghost use Rattle.std.specs.Prelude.{◌≡◌, ◌≢◌, ℕ, ◌<◌, ◌≤◌, length, All, IfOk, IfErr, slice_index_or};
 ghost use Rattle.std.specs.List.{HoldsAt};
 ghost use Rattle.dip_core.specs.Item.{HasDistinctIds, item_limit};
-ghost use Rattle.dip_core.specs.Division.{all_of};
+ghost use Rattle.dip_core.specs.Division.{all_of, IsLeastDivision};
 ghost use Rattle.ruzgalt_c.specs.Dip.{AreNumbersOf, IsDipOfRows};
 ghost use Rattle.ruzgalt_c.specs.Rows.{SomeRowHasNoPeriod};
 ghost use Rattle.ruzgalt_c.specs.declared.rows.Fault.TheVariants.{NoPeriod};
 
 use crate::rows::{Fault, items_of};
-use dip_core::{Division, Item, divide_sorted};
+use dip_core::{Division, Item, NoMemory, divide_sorted};
 use period_core::Point;
 use std::alloc::Global;
 
@@ -33,6 +33,16 @@ pub(crate) fn divide(
     };
     number_rows(&division, numbers);
     Ok((division.parts(), division.instant()))
+}
+
+/// Returns the division of some items, which are copied.
+pub(crate) fn divided(alloc: Global, items: &[Item]) -> Result<Division, NoMemory>
+    requires { length items.now ≤ item_limit }
+    ensures { IfOk result (IsLeastDivision items.now) }
+{
+    let mut sorted = Vec::from_slice(alloc, items)?;
+    sorted.sort_unstable();
+    divide_sorted(alloc, &sorted)
 }
 
 /// Puts the number of each item's part at the index that is its id.

@@ -1,12 +1,25 @@
-//! What C calls. Each function returns a code: `DONE` and an answer, or why there is none.
+//! What C calls. Each function returns a code: `DONE` with an answer, or the reason for which it doesn't answer.
 
-ghost use Rattle.std.specs.Prelude.{◌≡◌, ◌<◌, ◌≤◌, ◌⊎◌, ◌↔◌, ℤ, Option, pos, length, IfSome};
+ghost use Rattle.std.specs.Prelude.{◌≡◌, ◌<◌, ◌≤◌, ◌⊎◌, ◌↔◌, ℤ, List, Option, pos, length, IfSome};
 ghost use Rattle.dip_core.specs.Item.{item_limit};
 ghost use Rattle.ruzgalt_c.specs.Dip.{IsDipOfRows};
-ghost use Rattle.ruzgalt_c.specs.Rows.{SomeRowHasNoPeriod};
+ghost use Rattle.ruzgalt_c.specs.Join.{AreWritten, IsJoinOfRows};
+ghost use Rattle.ruzgalt_c.specs.Agg.{ArePlateausWritten, AreValuesWritten, IsAggOfRows, IsNoFunction};
+ghost use Rattle.ruzgalt_c.specs.Anti.{AreAntiWritten, IsAntiOfRows};
+ghost use Rattle.ruzgalt_c.specs.Check.{IsCertificateOf, IsVerdictOfRows, Says};
+ghost use Rattle.ruzgalt_c.specs.Rows.{SomeRowHasNoPeriod, classed, measured};
+ghost use Rattle.anti_core.specs.declared.rows.AntiRow.{AntiRow};
+ghost use Rattle.cert_core.specs.declared.verdict.Certificate.{Certificate};
+ghost use Rattle.cert_core.specs.declared.verdict.Verdict.{Verdict};
+ghost use Rattle.join_core.specs.declared.rows.JoinRow.{JoinRow};
+ghost use Rattle.round_core.specs.declared.plateau.Plateau.{Plateau};
 
+use crate::agg::{measure_of, plateaus_of_items, write_plateaus, write_values};
+use crate::anti::{anti_items, write_anti_rows};
+use crate::check::{certificate_of, check_rows, numbers_of};
 use crate::dip::divide;
-use crate::rows::Fault;
+use crate::join::{join_items, write_rows};
+use crate::rows::{Fault, items_of, order_by_class};
 use std::alloc::Global;
 
 /// The most rows of a list.
@@ -21,11 +34,17 @@ const UNEVEN: i32 = 1;
 /// A list has more than `ROW_LIMIT` rows.
 const TOO_MANY: i32 = 2;
 
-/// Some row is no period of the years 0001 to 9999.
+/// Some row isn't a period of the years 0001 to 9999.
 const NO_PERIOD: i32 = 3;
 
 /// Memory was refused.
 const NO_MEMORY: i32 = 4;
+
+/// The answer has more rows than the lists for it have room.
+const NO_ROOM: i32 = 5;
+
+/// No function has the number.
+const NO_FUNCTION: i32 = 6;
 
 /// The code of a fault.
 fn code_of(fault: Fault) -> i32
@@ -38,9 +57,9 @@ fn code_of(fault: Fault) -> i32
     }
 }
 
-/// Divides rows into the fewest parts of which no two rows overlap. Row k holds from second `from[k]` on and before second
-/// `to[k]`. The number of its part, from 0 on, is put at `part[k]`, the number of parts at `parts`, and the first second
-/// that as many rows hold at `instant`, which is left as it is if there are no rows.
+/// Divides rows into the fewest parts without overlaps. Row k holds from second `from[k]` on and before second `to[k]`.
+/// Puts the number of its part, from 0 on, at `part[k]`, the number of parts at `parts`, and at `instant` the first
+/// second at which the same number of rows hold. Without rows it leaves `instant` as it is.
 #[unsafe(no_mangle)]
 pub extern "C" fn ruzgalt_dip(
     alloc: Global,
@@ -72,6 +91,267 @@ pub extern "C" fn ruzgalt_dip(
             if let Some(point) = point {
                 *instant = point.number();
             }
+            DONE
+        }
+        Err(fault) => code_of(fault),
+    }
+}
+
+/// Finds each pair of a left and a right row that have one class and share an instant. Row k of a side has the class
+/// `class[k]`, and holds from second `from[k]` on and before second `to[k]`. Puts the indices of both rows and the period
+/// that they share into the four lists of the answer, by start, end, left index and right index, and the number of pairs
+/// at `count`, also if the lists are too short.
+#[unsafe(no_mangle)]
+pub extern "C" fn ruzgalt_join(
+    alloc: Global,
+    left_class: &[u64],
+    left_from: &[i64],
+    left_to: &[i64],
+    right_class: &[u64],
+    right_from: &[i64],
+    right_to: &[i64],
+    left: &mut [u32],
+    right: &mut [u32],
+    from: &mut [i64],
+    to: &mut [i64],
+    count: &mut u64,
+) -> i32
+    ensures join { result ≡ DONE → (rows : List JoinRow)
+        × IsJoinOfRows (classed left_class.now left_from.now left_to.now)
+        (classed right_class.now right_from.now right_to.now) rows
+        × (count.new ≡ length rows)
+        × AreWritten rows (length rows) left.new right.new from.new to.new }
+    ensures lengths { (result ≡ UNEVEN) ↔ ¬ ((length left_class.now ≡ length left_from.now)
+        × (length left_to.now ≡ length left_from.now)
+        × (length right_class.now ≡ length right_from.now)
+        × (length right_to.now ≡ length right_from.now)
+        × (length right.old ≡ length left.old)
+        × (length from.old ≡ length left.old) × (length to.old ≡ length left.old)) }
+    ensures many { result ≡ TOO_MANY → (item_limit < length left_from.now)
+        ⊎ (item_limit < length right_from.now) }
+    ensures period { result ≡ NO_PERIOD → SomeRowHasNoPeriod left_from.now left_to.now
+        ⊎ SomeRowHasNoPeriod right_from.now right_to.now }
+    ensures room { result ≡ NO_ROOM → (rows : List JoinRow)
+        × IsJoinOfRows (classed left_class.now left_from.now left_to.now)
+        (classed right_class.now right_from.now right_to.now) rows
+        × (count.new ≡ length rows) × (length left.old < length rows) }
+    ensures codes { (result ≡ DONE) ⊎ (result ≡ UNEVEN) ⊎ (result ≡ TOO_MANY)
+        ⊎ (result ≡ NO_PERIOD) ⊎ (result ≡ NO_MEMORY) ⊎ (result ≡ NO_ROOM) }
+{
+    if left_class.len() != left_from.len()
+        || left_to.len() != left_from.len()
+        || right_class.len() != right_from.len()
+        || right_to.len() != right_from.len()
+        || right.len() != left.len()
+        || from.len() != left.len()
+        || to.len() != left.len()
+    {
+        return UNEVEN;
+    }
+    if left_from.len() > ROW_LIMIT || right_from.len() > ROW_LIMIT {
+        return TOO_MANY;
+    }
+    let lefts = match items_of(alloc, left_class, left_from, left_to, &[]) {
+        Ok(lefts) => lefts,
+        Err(fault) => return code_of(fault),
+    };
+    let rights = match items_of(alloc, right_class, right_from, right_to, &[]) {
+        Ok(rights) => rights,
+        Err(fault) => return code_of(fault),
+    };
+    let Ok(rows) = join_items(alloc, lefts, rights) else {
+        return NO_MEMORY;
+    };
+    *count = rows.len() as u64;
+    if rows.len() > left.len() {
+        return NO_ROOM;
+    }
+    write_rows(&rows, left, right, from, to);
+    DONE
+}
+
+/// Finds the longest periods in which a left row holds and no right row of its class does. The rows are as in
+/// `ruzgalt_join`. Puts the row's index and the period into the three lists of the answer, by index and start, and the
+/// number of periods at `count`, also if the lists are too short.
+#[unsafe(no_mangle)]
+pub extern "C" fn ruzgalt_anti(
+    alloc: Global,
+    left_class: &[u64],
+    left_from: &[i64],
+    left_to: &[i64],
+    right_class: &[u64],
+    right_from: &[i64],
+    right_to: &[i64],
+    left: &mut [u32],
+    from: &mut [i64],
+    to: &mut [i64],
+    count: &mut u64,
+) -> i32
+    ensures anti { result ≡ DONE → (rows : List AntiRow)
+        × IsAntiOfRows (classed left_class.now left_from.now left_to.now)
+        (classed right_class.now right_from.now right_to.now) rows
+        × (count.new ≡ length rows)
+        × AreAntiWritten rows (length rows) left.new from.new to.new }
+    ensures lengths { (result ≡ UNEVEN) ↔ ¬ ((length left_class.now ≡ length left_from.now)
+        × (length left_to.now ≡ length left_from.now)
+        × (length right_class.now ≡ length right_from.now)
+        × (length right_to.now ≡ length right_from.now)
+        × (length from.old ≡ length left.old) × (length to.old ≡ length left.old)) }
+    ensures many { result ≡ TOO_MANY → (item_limit < length left_from.now)
+        ⊎ (item_limit < length right_from.now) }
+    ensures period { result ≡ NO_PERIOD → SomeRowHasNoPeriod left_from.now left_to.now
+        ⊎ SomeRowHasNoPeriod right_from.now right_to.now }
+    ensures room { result ≡ NO_ROOM → (rows : List AntiRow)
+        × IsAntiOfRows (classed left_class.now left_from.now left_to.now)
+        (classed right_class.now right_from.now right_to.now) rows
+        × (count.new ≡ length rows) × (length left.old < length rows) }
+    ensures codes { (result ≡ DONE) ⊎ (result ≡ UNEVEN) ⊎ (result ≡ TOO_MANY)
+        ⊎ (result ≡ NO_PERIOD) ⊎ (result ≡ NO_MEMORY) ⊎ (result ≡ NO_ROOM) }
+{
+    if left_class.len() != left_from.len()
+        || left_to.len() != left_from.len()
+        || right_class.len() != right_from.len()
+        || right_to.len() != right_from.len()
+        || from.len() != left.len()
+        || to.len() != left.len()
+    {
+        return UNEVEN;
+    }
+    if left_from.len() > ROW_LIMIT || right_from.len() > ROW_LIMIT {
+        return TOO_MANY;
+    }
+    let lefts = match items_of(alloc, left_class, left_from, left_to, &[]) {
+        Ok(lefts) => lefts,
+        Err(fault) => return code_of(fault),
+    };
+    let rights = match items_of(alloc, right_class, right_from, right_to, &[]) {
+        Ok(rights) => rights,
+        Err(fault) => return code_of(fault),
+    };
+    let Ok(rows) = anti_items(alloc, lefts, rights) else {
+        return NO_MEMORY;
+    };
+    *count = rows.len() as u64;
+    if rows.len() > left.len() {
+        return NO_ROOM;
+    }
+    write_anti_rows(&rows, left, from, to);
+    DONE
+}
+
+/// Finds the longest periods in which rows of a group hold and have one value: their number if `function` is 0, the sum,
+/// the minimum or the maximum of their amounts if it is 1, 2 or 3. Row k has the group `group[k]` and the amount
+/// `amount[k]`, and holds from second `from[k]` on and before second `to[k]`. Puts the group, the period and the value
+/// into the lists of the answer, by group and start, and the number of periods at `count`, also if the lists are too
+/// short. The low 64 bits of a value are put into `low`, the high 64 into `high`.
+#[unsafe(no_mangle)]
+pub extern "C" fn ruzgalt_agg(
+    alloc: Global,
+    group: &[u64],
+    from: &[i64],
+    to: &[i64],
+    amount: &[i64],
+    function: u32,
+    of_group: &mut [u64],
+    starts: &mut [i64],
+    ends: &mut [i64],
+    low: &mut [u64],
+    high: &mut [i64],
+    count: &mut u64,
+) -> i32
+    ensures agg { result ≡ DONE → (plateaus : List Plateau)
+        × IsAggOfRows (measured group.now from.now to.now amount.now) function plateaus
+        × (count.new ≡ length plateaus)
+        × ArePlateausWritten plateaus (length plateaus) of_group.new starts.new ends.new
+        × AreValuesWritten plateaus (length plateaus) low.new high.new }
+    ensures lengths { (result ≡ UNEVEN) ↔ ¬ ((length group.now ≡ length from.now)
+        × (length to.now ≡ length from.now) × (length amount.now ≡ length from.now)
+        × (length starts.old ≡ length of_group.old) × (length ends.old ≡ length of_group.old)
+        × (length low.old ≡ length of_group.old) × (length high.old ≡ length of_group.old)) }
+    ensures many { result ≡ TOO_MANY → item_limit < length from.now }
+    ensures period { result ≡ NO_PERIOD → SomeRowHasNoPeriod from.now to.now }
+    ensures room { result ≡ NO_ROOM → (plateaus : List Plateau)
+        × IsAggOfRows (measured group.now from.now to.now amount.now) function plateaus
+        × (count.new ≡ length plateaus) × (length of_group.old < length plateaus) }
+    ensures function { result ≡ NO_FUNCTION → IsNoFunction function }
+    ensures codes { (result ≡ DONE) ⊎ (result ≡ UNEVEN) ⊎ (result ≡ TOO_MANY)
+        ⊎ (result ≡ NO_PERIOD) ⊎ (result ≡ NO_MEMORY) ⊎ (result ≡ NO_ROOM)
+        ⊎ (result ≡ NO_FUNCTION) }
+{
+    if group.len() != from.len()
+        || to.len() != from.len()
+        || amount.len() != from.len()
+        || starts.len() != of_group.len()
+        || ends.len() != of_group.len()
+        || low.len() != of_group.len()
+        || high.len() != of_group.len()
+    {
+        return UNEVEN;
+    }
+    if from.len() > ROW_LIMIT {
+        return TOO_MANY;
+    }
+    let Some(measure) = measure_of(function) else {
+        return NO_FUNCTION;
+    };
+    let mut items = match items_of(alloc, group, from, to, amount) {
+        Ok(items) => items,
+        Err(fault) => return code_of(fault),
+    };
+    order_by_class(&mut items);
+    let Ok(plateaus) = plateaus_of_items(alloc, measure, &items) else {
+        return NO_MEMORY;
+    };
+    *count = plateaus.len() as u64;
+    if plateaus.len() > of_group.len() {
+        return NO_ROOM;
+    }
+    write_plateaus(&plateaus, of_group, starts, ends);
+    write_values(&plateaus, low, high);
+    DONE
+}
+
+/// Checks a claimed division of rows: row k is in part `part[k]`, there are `parts` parts, and `parts` rows hold second
+/// `instant`. Without rows `instant` is ignored. Puts the number of the first fault at `verdict`, and its own numbers at
+/// `first` and `second`: 2, part `first` is empty; 5, row `first` is in no part; 6, rows `first` and `second` of one part
+/// overlap; 7, `first` rows hold the instant, not `parts`. 0 means that the division is right, and that no division has
+/// fewer parts.
+#[unsafe(no_mangle)]
+pub extern "C" fn ruzgalt_check(
+    alloc: Global,
+    from: &[i64],
+    to: &[i64],
+    part: &[u32],
+    parts: u32,
+    instant: i64,
+    verdict: &mut u32,
+    first: &mut u64,
+    second: &mut u64,
+) -> i32
+    ensures verdict { result ≡ DONE → (certificate : Certificate) × (said : Verdict)
+        × IsCertificateOf (length from.now) parts instant certificate
+        × IsVerdictOfRows from.now to.now part.now certificate said
+        × Says said verdict.new first.new second.new }
+    ensures lengths { (result ≡ UNEVEN) ↔ ¬ ((length to.now ≡ length from.now)
+        × (length part.now ≡ length from.now)) }
+    ensures many { result ≡ TOO_MANY → (item_limit < length from.now) ⊎ (item_limit < parts) }
+    ensures period { result ≡ NO_PERIOD → SomeRowHasNoPeriod from.now to.now }
+    ensures codes { (result ≡ DONE) ⊎ (result ≡ UNEVEN) ⊎ (result ≡ TOO_MANY)
+        ⊎ (result ≡ NO_PERIOD) ⊎ (result ≡ NO_MEMORY) }
+{
+    if to.len() != from.len() || part.len() != from.len() {
+        return UNEVEN;
+    }
+    if from.len() > ROW_LIMIT || parts as usize > ROW_LIMIT {
+        return TOO_MANY;
+    }
+    let certificate = certificate_of(from.len(), parts, instant);
+    match check_rows(alloc, from, to, part, &certificate) {
+        Ok(said) => {
+            let (number, one, other) = numbers_of(said);
+            *verdict = number;
+            *first = one;
+            *second = other;
             DONE
         }
         Err(fault) => code_of(fault),

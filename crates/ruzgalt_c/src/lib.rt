@@ -2,6 +2,11 @@
 
 //! Divides, joins, anti-joins, sums up and checks rows for callers in C, on the calling thread.
 
+mod agg;
+mod anti;
+mod check;
 mod dip;
 mod export;
+mod join;
 mod rows;
+mod tiles;

@@ -1,6 +1,7 @@
-//! Rows of a caller as items, and why they can't be.
+//! Rows of a caller as items, and why a function doesn't answer.
 
-ghost use Rattle.std.specs.Prelude.{◌≡◌, pos, length, slice_index_or, IfOk, IfErr, MatchOption};
+ghost use Rattle.std.specs.Prelude.{◌≡◌, pos, length, slice_index_or, IfOk, IfErr, IsPermutation, MatchOption};
+ghost use Rattle.grid_core.specs.Bundles.{ClassesRise};
 ghost use Rattle.ruzgalt_c.specs.Rows.{ArePeriodEnds, AreRows, SomeRowHasNoPeriod};
 ghost use Rattle.ruzgalt_c.specs.declared.rows.Fault.TheVariants.{NoPeriod};
 
@@ -8,10 +9,10 @@ use dip_core::Item;
 use period_core::{Period, Point};
 use std::alloc::{AllocError, Global};
 
-/// Why there is no answer.
+/// Why a function doesn't answer.
 #[derive(Clone, Copy, Debug, PartialEq, Eq)]
 pub enum Fault {
-    /// Some row is no period.
+    /// Some row isn't a period.
     NoPeriod,
     /// A growth was refused.
     NoMemory,
@@ -54,6 +55,14 @@ pub(crate) fn items_of(
         };
     }
     Ok(items)
+}
+
+/// Sorts the items by class and start.
+pub(crate) fn order_by_class(items: &mut Vec<Item>)
+    ensures permutation { IsPermutation items.old.items items.new.items }
+    ensures sorted { ClassesRise items.new.items }
+{
+    items.sort_unstable_by_key(|item| (item.class, item.period.from));
 }
 
 /// The class of row k.
