@@ -18,34 +18,43 @@ def program() -> str:
     return os.environ.get("DIPQ") or own() or shutil.which("dipq") or "dipq"
 
 
+def live() -> str:
+    """The program that stays alive: the one that DIPQ_LIVE names in the environment, or the one next to the program."""
+    return os.environ.get("DIPQ_LIVE") or f"{program()}-live"
+
+
 def own(name: str = "dipq") -> Optional[str]:
     """The program that came with the package: within it, or next to the folder python/."""
     return next((str(place / name) for place in (WITHIN, TOP) if (place / name).is_file()), None)
 
 
-def is_of_clone(command: str) -> bool:
-    """Whether it is a clone's ./dipq, which looks at all sources before each run, and builds where they changed."""
-    return command == str(TOP / "dipq") and (TOP / "crates").is_dir()
+def crate_of(command: str) -> str:
+    """The crate of a clone's own command, or nothing for another command.
+
+    A clone's command checks all sources before each run, and builds the program if they have changed.
+    """
+    crates = {str(TOP / "dipq"): "dipq", str(TOP / "dipq-live"): "dipq_live"}
+    return crates.get(command, "") if (TOP / "crates").is_dir() else ""
 
 
-def is_built() -> bool:
+def is_built(crate: str = "dipq") -> bool:
     """Whether the clone's program is built from the sources that are there.
 
-    They are looked at once a second at most, since that takes ten times as long as a short answer.
+    The sources are read once a second at most, since that takes ten times as long as a short answer.
     """
-    return is_built_at(TOP, int(time.monotonic()))
+    return is_built_at(TOP, crate, int(time.monotonic()))
 
 
-@lru_cache(maxsize=1)
-def is_built_at(top: Path, second: int) -> bool:
+@lru_cache(maxsize=2)
+def is_built_at(top: Path, crate: str, second: int) -> bool:
+    words = [str(top / "tools" / "is-built"), str(top), crate]
     try:
-        look = subprocess.run([top / "tools" / "is-built"], stdout=subprocess.DEVNULL, stderr=subprocess.DEVNULL)
+        return subprocess.run(words, stdout=subprocess.DEVNULL, stderr=subprocess.DEVNULL).returncode == 0
     except OSError:
         return False
-    return look.returncode == 0
 
 
 def words_of(command: str) -> List[str]:
-    """What runs the program. A clone's is built, as is_built found."""
-    built = [TOP / "tools" / "with-allocator", TOP / "crates" / "dipq" / "out" / "dipq"]
-    return [str(word) for word in built] if is_of_clone(command) else [command]
+    """What runs a program. A clone's is built, as is_built found."""
+    crate = crate_of(command)
+    return [str(TOP / "tools" / "with-allocator"), str(TOP / "crates" / crate / "out" / crate)] if crate else [command]

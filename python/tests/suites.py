@@ -78,8 +78,9 @@ def set_environment() -> None:
     os.environ["PYTHONPATH"] = os.pathsep.join(path)
     for threads in ("OMP_NUM_THREADS", "OPENBLAS_NUM_THREADS"):
         os.environ.setdefault(threads, "1")
-    if which.is_built():
-        os.environ.setdefault("DIPQ", str(PROGRAM))
+    for variable, crate in (("DIPQ", "dipq"), ("DIPQ_LIVE", "dipq_live")):
+        if which.is_built(crate):
+            os.environ.setdefault(variable, str(TOP / "crates" / crate / "out" / crate))
 
 
 def modules_of(kind: str) -> List[str]:

@@ -40,7 +40,8 @@ A module stands on those above it:
     calls                   pandas or Dask
     instants, rows          single points; at and during
     singles, stand_ins      single values; those that stand for missing cells
-    tables, standing        a table of a store; the rows that it has now
+    tables                  a table of a store
+    live                    the program that a store keeps
     diaries                 labels and days of commits
     keys, changes, unmeant  why a key refuses; what a change is; what may not be meant by it
     book                    what a store holds at one moment

@@ -1,6 +1,7 @@
 """The questions of a store. A column whose name the answer has for itself has `_` after it."""
 from __future__ import annotations
 
+import functools
 from typing import TYPE_CHECKING, Any, Mapping, Optional, Union
 
 import pandas as pd
@@ -18,6 +19,8 @@ if TYPE_CHECKING:
 
 class Asking:
     """The part of a store that is asked."""
+
+    lock: Any
 
     def seen(self) -> Book:
         raise NotImplementedError
@@ -544,3 +547,16 @@ class Asking:
         1      + 2024-07-01 2025-01-01    Ada   5400
         """
         return questions.changed(self.asked(points_as=points_as), name, before, after)
+
+
+def alone(question: Any) -> Any:
+    """The question, which other threads' changes and questions wait for."""
+    @functools.wraps(question)
+    def asked(store: Asking, *given: Any, **options: Any) -> Any:
+        with store.lock:
+            return question(store, *given, **options)
+    return asked
+
+
+for name in [one for one in vars(Asking) if not one.startswith("_") and one not in ("lock", "seen", "known", "asked")]:
+    setattr(Asking, name, alone(getattr(Asking, name)))

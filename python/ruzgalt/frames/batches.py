@@ -1,8 +1,8 @@
 """Changes of a store that are tried together."""
 from __future__ import annotations
 
-from dataclasses import dataclass, replace
-from typing import TYPE_CHECKING, Any, List, Optional, Sequence, Tuple, Type
+from dataclasses import dataclass, field, replace
+from typing import TYPE_CHECKING, Any, List, Optional, Sequence, Type
 
 from ruzgalt.frames.book import Book
 from ruzgalt.frames.changes import Change, Changed
@@ -18,11 +18,13 @@ class Draft:
     """The changes of a batch, the book after them if none is refused, and what is given of the batch."""
 
     book: Book
-    changes: Tuple[Change, ...] = ()
+    changes: List[Change] = field(default_factory=list)
     note: Note = NO_NOTE
 
     def behind(self, change: Change) -> Draft:
-        return replace(self, book=self.book.behind(change), changes=(*self.changes, change))
+        book = self.book.behind(change)
+        self.changes.append(change)
+        return replace(self, book=book)
 
     def ended(self) -> Sequence[Change]:
         """The changes, the last of which has the batch's label too. Raises Refused where none makes a commit."""

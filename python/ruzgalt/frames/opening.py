@@ -13,14 +13,14 @@ from ruzgalt import answers
 from ruzgalt.answers import Answer
 from ruzgalt.checking import refusals
 from ruzgalt.errors import Misfit
-from ruzgalt.frames import ask, checks, diaries, kinds, points, running, script
+from ruzgalt.frames import checks, diaries, kinds, points, running, script
 from ruzgalt.frames.arrays import NO_INTS, Cells
 from ruzgalt.frames.book import LOG, Book, counts_of
-from ruzgalt.frames.errors import Refused, Stopped, doubt
+from ruzgalt.frames.errors import Refused, doubt
 from ruzgalt.frames.named import same
 from ruzgalt.frames.options import OF_TABLE, options_of
 from ruzgalt.frames.output import unreadable
-from ruzgalt.frames.script import Command, Script
+from ruzgalt.frames.script import Command, Commands, Script
 from ruzgalt.frames.sides import Side
 from ruzgalt.frames.tables import Table, coded, listed, refuse_stand_ins
 from ruzgalt.frames.values import Texts, Values
@@ -47,7 +47,7 @@ def book_of(given: Given, options: Any, diary: Any, empty: Book) -> Book:
     names = given.names if isinstance(given, Script) else {}
     given_of = {name: {"names": names.get(name, {}), **options.get(name, {})} for name in schemas}
     made = {name: table_of(schema, given_of[name]) for name, schema in schemas.items()}
-    book = filled(Book(empty.workers, made, tuple(kept)))
+    book = filled(replace(empty, tables=made, commands=Commands(kept, len(kept))))
     return book if diary is None else replace(book, diary=diaries.read(book, diary, schemas))
 
 
@@ -142,17 +142,17 @@ def column_of(name: Any, kind: Kind, digits: Any) -> Values:
 def filled(book: Book) -> Book:
     """The book with the rows of its loads, and with what kinds of points its tables have."""
     asked = [script.command("between", name, "0", str(len(book.commands))) for name in book.tables]
-    output = ask.output_of([*book.commands, LOG, *asked], book.workers)
-    if ask.first_refused(output, book.commands):
-        raise Stopped("the program refuses a change that it accepted before")
+    output = book.answers(LOG, *asked)
     counts = counts_of(output)
     made, loads = {}, dict(enumerate(book.commands, 1))
     for name, table in book.tables.items():
         cells = output.block("ippcc" + table.readers)
         made[name] = with_points(table, cells)
         loads.update(loads_of(made[name], cells, loads))
-    commands = tuple(loads.values())
-    return Book(book.workers, made, commands, script.size_of(commands), counts)
+    commands = Commands(list(loads.values()), len(loads))
+    # The same commands, with the rows of loads.
+    book.live.commands = commands
+    return replace(book, tables=made, commands=commands, counts=counts)
 
 
 def with_points(table: Table, cells: Sequence[Cells]) -> Table:

@@ -86,13 +86,16 @@ class Output:
         with reading():
             return data.decode().split(",")
 
-    def block(self, kinds: str) -> List[Cells]:
-        """The columns of a list of records, which its `end` counts; by kinds of READERS, from the second field on."""
+    def block(self, kinds: str, first: int = 0) -> List[Cells]:
+        """The columns of a list of records, which its `end` counts; by kinds of READERS, from the second field on.
+
+        Only records from the first one on are read.
+        """
         is_end = self.data[self.starts[self.place:]] == END
         if not is_end.any():
             raise unreadable("a list has no end")
         count = int(is_end.argmax())
-        steps = range(self.place, self.place + count, RECORDS)
+        steps = range(self.place + first, self.place + count, RECORDS)
         parts = [self.part(begin, min(RECORDS, self.place + count - begin), kinds) for begin in steps]
         self.place += count
         if list(self.record()) != ["end", str(count)]:

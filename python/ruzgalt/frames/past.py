@@ -80,7 +80,7 @@ def changed(asked: Asked, name: str, commits: Tuple[str, str]) -> Any:
     table, (before, after) = asked.book.known(name), commits
     if int(before) > int(after):
         doubt(f"changed of {name}: commit {before} is later than {after}: `-` is what only the later one has")
-    output, _ = asked.book.run(*(script.command("rows", name, "asof", commit) for commit in commits))
+    output = asked.book.answers(*(script.command("rows", name, "asof", commit) for commit in commits))
     blocks = [output.block("-pp" + table.readers) for _ in commits]
     held = [list(rows_of(start, end, cells)) for start, end, *cells in blocks]
     found = sorted(changes.changes(*held), key=changes.order(list(schema_of(table).columns), False))

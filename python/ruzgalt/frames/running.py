@@ -24,8 +24,9 @@ NO_ANSWER, OUT_OF_MEMORY = 3, "out of memory"
 
 
 def refuse_unbuilt(command: str, place: str) -> None:
-    """A clone's ./dipq would build the program first, in silence and for many minutes."""
-    if which.is_of_clone(command) and not which.is_built():
+    """A clone's command would build the program first, in silence and for many minutes."""
+    crate = which.crate_of(command)
+    if crate and not which.is_built(crate):
         why = "the program isn't built from these sources"
         raise Stopped(f"{command}{place}: {why}; `{command} </dev/null` builds it, in many minutes")
 

@@ -2,7 +2,8 @@
 from __future__ import annotations
 
 from dataclasses import dataclass, replace
-from itertools import chain
+from itertools import chain, islice
+from operator import is_
 from typing import Any, Iterable, Iterator, List, Mapping, Optional, Sequence, Union
 
 from ruzgalt.frames import points, printing, values
@@ -59,6 +60,40 @@ class Command:
         return self.fields[0]
 
 
+class Commands:
+    """Commands one after another. They share a list with longer ones that begin with them, and are never changed."""
+
+    def __init__(self, whole: List[Command], count: int) -> None:
+        self.whole, self.count = whole, count
+
+    def __len__(self) -> int:
+        return self.count
+
+    def __iter__(self) -> Iterator[Command]:
+        return islice(self.whole, self.count)
+
+    def __getitem__(self, place: int) -> Command:
+        return self.whole[place if place >= 0 else self.count + place]
+
+    def followed_by(self, more: Sequence[Command]) -> Commands:
+        whole, end = self.whole, self.count + len(more)
+        there = whole[self.count:end]
+        if len(there) < len(more) or not all(map(is_, more, there)):
+            whole = whole[:self.count] if there else whole
+            whole.extend(more)
+        return Commands(whole, end)
+
+    def first(self, count: int) -> Commands:
+        return Commands(self.whole, count)
+
+    def after(self, count: int) -> List[Command]:
+        return self.whole[count:self.count]
+
+    def begin(self, other: Commands) -> bool:
+        """Whether the other ones begin with these. A command is made for one place, so the last of these shows it."""
+        return len(self) <= len(other) and (not len(self) or self[-1] is other[len(self) - 1])
+
+
 def record(fields: Sequence[str]) -> bytes:
     return records.encode(records.to_record(fields) + "\n")
 
@@ -81,11 +116,6 @@ def sent(table: str, side: Side) -> Command:
     """A load that is sent once, and made meanwhile."""
     fields = ("load", table)
     return Command(fields, chain([record(fields)], rows_of(side), [b"end\n"]))
-
-
-def size_of(commands: Iterable[Command]) -> int:
-    """So many bytes commands have that are kept."""
-    return sum(len(piece) for command in commands for piece in command.pieces)
 
 
 def make(table: str, names: Sequence[str], columns: Sequence[Values], key: Sequence[str] = ()) -> Command:

@@ -1,8 +1,7 @@
 """A store: tables with a past, from frames and in frames.
 
-The program keeps nothing, so what is kept is the script, and each question runs all of it. A change is tried as it is
-asked for: a single one on the rows that its table has, without a run, and the program says at the next question whether
-it did just that. Whatever it may refuse is tried by a run, as are the changes of `with store.batch():`, at its end.
+A program holds it and does each change. The script is kept too: for files, and for another program, which takes the
+place of one that was killed, or did changes of a batch before one that was refused.
 """
 from __future__ import annotations
 
@@ -20,6 +19,7 @@ from ruzgalt.frames.book import Book, accepted
 from ruzgalt.frames.changes import Change, Changed
 from ruzgalt.frames.diaries import NO_NOTE, Note, note_of
 from ruzgalt.frames.errors import Refused, doubt
+from ruzgalt.frames.live import Live
 from ruzgalt.frames.opening import Given
 from ruzgalt.frames.options import (
     NO_DECIMALS, NO_STAND_INS, PERIOD, WORKERS, Names, PeriodNames, options_of, workers_of,
@@ -76,7 +76,7 @@ class Store(Asking, Raising, Written):
     def __init__(self, *script: Any, workers: int = WORKERS, progress: Optional[bool] = None) -> None:
         if script:
             raise checks.wrong("script", script[0], "a store begins empty; Store.from_script(..) opens a script")
-        self.book = Book(workers_of("workers", workers), progress=options_of(progress=progress).progress)
+        self.book = Book(live=Live(workers_of("workers", workers)), progress=options_of(progress=progress).progress)
         self.lock = RLock()
         self.draft: Optional[Draft] = None
 
@@ -125,8 +125,7 @@ class Store(Asking, Raising, Written):
         """
         store = cls(workers=workers, progress=progress)
         with OfCall("Store", store.book.progress):
-            book = opening.book_of(script, {} if options is None else options, diary, store.book)
-        store.book = replace(book, progress=store.book.progress)
+            store.book = opening.book_of(script, {} if options is None else options, diary, store.book)
         return store
 
     def __repr__(self) -> str:
@@ -138,7 +137,8 @@ class Store(Asking, Raising, Written):
         return copy.copy(self)
 
     def __getstate__(self) -> Dict[str, Any]:
-        return {"book": replace(self.settled(), rows={})}
+        book = self.settled()
+        return {"book": replace(book, live=Live(book.workers))}
 
     def __setstate__(self, state: Mapping[str, Any]) -> None:
         self.book, self.lock, self.draft = state["book"], RLock(), None

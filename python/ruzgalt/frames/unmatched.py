@@ -46,8 +46,8 @@ def join(asked: Asked, tables: Tables, on: Any) -> Any:
 
 
 def rows_of(asked: Asked, tables: Tables, names: Sequence[Sequence[Any]]) -> Iterator[Rows]:
-    """The rows of both tables, by one run."""
-    output, _ = asked.book.run(*(script.command("rows", table.name, *asked.suffix) for table in tables))
+    """The rows of both tables."""
+    output = asked.book.answers(*(script.command("rows", table.name, *asked.suffix) for table in tables))
     for table, own in zip(tables, names):
         ids, start, end, *cells = output.block("ipp" + table.readers)
         frame = answer.frame_of(*zip(*table.cells(iter(cells)))) if cells else pd.DataFrame(index=range(len(ids)))

@@ -9,14 +9,14 @@ import pandas as pd
 from ruzgalt.checking import doubts, marks
 from ruzgalt.frames.arrays import Ints
 from ruzgalt.frames.changes import Change
-from ruzgalt.frames.script import Command
+from ruzgalt.frames.script import Command, Commands
 from ruzgalt.frames.sides import Side
 from ruzgalt.frames.tables import Table
 from ruzgalt.script import fields
 from ruzgalt.script.records import visible
 
 
-def texts_of(commands: Sequence[Command], table: Table, name: Any) -> List[str]:
+def texts_of(commands: Commands, table: Table, name: Any) -> List[str]:
     """The texts that a column of a table has, or had before a change."""
     found: Dict[str, None] = {}
     word = table.word(name)
@@ -29,7 +29,7 @@ def texts_of(commands: Sequence[Command], table: Table, name: Any) -> List[str]:
     return list(found)
 
 
-def doubts_of(change: Change, table: Table, before: Sequence[Command], counts: Ints) -> Iterator[str]:
+def doubts_of(change: Change, table: Table, before: Commands, counts: Ints) -> Iterator[str]:
     """Of a change of a table, and the commands before it; counts are how many versions these and its own commands
     added and closed, a row for each."""
     touched = counts[len(before):, 1].tolist()
@@ -45,7 +45,7 @@ def doubts_of(change: Change, table: Table, before: Sequence[Command], counts: I
         yield from of_end(change, table, touched[-1])
 
 
-def open_rows(name: str, before: Sequence[Command], counts: Ints) -> int:
+def open_rows(name: str, before: Commands, counts: Ints) -> int:
     """How many rows a table has after some commits."""
     of_table = [place for place, one in enumerate(before) if one.fields[1] == name]
     added, closed = counts[of_table].sum(axis=0).tolist()

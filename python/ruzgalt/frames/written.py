@@ -162,7 +162,7 @@ class Written:
         ...     store.page(f"{folder}/pay.html", ["agg,pay,sum,cents"])
         """
         asked, book = checks.texts("questions", questions), self.settled()
-        book.run()
+        book.answers()
         for question in asked:
             answered(book, question)
         given = {"title": title, "note": note, **({} if diary is None else {"diary": diary})}

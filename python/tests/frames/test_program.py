@@ -1,4 +1,5 @@
 """The program's run: that it ends with its caller and not before, and what is said where it ends badly."""
+import copy
 import os
 import signal
 import subprocess
@@ -126,16 +127,18 @@ class Program(unittest.TestCase):
     def test_a_program_that_answers_nothing_is_reported(self):
         store, whole = ruzgalt.Store(), ruzgalt.Store()
         whole.table("t", FRAME)
+        script = whole.script()
         calls = [
-            store.log, lambda: store.table("t", FRAME), whole.log, lambda: whole.rows("t"), lambda: whole.dip("t"),
-            lambda: whole.load("t", FRAME), lambda: whole.picture("rows,t"), lambda: whole.history("t"),
-            lambda: ruzgalt.Store.from_script(whole.script()), lambda: ruzgalt.agg(FRAME, "count"),
+            store.log, lambda: store.table("t", FRAME), lambda: copy.copy(whole).log(), lambda: whole.picture("rows,t"),
+            lambda: ruzgalt.Store.from_script(script), lambda: ruzgalt.agg(FRAME, "count"),
             lambda: ruzgalt.join(FRAME, FRAME, on="k"), lambda: ruzgalt.anti(FRAME, FRAME, on="k"),
-            lambda: whole.page(self.folder / "t.html", ["rows,t"]), lambda: whole.page(self.folder / "t.html"),
+            lambda: whole.page(self.folder / "t.html", ["rows,t"]),
+            lambda: copy.copy(whole).page(self.folder / "t.html"),
         ]
         for program in ("/bin/true", "/bin/echo", "/bin/false"):
+            named = mock.patch.dict(os.environ, DIPQ=program, DIPQ_LIVE=program)
             for place, call in enumerate(calls):
-                with self.subTest(program=program, call=place), mock.patch.dict(os.environ, DIPQ=program):
+                with self.subTest(program=program, call=place), named:
                     with self.assertRaises(ruzgalt.Stopped) as caught:
                         call()
                     self.assertIn("DIPQ names a dipq", str(caught.exception))

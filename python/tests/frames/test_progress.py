@@ -14,11 +14,11 @@ import pandas as pd
 
 import ruzgalt
 from ruzgalt.commands.progress import Progress
-from ruzgalt.frames import progress, running
+from ruzgalt.frames import live, progress, running
 
 DAYS = pd.date_range("2024-01-02", periods=40)
 FRAME = pd.DataFrame({"from": DAYS, "to": DAYS + pd.Timedelta(days=9), "k": list("abcd") * 10, "x": range(40)})
-RUN = running.run
+RUN, EXCHANGE = running.run, live.Live.exchange
 
 
 class Watched(unittest.TestCase):
@@ -41,13 +41,16 @@ class Watched(unittest.TestCase):
     @contextlib.contextmanager
     def slow(self, is_shown=True):
         """Runs of the program that take until a line is shown, or some time where none is to be."""
-        def run(*given):
-            begun = time.monotonic()
-            while time.monotonic() < begun + (20 if is_shown else 0.05) and not (is_shown and self.said.getvalue()):
-                time.sleep(0.001)
-            return RUN(*given)
+        def slowed(function):
+            def run(*given):
+                begun = time.monotonic()
+                while time.monotonic() < begun + (20 if is_shown else 0.05) and not (is_shown and self.said.getvalue()):
+                    time.sleep(0.001)
+                return function(*given)
+            return run
 
-        with mock.patch.object(running, "run", run):
+        patched = mock.patch.object(live.Live, "exchange", slowed(EXCHANGE))
+        with mock.patch.object(running, "run", slowed(RUN)), patched:
             yield
 
     def forget(self):

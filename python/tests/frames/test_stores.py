@@ -439,12 +439,12 @@ class Changes(Case):
 
     def test_an_overlap_by_an_update_names_both_rows(self):
         made = store(frame(n=[1, 2]), key=["k"])
-        words = ("k 'a'", "id 1 from 2024-01-01 to 2024-02-01", "id 2, as it would be updated, from 2024-01-10 to "
-                 "2024-02-02", "hold at 2024-01-10")
+        words = ("k 'a'", "id 1 from 2024-01-01 to 2024-02-01", "the updated row from 2024-01-10 to 2024-02-02",
+                 "hold at 2024-01-10")
         self.refuses(lambda: made.update("t", "2024-01-10", None, {"k": "a"}, {"n": 2}), "KeyOverlap", *words)
         rows = frame(k=["c", "c"], n=[1, 2])
         said = self.refuses(lambda: made.update_rows("t", rows, ["n"]), "KeyOverlap", "k 'c'", "id 3 from 2024-01-01",
-                            "id 2, as it would be updated, from 2024-01-02 to 2024-02-02")
+                            "the updated row from 2024-01-02 to 2024-02-02")
         self.assertEqual(said.label, "y")
 
     def test_an_overlap_by_a_load_names_both_rows(self):

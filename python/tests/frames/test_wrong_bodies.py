@@ -8,7 +8,7 @@ import pandas as pd
 
 import test_random_frames
 import test_random_stores
-from ruzgalt.frames import classes, instants, kinds, output, points, split, standing, values
+from ruzgalt.frames import classes, instants, kinds, output, points, split, values
 from ruzgalt.script import naming
 
 # So many seeds are tried until a wrong body is noticed.
@@ -81,8 +81,6 @@ WRONG = [
     ("each row in a class of its own", classes, "together", apart, FRAMES),
     ("texts numbered side by side", classes, "numbered", by_side, FRAMES),
     ("the first of several columns alone", classes, "crossed", first_alone, FRAMES),
-    ("rows that an update leaves as they are", standing.Standing, "with_values", lambda rows, *_: rows, STORES),
-    ("keys that aren't looked at", standing.Standing, "meet", lambda *_: False, STORES),
     ("quotes that stay", output, "READERS", {**output.READERS, "t": quoted}, STORES),
     ("names of tables that stay", naming, "apart", list, STORES),
     ("ends of changes as they are given", instants, "portion", unmoved, STORES),
