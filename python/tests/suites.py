@@ -15,7 +15,6 @@ from ruzgalt import which
 
 HERE = Path(__file__).resolve().parent
 TOP = HERE.parents[1]
-PROGRAM = TOP / "crates" / "dipq" / "out" / "dipq"
 # The tests of frames that need neither pandas nor a program.
 ALONE = "test_without_pandas"
 # Random frames bring warnings of possible mistakes too.
