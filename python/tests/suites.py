@@ -18,7 +18,7 @@ TOP = HERE.parents[1]
 # The tests of frames that need neither pandas nor a program.
 ALONE = "test_without_pandas"
 # Random frames bring warnings of possible mistakes too.
-RANDOM = "test_random_|test_split|test_hostile|test_rows|test_classes|test_slices|test_standing"
+RANDOM = "test_random_|test_split|test_hostile|test_rows|test_classes|test_slices"
 
 
 class LeftOut(unittest.TestCase):

@@ -12,9 +12,8 @@ from ruzgalt.script.language import COMMANDS, Answered, Form, Role
 from tests.support import TOP
 
 HOLDING = Form("holding,T,POINT[,asof,N]", Answered.ROWS, behind=(Role.POINT,))
-# Modules that apply a change, answer a query, or compare the rows of a key, without the program. Stores still have two:
-# frames/standing.py and frames/keys.py.
-DECIDING = ("checking/again.py", "checking/fitting.py", "checking/replay.py")
+# Modules that applied a change, answered a query, or compared the rows of a key, without the program.
+DECIDING = ("checking/again.py", "checking/fitting.py", "checking/replay.py", "frames/standing.py")
 SCRIPT = b"""table,t,k,text
 load,t
 row,2024-01-01,2024-02-01,a
