@@ -1,5 +1,5 @@
 -- The statements that are complete in the first bytes of a script.
-use Rattle.std.proofs.Common.{◌≡◌, ◌⊎◌, ℕ, ◌+◌, ◌<◌, ◌≤◌, List, [], ◌∷◌, ◌++◌, length, take, refl, sym, ap, ◌∙◌, subst, inl, inr, append_assoc, append-nil, arith}
+use Rattle.std.proofs.Common.{◌≡◌, ◌⊎◌, ℕ, ◌<◌, ◌≤◌, List, [], ◌∷◌, ◌++◌, length, take, refl, sym, ap, ◌∙◌, subst, inl, inr, append_assoc, arith}
 use Rattle.std.proofs.Math.Seq.{take-append_seam}
 use Rattle.std.proofs.lemmas.List.{length-append, nil_from_length}
 use Rattle.book_core.specs.History.{History, IsLegal}
@@ -12,7 +12,7 @@ use Rattle.script_core.proofs.OutputUniqueness.{one_step, takes_one}
 use Rattle.live_core.specs.Portions.{AreDone, with_more}
 use Rattle.live_core.specs.Scanning.{Reading, block_after, nothing_read, read_bytes, state_of}
 use Rattle.live_core.specs.Texts.{AreFrom, AreLines, IsMarkFront, IsRest, IsScanned}
-use Rattle.live_core.specs.Whole.{AreWhole, BeginWith, IsUnended}
+use Rattle.live_core.specs.Whole.{AreWhole, IsUnended}
 use Rattle.live_core.specs.declared.blocks.Block.TheVariants as block
 use Rattle.live_core.specs.declared.steps.Spot.{Spot}
 use Rattle.live_core.specs.declared.steps.Spot.TheVariants as spot

@@ -1,15 +1,14 @@
 -- What is fed, and what of it is left.
-use Rattle.std.proofs.Common.{◌≡◌, ◌≢◌, ◌⊎◌, ℕ, ◌+◌, ◌-◌, ◌<◌, ◌≤◌, List, [], ◌∷◌, ◌++◌, drop, length, take, refl, sym, ap, ◌∙◌, subst, inl, inr, append_assoc, append-nil, arith}
+use Rattle.std.proofs.Common.{◌≡◌, ◌≢◌, ◌⊎◌, ℕ, ◌+◌, ◌-◌, List, [], ◌∷◌, ◌++◌, drop, length, take, refl, sym, ap, ◌∙◌, subst, inl, inr, append_assoc, append-nil, arith}
 use Rattle.std.proofs.Math.Seq.{drop-append_seam, take-append_seam}
 use Rattle.std.proofs.lemmas.List.{length-append}
 use Rattle.csv.specs.Machine.{next_record}
-use Rattle.csv.specs.Reading.{default_config, strip_bom}
+use Rattle.csv.specs.Reading.{strip_bom}
 use Rattle.csv.specs.declared.parser.State.TheVariants as st
 use Rattle.command_core.specs.Records.{AreScriptRecords, Record}
 use Rattle.command_core.proofs.RecordsUniqueness.{one_records}
-use Rattle.live_core.specs.Scanning.{Knows, Reading, block_after}
+use Rattle.live_core.specs.Scanning.{Knows, Reading}
 use Rattle.live_core.specs.Texts.{AreLines, IsBegun, IsLineEnd, IsRest, IsScanned}
-use Rattle.live_core.specs.declared.blocks.Block.TheVariants as block
 use Rattle.live_core.specs.declared.scan.Scan.{Scan}
 use Rattle.live_core.proofs.LineLemmas.{from-records, from-same}
 use Rattle.live_core.proofs.TextLemmas.{lead-all, lead-front}

@@ -1,5 +1,5 @@
 -- What is known behind each portion.
-use Rattle.std.proofs.Common.{◌≡◌, ◌≢◌, ◌⊎◌, ℕ, suc, ◌+◌, ◌-◌, ◌*◌, ◌<◌, ◌≤◌, Bool, true, false, List, [], ◌∷◌, ◌++◌, drop, length, take, refl, sym, ap, ◌∙◌, subst, inl, inr, append_assoc, append-nil, arith}
+use Rattle.std.proofs.Common.{◌≡◌, ℕ, ◌+◌, ◌-◌, ◌*◌, ◌<◌, ◌≤◌, Bool, true, false, List, [], ◌∷◌, ◌++◌, drop, length, take, refl, sym, ap, ◌∙◌, subst, inl, inr, append_assoc, append-nil, arith}
 use Rattle.std.specs.Io.KnownBytes.{Keeps}
 use Rattle.std.specs.Prelude.{sum_by}
 use Rattle.std.proofs.KnownBytes.{Appends-kept, Appends-nil}
@@ -15,13 +15,13 @@ use Rattle.stream_core.specs.Faults.{script_limit}
 use Rattle.stream_core.specs.declared.fault.RunFault.{RunFault}
 use Rattle.stream_core.specs.declared.fault.RunFault.TheVariants.{NoMemory, TooLong}
 use Rattle.script_core.specs.Ledgers.{ledger_history}
-use Rattle.script_core.specs.Script.{AreStatementsOf, Done, Place, Steps, Tells, output_of, start_of}
+use Rattle.script_core.specs.Script.{AreStatementsOf, Done, Steps, Tells, output_of, start_of}
 use Rattle.script_core.specs.Writing.{AreRest}
 use Rattle.script_core.specs.declared.outcome.Outcome.{Outcome}
 use Rattle.script_core.proofs.Calls.{ledger-legal}
 use Rattle.script_core.proofs.OutputExistence.{rest_done}
-use Rattle.live_core.specs.Portions.{AnswersMore, AnswersRest, AreDone, ExplainsMore, ExplainsRest, ExplainsStop, HasScanned, with_more}
-use Rattle.live_core.specs.Scanning.{IsCutAt, Knows, Reading, block_after, nothing_read, read_bytes, state_of}
+use Rattle.live_core.specs.Portions.{AnswersMore, AnswersRest, AreDone, ExplainsMore, ExplainsRest, HasScanned}
+use Rattle.live_core.specs.Scanning.{IsCutAt, Knows, Reading, nothing_read, read_bytes}
 use Rattle.live_core.specs.Standing.{Fed, FedTo, HasAnswered, HasPassed, IsFit, StopsAnswering, place_of}
 use Rattle.live_core.specs.Texts.{IsBegun, IsLead, IsMarkFront, IsReading, IsRest, IsScanned, IsScannedTo, IsWaiting}
 use Rattle.live_core.specs.declared.live.Live.{Live}

@@ -1,11 +1,11 @@
 -- What a scan knows of the bytes that were read.
-use Rattle.std.proofs.Common.{◌≡◌, ℕ, suc, ◌+◌, ◌<◌, ◌≤◌, Bool, true, false, cond, List, [], ◌∷◌, ◌++◌, get_or, length, take, refl, sym, ap, ◌∙◌, subst, arith}
+use Rattle.std.proofs.Common.{◌≡◌, ℕ, suc, ◌+◌, ◌<◌, Bool, true, false, cond, List, [], ◌∷◌, ◌++◌, get_or, length, take, refl, sym, ap, ◌∙◌, subst, arith}
 use Rattle.std.proofs.Math.Seq.{take-suc}
 use Rattle.std.proofs.lemmas.List.{length-append}
 use Rattle.csv.specs.Machine.{is_end, step}
 use Rattle.csv.specs.Reading.{default_config}
 use Rattle.command_core.specs.Records.{Record}
-use Rattle.live_core.specs.Scanning.{IsCutAt, Knows, Reading, block_after, by_action, closes, closing, ends_statement, folded, inside, is_outside, line_at_hand, next_block, read_byte, read_bytes, state_of}
+use Rattle.live_core.specs.Scanning.{IsCutAt, Knows, Reading, block_after, closes, closing, ends_statement, folded, is_outside, line_at_hand, next_block, read_byte, read_bytes, state_of}
 use Rattle.live_core.specs.declared.blocks.Block.{Block}
 use Rattle.live_core.specs.declared.blocks.Block.TheVariants as block
 use Rattle.live_core.specs.declared.scan.Scan.{Scan}

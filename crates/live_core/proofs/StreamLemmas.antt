@@ -1,23 +1,23 @@
 -- What is written of a script while it is read.
-use Rattle.std.proofs.Common.{◌≡◌, ◌⊎◌, ℕ, ◌+◌, ◌≤◌, ◌<◌, suc, List, [], ◌∷◌, ◌++◌, Option, None, Some, Result, drop, length, take, refl, sym, ap, ◌∙◌, subst, inl, inr, append_assoc, append-nil, arith}
+use Rattle.std.proofs.Common.{◌≡◌, ℕ, ◌+◌, ◌≤◌, ◌<◌, suc, List, [], ◌∷◌, ◌++◌, Option, None, Some, Result, drop, length, take, refl, sym, ap, ◌∙◌, subst, inl, inr, append_assoc, append-nil, arith}
 use Rattle.std.specs.Prelude.{IfErr, IfOk}
-use Rattle.std.specs.Io.KnownBytes.{Appends, Consumes, IsAtEnd, Keeps}
-use Rattle.std.proofs.KnownBytes.{Appends-kept, Appends-nil, Appends-trans, Consumes-nil, Consumes-trans, Consumes-whole, Keeps-refl}
+use Rattle.std.specs.Io.KnownBytes.{Appends, Consumes, IsAtEnd}
+use Rattle.std.proofs.KnownBytes.{Appends-nil, Appends-trans, Consumes-nil, Consumes-trans, Consumes-whole, Keeps-refl}
 use Rattle.std.proofs.Math.Seq.{take-append_seam}
 use Rattle.std.proofs.lemmas.List.{take-append-drop}
 use Rattle.std.proofs.lemmas.List.Concat.{flat_map-append}
 use Rattle.std.proofs.lemmas.Result.{IfErr-weaker, IfOk-weaker}
 use Rattle.answer_core.specs.RecordBytes.{bytes_of}
 use Rattle.stream_core.specs.Counted.{Sink, Source}
-use Rattle.stream_core.specs.FailureCount.{HasGrown, greatest_count}
+use Rattle.stream_core.specs.FailureCount.{greatest_count}
 use Rattle.stream_core.specs.Faults.{ExplainsReadingOn, HasReadOn}
 use Rattle.stream_core.specs.declared.fault.RunFault.{RunFault}
 use Rattle.stream_core.specs.declared.fault.RunFault.TheVariants.{ReadFault, TooLong, NoMemory, WriteFault}
-use Rattle.script_core.specs.Script.{AppendsFront, AreStatementsOf, Done, IsOutput, Streams, WritesAll, WritesWithin, output_of}
+use Rattle.script_core.specs.Script.{AppendsFront, AreStatementsOf, Done, IsOutput, Streams, WritesWithin, output_of}
 use Rattle.script_core.specs.declared.outcome.Outcome.{Outcome}
 use Rattle.script_core.proofs.OutputUniqueness.{one_list_of_dones}
 use Rattle.live_core.specs.Portions.{AnswersMore, AnswersRest, AreDone, ExplainsMore, ExplainsRest, ExplainsStop}
-use Rattle.live_core.specs.Runs.{ExplainsRun, HasFirst, ReadsAll, ReadsSome, RunsAll, WritesUpTo}
+use Rattle.live_core.specs.Runs.{ExplainsRun, ReadsAll, ReadsSome, RunsAll, WritesUpTo}
 use Rattle.live_core.specs.Standing.{Fed}
 use Rattle.live_core.specs.declared.live.Live.{Live}
 use Rattle.live_core.proofs.DoneLemmas.{first_done, mark-done}

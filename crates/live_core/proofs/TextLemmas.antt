@@ -4,12 +4,10 @@ use Rattle.std.specs.List.{starts_with}
 use Rattle.std.proofs.lemmas.Bool.{cases_Bool, eqb-true}
 use Rattle.csv.specs.Machine.{field_after, fields_after, is_end, next_record, step}
 use Rattle.csv.specs.Reading.{default_config, is_bom, strip_bom}
-use Rattle.csv.specs.declared.parser.State.{State}
 use Rattle.csv.specs.declared.parser.State.TheVariants as st
 use Rattle.command_core.specs.Records.{AreScriptRecords, Record}
-use Rattle.command_core.proofs.FrontLemmas.{unmarked-more}
-use Rattle.live_core.specs.Scanning.{Reading, block_after, by_action, closes, closing, folded, inside, is_outside, line_at_hand, next_block, nothing_read, read_byte, read_bytes}
-use Rattle.live_core.specs.Texts.{AreFrom, AreLines, IsCutOff, IsLead, IsLineEnd, IsMarkFront, IsRead, IsScanned, Opens, mark}
+use Rattle.live_core.specs.Scanning.{Reading, block_after, by_action, closes, closing, folded, inside, line_at_hand, next_block, nothing_read, read_byte, read_bytes}
+use Rattle.live_core.specs.Texts.{AreFrom, AreLines, IsLead, IsLineEnd, IsMarkFront, IsRead, IsScanned, Opens, mark}
 use Rattle.live_core.specs.declared.blocks.Block.TheVariants as block
 use Rattle.live_core.proofs.BlockLemmas.{opens-more}
 use Rattle.live_core.proofs.LineLemmas.{HasSpot, from-same, next-end, next-folded, next-inside, spot-step, step-ends, to-records}

@@ -1,4 +1,4 @@
-use Rattle.std.proofs.Common.{[], arith, refl, ◌++◌}
+use Rattle.std.proofs.Common.{arith, refl, ◌++◌}
 use Rattle.std.proofs.lemmas.Result.{IfErr-weaker, IfOk-weaker, err_from_is_err_and}
 use Rattle.script_core.specs.Script.{streams_of}
 use Rattle.stream_core.specs.Counted.{inner_of}

@@ -1,4 +1,4 @@
-use Rattle.std.proofs.Common.{[], append-nil, arith, subst, sym, ◌++◌, ◌<◌}
+use Rattle.std.proofs.Common.{[], append-nil, arith, subst, sym, ◌++◌}
 use Rattle.std.proofs.KnownBytes.{Keeps-refl}
 use Rattle.std.proofs.lemmas.Result.{IfErr-weaker, IfOk-weaker, err_from_is_err_and}
 use Rattle.stream_core.specs.Counted.{inner_of, sink_of}

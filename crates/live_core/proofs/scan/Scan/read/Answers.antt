@@ -1,9 +1,7 @@
 use Rattle.std.proofs.Common.{◌≡◌, sym, ap, ◌∙◌, subst, true}
 use Rattle.csv.specs.Machine.{is_end, step}
 use Rattle.csv.specs.Reading.{default_config}
-use Rattle.csv.specs.declared.parser.State.{State}
-use Rattle.live_core.specs.Scanning.{Knows, Reading, ends_statement, read_byte, folded, action_of, state_of, block_after, line_at_hand, next_block}
-use Rattle.live_core.specs.declared.blocks.Block.TheVariants as block
+use Rattle.live_core.specs.Scanning.{folded, state_of, line_at_hand, next_block}
 use Rattle.live_core.proofs.ScanLemmas.{knows-end}
 use Rattle.live_core.proofs.scan.Scan.read.Goals as goal
 

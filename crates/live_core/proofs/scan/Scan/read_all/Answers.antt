@@ -1,6 +1,6 @@
-use Rattle.std.proofs.Common.{◌≡◌, List, ap, arith, cond, get_or, length, subst, sym, take, take_all, true, ◌+◌, ◌∙◌, ℕ}
+use Rattle.std.proofs.Common.{◌≡◌, List, ap, arith, cond, subst, sym, take, take_all, ◌+◌, ◌∙◌, ℕ}
 use Rattle.live_core.specs.Scanning.{IsCutAt, Knows, Reading, read_bytes}
-use Rattle.live_core.proofs.ScanLemmas.{IsReadTo, read-none, read-on}
+use Rattle.live_core.proofs.ScanLemmas.{read-none, read-on}
 use Rattle.live_core.proofs.scan.Scan.read_all.Goals.{else-branch, then-branch}
 use Rattle.live_core.proofs.scan.Scan.read_all.Goals as goal
 
