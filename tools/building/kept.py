@@ -128,7 +128,7 @@ def given_by(rt: Any, copy: Path) -> Dict[str, Path]:
     for crate in listed:
         if not all(library.name in given for library in crate.below()):
             continue
-        if not crate.is_program and kept.give(crate, False, kept.key(crate)):
+        if crate.makes_rlib() and kept.give(crate, False, kept.key(crate)):
             kept.is_built(crate)
             given[crate.name] = Path(crate.rlib)
     return given

@@ -76,6 +76,15 @@ class Toolchain:
         words = [self.program("rattle"), "build", *of_crate, "--jobs", str(jobs), "-o", str(to)]
         return [*words, "--toolchain", f"{self.folder}/toolchain", "--backend", "rattle"]
 
+    def build_archive(self, of_crate: Words, jobs: int, to: Path) -> Words:
+        """Proves a library, and has LLVM make a static library for C of it."""
+        words = [self.program("rattle"), "build", *of_crate, "--crate-type", "staticlib", "--jobs", str(jobs)]
+        return [*words, "-o", str(to), "--toolchain", f"{self.folder}/toolchain"]
+
+    def add_c_part(self, archive: Path) -> Words:
+        """Adds C's part of Rattle's library to a static library, which then needs only the system's C library."""
+        return [f"{self.folder}/toolchain/bin/llvm-ar", "qcsL", str(archive), f"{self.folder}/c/liblibc_c.a"]
+
     def link(self, made: Path, to: Path) -> Words:
         """Makes a program of an object file."""
         words = [self.program("rattle-link"), "--target", "x86_64-unknown-linux-gnu"]
