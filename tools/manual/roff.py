@@ -78,11 +78,13 @@ def bullet(text: str) -> List[str]:
 
 
 def markdown(text: str) -> Iterator[str]:
-    """Paragraphs, bullets, tables and blocks of code, fenced or indented."""
+    """Paragraphs, bullets, tables and blocks of code, fenced or indented. Pictures are left out."""
     fenced = re.compile(r"^```.*\n((?:.*\n)*?)```$", re.M)
     text = fenced.sub(lambda it: re.sub(r"^(?=.)", "    ", it[1], flags=re.M), text)
     for block in re.split(r"\n\s*\n", text.strip("\n")):
         lines = block.split("\n")
+        if block.startswith("!["):
+            continue
         if block.startswith("    "):
             yield from verbatim([it[4:] for it in lines])
         elif len(lines) > 1 and re.fullmatch(r"[-|: ]*---[-|: ]*", lines[1]):

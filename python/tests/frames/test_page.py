@@ -1,4 +1,4 @@
-"""docs/FRAMES.md: each block of Python runs and prints what the next block says, and each row of a table is tried."""
+"""docs/FRAMES.md and README.md: each block of Python prints what the next block says; rows of the tables are tried."""
 import contextlib
 import datetime
 import decimal
@@ -14,7 +14,8 @@ import pandas as pd
 
 import ruzgalt
 
-PAGE = Path(__file__).resolve().parents[3] / "docs" / "FRAMES.md"
+TOP = Path(__file__).resolve().parents[3]
+PAGE = TOP / "docs" / "FRAMES.md"
 FIRST, LAST = datetime.date(2024, 1, 1), datetime.date(9999, 12, 31)
 # A diary that ends.
 DIARY = b"table,d,newest,int\nload,d\nrow,2024-01-01,2024-02-01,1\nend\n"
@@ -158,20 +159,26 @@ class Page(unittest.TestCase):
         })
 
     def test_blocks_print_what_the_page_says(self):
-        blocks = re.findall(r"^```(python)?\n(.*?)^```$", PAGE.read_text(encoding="utf-8"), re.MULTILINE | re.DOTALL)
-        names, found = {}, ""
-        self.assertGreater(len(blocks), 4)
+        self.assertGreater(self.blocks(PAGE), 2)
+        self.assertEqual(self.blocks(TOP / "README.md"), 1)
+
+    def blocks(self, page):
+        """Runs the page's blocks of Python, and compares. Returns how many there are."""
+        blocks = re.findall(r"^```(\w*)\n(.*?)^```$", page.read_text(encoding="utf-8"), re.MULTILINE | re.DOTALL)
+        names, found, count = {}, None, 0
         for kind, text in blocks:
-            if not kind:
+            if kind != "python":
                 self.assertIn(found, (text, None))
-                continue
-            if "dask" in text and not importlib.util.find_spec("dask"):
                 found = None
+                continue
+            count += 1
+            if "dask" in text and not importlib.util.find_spec("dask"):
                 continue
             printed = io.StringIO()
             with contextlib.redirect_stdout(printed):
-                exec(compile(text, str(PAGE), "exec"), names)
+                exec(compile(text, str(page), "exec"), names)
             found = printed.getvalue()
+        return count
 
 
 if __name__ == "__main__":
