@@ -82,7 +82,7 @@ uninstall:
 package: all
 	tools/make-package
 
-wheel: all
+wheel: all library
 	tools/make-wheel
 
 library:

@@ -1,4 +1,4 @@
-"""Puts the built programs into the package's wheel, and says on which machines they run; see pyproject.toml."""
+"""Puts the programs and the library into the wheel, and says on which machines they run; see pyproject.toml."""
 import atexit
 import re
 import shutil
@@ -21,6 +21,8 @@ TOP = Path(__file__).resolve().parent
 # The programs by their commands.
 CRATES = {"dipq": "dipq", "dipq-live": "dipq_live"}
 PROGRAMS = {name: TOP / "crates" / crate / "out" / crate for name, crate in CRATES.items()}
+LIBRARY = TOP / "out" / "libruzgalt.so"
+BUILT = [*PROGRAMS.values(), LIBRARY]
 sys.path.insert(0, str(TOP / "python"))
 
 from ruzgalt.version import version  # noqa: E402
@@ -34,7 +36,7 @@ class Package(Distribution):
 
 
 class WithProgram(build_py):
-    """The package's files, the programs, the commands that run them, and the version. In place it has a clone's."""
+    """The package's files, the programs, their commands, the library and the version. In place it has a clone's."""
 
     def run(self) -> None:
         if not self.editable_mode:
@@ -45,20 +47,22 @@ class WithProgram(build_py):
             (package / "VERSION").write_text(f"{version()}\n")
             for name, program in PROGRAMS.items():
                 add_program(package, name, program)
+            shutil.copyfile(LIBRARY, package / "bin" / LIBRARY.name)
 
 
 class OfPlatform(bdist_wheel):
-    """A wheel of any Python, for the machines that the programs run on."""
+    """A wheel of any Python, for the machines that the programs and the library run on."""
 
     def get_tag(self) -> Tuple[str, str, str]:
-        return "py3", "none", platform() if all(map(Path.is_file, PROGRAMS.values())) else "any"
+        return "py3", "none", platform() if all(map(Path.is_file, BUILT)) else "any"
 
 
 def refuse_unbuilt() -> None:
-    """Ends if a program isn't built, or is built from other sources than those that are here."""
-    for name, program in PROGRAMS.items():
-        if subprocess.run([TOP / "tools" / "is-built", TOP, program.name], stderr=subprocess.DEVNULL).returncode:
-            sys.exit(f"ruzgalt: a wheel has {name} in it, which isn't built here: `./{name} </dev/null` builds it")
+    """Ends if a program or the library isn't built, or is built from other sources than those that are here."""
+    builds = {crate: (name, f"./{name} </dev/null") for name, crate in CRATES.items()}
+    for crate, (name, build) in {**builds, "libruzgalt": (LIBRARY.name, "make library")}.items():
+        if subprocess.run([TOP / "tools" / "is-built", TOP, crate], stderr=subprocess.DEVNULL).returncode:
+            sys.exit(f"ruzgalt: a wheel has {name} in it, which isn't built here: `{build}` builds it")
 
 
 def add_program(package: Path, name: str, built: Path) -> None:
@@ -74,8 +78,8 @@ def add_program(package: Path, name: str, built: Path) -> None:
 
 
 def platform() -> str:
-    """Machines with this processor, and a C library that has all calls of the programs."""
-    data = b"".join(program.read_bytes() for program in PROGRAMS.values())
+    """Machines with this processor, and a C library that has all calls of the programs and the library."""
+    data = b"".join(map(Path.read_bytes, BUILT))
     major, minor = max((int(major), int(minor)) for major, minor in re.findall(rb"GLIBC_(\d+)\.(\d+)", data))
     return f"manylinux_{major}_{minor}_{machine()}"
 

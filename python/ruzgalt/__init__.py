@@ -1,4 +1,4 @@
-"""Facts that hold for a time: a script of dipq beside its answers, and frames of pandas and Dask.
+"""Facts that hold for a time: a script of dipq with its answers, and frames of pandas and Dask.
 
     import ruzgalt
     ruzgalt.join(pay, rates, on="person")      frames, which need pandas
@@ -7,19 +7,21 @@
     for answer in answers.of("examples/pay.csv", "examples/pay.csv.stdout"):
         print(answer.number, answer.line, answer.command.text, answer.table.names)
 
-Python 3.9 and its library are all that is needed, but for frames. Importing it changes nothing of the process.
-A folder is a subject:
+Frames need pandas, and everything else Python 3.9 and its library. Importing it changes nothing of the process.
+Each folder is about one subject, and its modules import only from folders and modules above it:
 
-    errors, version     the one way in which tools end early; which version this is
-    periods             periods in whole numbers: united, between, by the calendar
-    which               which program answers, for frames too
-    script              a script as text: its records, its commands, the columns of its tables
-    answers             the answers of a script: as tables, CSV, JSON and SQLite, and what changed
-    loading             a CSV file with a header becomes a load
-    checking            why commands were refused, and possible mistakes
-    pictures, page      pictures of answers; all answers as one page for a browser
-    commands            the command lines
-    frames              joins, divisions and stores of frames
+    errors, version     the exception with which tools end early; which version this is
+    which               which program and which library answer
+    kernel              the library over arrays of numpy
+    files, progress     files that are written whole; a line that shows how far a call is
+    periods             pieces of the calendar, and rules of rounding
+    script              a script and its answers: records, commands, tables, refusals, versions and changes
+    lint                possible mistakes
+    load                a CSV file with a header becomes a load
+    report              answers as CSV, JSON, tables of SQLite, pictures and one page for a browser
+    cli                 the command lines
+    frames              joins and divisions of frames
+    store               stores: tables with a past
 """
 from importlib import import_module
 from importlib.util import find_spec
@@ -30,25 +32,29 @@ __all__ = [
     "Store", "Script", "Picture", "Division", "Changed", "Verdict", "Refused", "Stopped", "Doubt",
     "frames", "__version__",
 ]
+OF_STORES = ("Store", "Script", "Picture", "Changed", "Verdict")
 
 if TYPE_CHECKING:
     from ruzgalt import frames
     from ruzgalt.frames import (
-        Changed, Division, Doubt, Picture, Refused, Script, Stopped, Store, Verdict, agg, anti, at, coalesce, dip,
-        during, gaps, join, overlaps, spread,
+        Division, Doubt, Refused, Stopped, agg, anti, at, coalesce, dip, during, gaps, join, overlaps, spread,
     )
+    from ruzgalt.store import Changed, Picture, Script, Store, Verdict
+    from ruzgalt.script import answers  # noqa: F401
 
     __version__: str
 else:
     # Type checkers would take any name for one that is there.
     def __getattr__(name: str) -> Any:
-        """The version, and the calls of frames. These need pandas, which isn't imported before one is asked for."""
+        """Returns the version, the answers of scripts, or a call of frames, which needs pandas and imports it now."""
         if name == "__version__":
             return import_module("ruzgalt.version").version()
+        if name == "answers":
+            return import_module("ruzgalt.script.answers")
         if name not in __all__:
             raise AttributeError(f"module 'ruzgalt' has no attribute {name!r}")
         try:
-            frames = import_module("ruzgalt.frames")
+            frames = import_module("ruzgalt.store" if name in OF_STORES else "ruzgalt.frames")
             return frames if name == "frames" else getattr(frames, name)
         except ModuleNotFoundError as missing:
             if missing.name not in ("numpy", "pandas"):
@@ -57,10 +63,10 @@ else:
 
 
 def __dir__() -> List[str]:
-    """What can be had here: whoever lists names asks for each, and without pandas the calls can't be."""
+    """Returns the names that can be imported: a program that lists names also asks for each."""
     return sorted(__all__) if find_spec("pandas") else ["__version__"]
 
 
 def load_tests(_: Any, found: Any, __: Any) -> Any:
-    """The package has no tests, so unittest needn't import its modules to look for some."""
+    """The package has no tests, so unittest needn't import its modules to find some."""
     return found

@@ -4,14 +4,14 @@ import subprocess
 from datetime import datetime, timezone
 from pathlib import Path
 
-# What is built or installed has its version in this file; a repository has none.
+# A built or installed package has its version in this file; a repository hasn't.
 WRITTEN = Path(__file__).with_name("VERSION")
 TOP = Path(__file__).resolve().parents[2]
 UNKNOWN = "0+unknown"
 
 
 def version() -> str:
-    """The version that is written beside the package, or that of the repository in which it stands."""
+    """Returns the version in the package's file, or the repository's."""
     return WRITTEN.read_text().strip() if WRITTEN.is_file() else of_repository()
 
 
@@ -20,10 +20,12 @@ def of_repository() -> str:
     set_time = os.environ.get("SOURCE_DATE_EPOCH")
     if set_time:
         return of_time(int(set_time))
-    if not (TOP / ".git").exists():
+    # A package in another project's folder isn't of that project's commit.
+    if not ((TOP / ".git").exists() and (TOP / "crates").is_dir()):
         return UNKNOWN
     try:
-        return of_time(int(git("log", "-1", "--format=%ct"))) + ("+changed" if git("status", "--porcelain") else "")
+        is_changed = git("--no-optional-locks", "status", "--porcelain")
+        return of_time(int(git("log", "-1", "--format=%ct"))) + "+changed" * bool(is_changed)
     except (OSError, subprocess.CalledProcessError):
         return UNKNOWN
 

@@ -91,14 +91,14 @@ class Browser:
             self.events.append(self.next())
 
     def value(self, code: str) -> Any:
-        """What a piece of the page's language comes to, waited for."""
+        """Returns the value of an expression in the page, after waiting for it."""
         found = self.ask("Runtime.evaluate", expression=code, returnByValue=True, awaitPromise=True, userGesture=True)
         if "exceptionDetails" in found:
             raise RuntimeError(f"{code}: {found['exceptionDetails']}")
         return found["result"].get("value")
 
     def faults(self) -> List[str]:
-        """What the console reported of errors, and each thing that was asked for beside the page itself."""
+        """Returns the console's errors, and all that the page requested besides itself."""
         wrong = [event for event in self.events if event["method"] in ("Runtime.exceptionThrown", "Log.entryAdded")]
         asked = [event["params"]["request"]["url"] for event in self.events if event["method"] == WILL_ASK]
         return [json.dumps(event["params"]) for event in wrong] + [url for url in asked[1:] if is_asked(url)]

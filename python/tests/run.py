@@ -3,8 +3,8 @@
     PYTHONPATH=python python3 -m tests.run tools
     PYTHONPATH=python python3 -m tests.run frames
 
-There is a process for each processor. The text of tests that fail comes first, then what was left out and why. The last
-line has the counts, as ./check reads them.
+There is a process for each processor. The text of failed tests comes first, then the tests that were left out, with
+reasons. The last line has the counts, as ./check reads them.
 """
 import io
 import multiprocessing
@@ -24,7 +24,7 @@ class Outcome:
 
     count: int
     failed: Set[str]
-    # What was left out, each with its reason.
+    # The tests that were left out, each with its reason.
     skipped: Dict[str, str]
     # What unittest prints of tests that fail.
     text: str
@@ -46,7 +46,7 @@ def run_module(kind: str, module: str) -> Outcome:
 
 
 def outcomes(kind: str) -> Iterator[Outcome]:
-    """The outcomes of a suite's modules, in the order in which they end."""
+    """Yields the outcomes of a suite's modules as they end."""
     modules = suites.modules_of(kind)
     count = min(len(modules), len(os.sched_getaffinity(0)))
     with ProcessPoolExecutor(count, multiprocessing.get_context("spawn")) as pool:

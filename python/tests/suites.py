@@ -1,7 +1,7 @@
 """The suites of tests: of the tools, and of frames. A warning is an error in all. A test that can't run here says why.
 
-Frames need pandas. They and tools/answers need a built program. Variables of the environment say how much is drawn at
-random: tools/check-answers and tools/check-frames set them.
+Frames need pandas and the library. They and tools/answers need a built program. Variables of the environment say how
+much is drawn at random: tools/check-answers and tools/check-frames set them.
 """
 import importlib.util
 import os
@@ -18,11 +18,11 @@ TOP = HERE.parents[1]
 # The tests of frames that need neither pandas nor a program.
 ALONE = "test_without_pandas"
 # Random frames bring warnings of possible mistakes too.
-RANDOM = "test_random_|test_split|test_hostile|test_rows|test_classes|test_slices"
+RANDOM = "test_random_|test_split|test_hostile|test_rows|test_classes|test_slices|test_threads"
 
 
 class LeftOut(unittest.TestCase):
-    """Takes the place of tests that can't run here."""
+    """Replaces tests that can't run here."""
 
     def __init__(self, name: str, reason: str) -> None:
         super().__init__()
@@ -36,7 +36,7 @@ class LeftOut(unittest.TestCase):
 
 
 class OfTools(unittest.TestSuite):
-    """Tests in which each warning is an error."""
+    """Tests that take each warning for an error."""
 
     def run(self, result: unittest.TestResult, debug: bool = False) -> unittest.TestResult:
         with warnings.catch_warnings():
@@ -48,7 +48,7 @@ class OfTools(unittest.TestSuite):
 
 
 class OfFrames(OfTools):
-    """Tests in which a warning is an error if a line of the package causes it: other packages may warn of theirs."""
+    """Tests that take a warning for an error if a line of the package causes it: other packages may warn too."""
 
     def set_filters(self) -> None:
         warnings.filterwarnings("error", module=r"ruzgalt\.")
@@ -77,9 +77,11 @@ def set_environment() -> None:
     os.environ["PYTHONPATH"] = os.pathsep.join(path)
     for threads in ("OMP_NUM_THREADS", "OPENBLAS_NUM_THREADS"):
         os.environ.setdefault(threads, "1")
-    for variable, crate in (("DIPQ", "dipq"), ("DIPQ_LIVE", "dipq_live")):
+    files = {"DIPQ": "crates/dipq/out/dipq", "DIPQ_LIVE": "crates/dipq_live/out/dipq_live",
+             "RUZGALT_LIBRARY": f"out/{which.LIBRARY}"}
+    for (variable, file), crate in zip(files.items(), ("dipq", "dipq_live", "libruzgalt")):
         if which.is_built(crate):
-            os.environ.setdefault(variable, str(TOP / "crates" / crate / "out" / crate))
+            os.environ.setdefault(variable, str(TOP / file))
 
 
 def modules_of(kind: str) -> List[str]:
@@ -108,11 +110,15 @@ def of_module(kind: str, module: str, loader: unittest.TestLoader = unittest.def
 
 
 def missing_to_frames() -> str:
-    """What is missing for tests of frames, and how to have it. Empty if nothing is missing."""
+    """Returns the missing package of tests of frames, and how to install it, or an empty text."""
     if not has_pandas():
         return "pandas isn't installed: apt-get install python3-pandas"
-    return missing_program()
+    return missing_program() or missing_library()
 
 
 def missing_program() -> str:
     return "" if "DIPQ" in os.environ else "no program is built: ./dipq </dev/null builds it"
+
+
+def missing_library() -> str:
+    return "" if "RUZGALT_LIBRARY" in os.environ else "no library is made: `make library` makes it"

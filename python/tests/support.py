@@ -1,20 +1,22 @@
-"""Runs the tools as a shell does, but in this process, from the repository's top."""
+"""Runs the tools as a shell does, in this process, from the repository's top."""
 import contextlib
 import io
 import os
 import sys
 import tempfile
 import unittest
+from importlib.util import find_spec
 from pathlib import Path
 from typing import Iterator, List, Tuple
 from unittest import mock
 
-from ruzgalt.commands import answers_tool, load_tool
+from ruzgalt.cli import answers as answers_tool, load as load_tool
 
 TOP = Path(__file__).resolve().parents[2]
 # The program that answers, as tests of both suites are given it.
 PROGRAM = Path(os.environ.get("DIPQ", TOP / "crates/dipq/out/dipq")).resolve()
 EXAMPLE = "examples/pay.csv"
+NEEDS_PANDAS = unittest.skipUnless(find_spec("pandas"), "pandas isn't installed: apt-get install python3-pandas")
 TOOLS = {"tools/answers": answers_tool.main, "tools/csv-to-load": load_tool.main}
 
 
@@ -27,7 +29,7 @@ class Stream(io.TextIOWrapper):
 
 
 def run(words: List[str], given: str = "") -> Tuple[int, str, str]:
-    """The status of a tool, what it prints and what it says."""
+    """Returns the status of a tool, and its standard output and error."""
     printed, said = Stream(), Stream()
     with mock.patch.multiple(sys, stdin=Stream(given.encode()), stdout=printed, stderr=said), moved_to(TOP):
         try:
@@ -64,6 +66,6 @@ class ToolCase(unittest.TestCase):
             self.assertEqual(ended, status, said)
             self.assertIn(part, printed + said)
             if status == 1 and said:
-                # In place of a load stands a record that the store refuses.
+                # Instead of a load it prints a record that the store refuses.
                 nothing = "csv-to-load failed\n" if words[0] == "tools/csv-to-load" else ""
                 self.assertEqual((said.count("\n"), printed), (1, nothing))

@@ -10,10 +10,12 @@ from pathlib import Path
 from typing import Iterator, List, Tuple
 from unittest import mock
 
-from ruzgalt import which
-from ruzgalt.commands import answers_tool, progress, streams
-from ruzgalt.commands.progress import Progress
+from ruzgalt import version, which
+from ruzgalt import progress
+from ruzgalt.cli import answers as answers_tool, streams
+from ruzgalt.progress import Progress
 from ruzgalt.script import reader
+from tests.support import NEEDS_PANDAS
 
 PAY = "table,pay,person,text,euros,int\nload,pay\nrow,2024-01-01,2024-03-01,A,5\nrow,2024-04-01,2024-06-01,A,6\nend\n"
 ROWS = "row,1,2024-01-01,2024-03-01,A,5\nrow,2,2024-04-01,2024-06-01,A,6\nend,2\n"
@@ -24,8 +26,8 @@ sys.stdout.write({!r})
 """
 
 
-def answers(words: str, script: str, answered: str) -> Tuple[int, str, str]:
-    """The status of a command, what it prints, and what it says; $S stands for the script, $A for its answers."""
+def answers(words: str, script: str, answered: str, is_faked: bool = False) -> Tuple[int, str, str]:
+    """Returns the status of a command and its two outputs; $S is the script, and $A its answers, or a fake's."""
     with tempfile.TemporaryDirectory() as folder:
         files = {"$S": Path(folder, "script.csv"), "$A": Path(folder, "answers.csv"), "$P": Path(folder, "program")}
         for file, text in zip(files.values(), (script, answered, FAKE.format(answered))):
@@ -34,7 +36,8 @@ def answers(words: str, script: str, answered: str) -> Tuple[int, str, str]:
         split = words.split(" ")
         for name, file in files.items():
             split = [one.replace(name, str(file)) for one in split]
-        return run(split)
+        with mock.patch.dict(os.environ, {"DIPQ": str(files["$P"])} if is_faked else {}):
+            return run(split)
 
 
 def run(words: List[str]) -> Tuple[int, str, str]:
@@ -99,7 +102,7 @@ class Lists(unittest.TestCase):
     def test_the_same_load_twice_is_marked(self) -> None:
         script = PAY + PAY.partition("\n")[2]
         for end in ("\n", ""):
-            self.marks("its rows are those of the load at line 2", script[:-1] + end, "ok,1\nok,2\nok,3\n")
+            self.marks("it has the same rows as the load at line 2", script[:-1] + end, "ok,1\nok,2\nok,3\n")
 
     def test_a_change_of_a_time_without_rows_is_marked(self) -> None:
         script = PAY + "delete,pay,2030-01-01,2031-01-02\n"
@@ -118,6 +121,14 @@ class Lists(unittest.TestCase):
         script = PAY + "table,of,name,text\nload,of\nrow,2024-01-01,2024-03-01,a\nend\njoin,pay,of,on,person,name\n"
         answered = "ok,1\nok,2\nok,3\nok,4\nend,0\n"
         self.marks("no value of these columns in common, so no row matches: 'A' and 'a' look alike", script, answered)
+
+    def test_a_check_that_says_no_and_a_join_without_columns_come_first(self) -> None:
+        script = PAY + "delete,pay,2030-01-01,2030-02-01\njoin,pay,pay\ncheck,pay,1,-\npart,1\nend\n"
+        _, _, said = answers("list $S", script, "")
+        first, second, third = said.splitlines()
+        self.assertIn("join,pay,pay: it has no `on`, so each row of pay is joined with every row of pay of the", first)
+        self.assertIn("check,pay,1,-: No: row 2 is in no part.", second)
+        self.assertIn("so nothing was changed", third)
 
     def test_an_anti_join_of_nothing_tells_of_the_other_way_round(self) -> None:
         script = PAY + "anti,pay,pay,on,person,person\n"
@@ -209,10 +220,12 @@ class Tables(unittest.TestCase):
         status, printed, said = answers(words, script, answered)
         self.assertEqual((status, printed, said), (0, wanted, ""))
 
+    @NEEDS_PANDAS
     def test_gaps_are_the_times_between_rows_of_one_value(self) -> None:
         wanted = "valid_from,valid_to,person\n2024-03-01,2024-04-01,A\n"
         self.prints(wanted, "gaps $S person --answers $A", PAY + "rows,pay\n", f"ok,1\nok,2\n{ROWS}")
 
+    @NEEDS_PANDAS
     def test_overlaps_and_gaps_are_by_the_size_of_numbers(self) -> None:
         periods = "2024-01-01,2024-02-01", "2024-03-01,2024-04-01"
         rows = [f"{period},{number}" for number in (10, 9) for period in periods]
@@ -225,6 +238,7 @@ class Tables(unittest.TestCase):
             numbers = [int(record.split(",")[-1]) for record in records]
             self.assertEqual((numbers, set(numbers)), (sorted(numbers), {9, 10}))
 
+    @NEEDS_PANDAS
     def test_overlaps_are_those_of_the_answer_s_own_commit(self) -> None:
         script = PAY.replace("2024-04-01", "2024-02-01") + "rows,pay\ndelete,pay,2024-01-01,2024-02-10\nrows,pay\n"
         heads = "row_id,other_row_id,valid_from,valid_to,person\n"
@@ -280,101 +294,6 @@ class Tables(unittest.TestCase):
         answered = f"ok,1\nok,2\n{ROWS}".replace("2024-06-01", "9999-12-31")
         self.prints(wanted, f"{words}=select\t*\tfrom\tall_day".replace("--query=", "--query="), script, answered)
 
-    def test_a_length_up_to_an_open_end_is_reported(self) -> None:
-        words = "sqlite $S :memory: --answers $A --ask a=rows,pay --query=select\tjulianday(valid_to)\tfrom\ta"
-        for end, note in [("2024-06-01", ""), ("9999-12-31", "answers: --query: a length up to 9999-12-31, where no ")]:
-            with self.subTest(end):
-                rows = f"ok,1\nok,2\n{ROWS}".replace("2024-06-01", end)
-                _, _, said = answers(words, PAY.replace("2024-06-01", end), rows)
-                self.assertEqual(said[:len(note) or None], note)
-
-    def test_what_may_not_be_meant_in_a_query_is_reported(self) -> None:
-        for query, part in [
-            ("select * from a where valid_from <= '2024-03-01' and valid_to >= '2024-03-01'", "which `>=` includes"),
-            ("select * from a where valid_from <= '2024-03-01' and '2024-03-01' <= a.valid_to", "which `>=` includes"),
-            ("select valid_to - valid_from as days from a", "so their difference is in years"),
-            ("select * from a where valid_from < '2024-04-01' and '2024-04-01' < valid_to", "which `<` leaves out"),
-            ("select * from a where valid_from = '2024-01-01T00:00:00'", "is compared as a text"),
-            ("select * from a where valid_from < '20240401'", "is compared as a text"),
-            ("select * from a where valid_from < '2024-02-30'", "is compared as a text"),
-            ("select * from a where valid_from > 2023", "is compared with a number"),
-            ("select * from a where valid_from < datetime('2024-01-01')", "a space before the time"),
-            ("select * from a where valid_to = null", "nothing equals NULL"),
-            ("select * from a where valid_from < '2024-07-01' and valid_to > '2024-06-01'", ""),
-            ("select * from a where valid_from <= '2024-06-01' and '2024-06-01' < valid_to", ""),
-            ("select * from a where valid_to >= '9999' and valid_from < '2024-06'", ""),
-            ("select valid_from from a where valid_to <= '2024-08-01'", ""),
-            ("select * from a where valid_from = '2024-01'", "a point has a day"),
-            ("select euros*103/100 from a", "a division of whole numbers drops"),
-            ("select sum(euros)/count(*) as mean from a", "a division of whole numbers drops"),
-            ("select round(euros/3, 2) from a", "a division of whole numbers drops"),
-            ("select euros / 2 - 1.5 from a", "a division of whole numbers drops"),
-            ("select (euros*103+50)/100, (euros * 1025 + 500) / 1000 from a", ""),
-            ("select (200 * sum(euros) + row_id) / (2 * row_id) from a", ""),
-            ("select (200 * sum(euros) + row_id) / (2 * euros) from a", "a division of whole numbers drops"),
-            ("select person, sum(euros) from a", "a column beside a sum of all records is from some record"),
-            ("select count(*) as n, a.person from a", "a column beside a sum of all records is from some record"),
-            ("select person, sum(euros) from a group by person", ""), ("select person, max(euros) from a", ""),
-            ("select sum(euros), count(*) from a where person = 'A'", ""),
-            ("select euros/3.0, 1.0 * euros / 3, cast(euros as real) / 3, avg(euros)/3, '1/2' from a -- 1/2", ""),
-            ("select (julianday(valid_to) - julianday(valid_from)) / 7 from a", ""),
-            ("select * from a where strftime('%Y', valid_to)=2025", "give texts, which never equal a number"),
-            ("select * from a where 2025 = strftime('%Y', valid_to)", "give texts, which never equal a number"),
-            ("select * from a where substr(valid_to, 1, 4) in (2024)", "give texts, which never equal a number"),
-            ("select * from a where cast(strftime('%Y', valid_to) as int) = 2025 or euros = 5", ""),
-            ("select * from a where strftime('%Y', valid_to) = '2025' and euros >= 2025", ""),
-        ]:
-            words = ["sqlite", "$S", ":memory:", "--answers", "$A", "last=a", "--query", query.replace(" ", "\t")]
-            _, _, said = answers(" ".join(words), PAY + "rows,pay\n", "ok,1\nok,2\n" + ROWS)
-            with self.subTest(query):
-                self.assertEqual((said.count("\n"), part in said), (1 if part else 0, True), said)
-
-    def test_an_end_that_is_null_is_reported_beside_a_comparison(self) -> None:
-        script, answered = (text.replace("2024-06-01", "9999-12-31") for text in (PAY, f"ok,1\nok,2\n{ROWS}"))
-        part = "an end that isn't known is NULL by --open-null"
-        for query, is_noted in [
-            ("select * from a where valid_from <= '2024-05-01' and '2024-05-01' < valid_to", True),
-            ("select sum(julianday(valid_to)) from a", True), ("select valid_to from a", False),
-            ("select * from a where valid_to is null or valid_to > '2024-05-01'", False),
-        ]:
-            words = f"sqlite $S :memory: --answers $A --open-null --ask a=rows,pay --query={query.replace(' ', chr(9))}"
-            with self.subTest(query):
-                self.assertEqual((part in answers(words, script, answered)[2]), is_noted)
-
-    def test_a_comparison_that_open_versions_are_missing_from_is_reported(self) -> None:
-        rows = (f"version,{ROWS.split()[place][4:-4]},2,-,A,{5 + place}\n" for place in (0, 1))
-        output = "ok,1\nok,2\n" + "".join(rows)
-        part = "sys_to is NULL for a version that no commit closed"
-        for query, is_noted in [
-            ("select * from v where sys_from <= 2 and 2 < v.sys_to", True),
-            ("select * from v where sys_to = '-'", True),
-            ("select * from v where sys_to is null or sys_to > 2", False), ("select sys_to from v", False),
-            ("select * from v where 2 in (sys_from, sys_to)", False),
-        ]:
-            words = f"sqlite $S :memory: --answers $A --ask v=between,pay,0,2 --query={query.replace(' ', chr(9))}"
-            with self.subTest(query):
-                self.assertEqual(part in answers(words, PAY, output + "end,2\n")[2], is_noted)
-
-    def test_a_join_without_times_is_reported(self) -> None:
-        part = "records that are joined without their times may not hold at the same time"
-        words = "sqlite $S :memory: --answers $A --ask a=rows,pay --ask b=rows,pay,asof,2 --ask c={} --query={}"
-        for query, is_noted in [
-            ("select sum(a.euros) from a join b on a.person = b.person", True), ("select 1 from a x, b y", True),
-            ("select 1 from a join b on a.valid_from < b.valid_to and b.valid_from < a.valid_to", False),
-            ("select 1 from a join b using (row_id)", False), ("select 1 from a join c using (person)", False),
-            ("select person from a union all select person from b", False), ("select 1 from a", False),
-        ]:
-            asked = words.format("at,pay,2024-01-01", query.replace(" ", "\t"))
-            answered = f"ok,1\nok,2\n{ROWS}{ROWS}{ROWS.splitlines()[0]}\nend,1\n"
-            with self.subTest(query):
-                self.assertEqual(part in answers(asked, PAY, answered)[2], is_noted)
-
-    def test_between_the_ends_of_a_record_is_reported(self) -> None:
-        query = "select\t1\tfrom\ta\twhere\t'1'\tbetween\tvalid_from\tand\tvalid_to"
-        words = f"sqlite $S :memory: --answers $A --ask a=rows,pay --query={query}"
-        _, _, said = answers(words, PAY, f"ok,1\nok,2\n{ROWS}")
-        self.assertIn("a record doesn't hold at its valid_to, which `between` includes", said)
-
 
 @contextlib.contextmanager
 def pieces_of(size: int) -> Iterator[None]:
@@ -382,29 +301,46 @@ def pieces_of(size: int) -> Iterator[None]:
         yield
 
 
+class Mistakes(unittest.TestCase):
+    def test_possible_mistakes_come_after_a_table_too(self) -> None:
+        changes = "".join(
+            f"update,pay,2024-0{number}-01,2024-0{number}-02,set,euros,7,where,person,A\n" for number in range(1, 4)
+        )
+        wrong = "update,pay,2024-01-01,2024-06-30,set,euros,7\ndelete,pay,2030-01-01,2030-01-02\n"
+        script = PAY + changes.replace("person,A", "person,a") + wrong + "rows,pay\nat,pay,2024-01-05\n"
+        status, _, said = answers("csv $S", script, "")
+        self.assertEqual((status, said.count("\n")), (0, 3), said)
+        self.assertIn("so nothing was changed (likewise line 7, line 8, line 10)", said)
+        load = "load,pay\nrow,2024-07-0{0},2024-07-0{0}T23:59:59,'B{0}',1\nend\n"
+        more = script + load.format(1) + "rows,pay,asof,1\njoin,pay,pay,on,euros,euros,asof,1\nat,pay,2024-01-05\n"
+        status, _, said = answers("csv $S", more, "")
+        self.assertEqual((status, said.count("\n")), (0, 6), said)
+        self.assertRegex(said, r"answers: \d+ more possible mistakes: `tools/answers list` has all\n$")
+
+
 class LongLists(unittest.TestCase):
     def test_an_end_in_a_text_is_no_end_of_the_list(self) -> None:
         text = '"A\nend,9\n"'
-        script = PAY.replace("A,6", f"{text},6") + "rows,pay\nlog\n"
+        script = PAY.replace("A,6", f"{text},6").replace("euros,int", "euros,int,key,person") + "rows,pay\nlog\n"
         rows = ROWS.replace("A,6", f"{text},6")
         answered = f"ok,1\nok,2\n{rows}commit,1,1,table,pay,0,0\ncommit,2,1,load,pay,2,0\nend,2\n"
         for size in (1, 2, 3):
             with self.subTest(size), pieces_of(size):
-                status, printed, _ = answers("csv $S --program $P 3", script, answered)
+                status, printed, _ = answers("csv $S 3", script, answered, is_faked=True)
                 self.assertEqual((status, printed.partition("\n")[2]), (0, rows.replace("row,", "")[:-len("end,2\n")]))
-                status, printed, _ = answers("csv $S --program $P 4", script, answered)
+                status, printed, _ = answers("csv $S 4", script, answered, is_faked=True)
                 self.assertEqual((status, printed.count("\n")), (0, 3))
 
     def test_a_list_without_its_end_is_reported(self) -> None:
         with pieces_of(1):
-            status, _, said = answers("csv $S --program $P", PAY + "rows,pay\n", "ok,1\nok,2\n" + ROWS[:-6])
+            status, _, said = answers("csv $S", PAY + "rows,pay\n", "ok,1\nok,2\n" + ROWS[:-6], is_faked=True)
         self.assertEqual((status, "the answers end before the list's end" in said), (1, True))
 
 
 class Terminals(unittest.TestCase):
     @contextlib.contextmanager
     def terminal(self, is_one: bool = True) -> Iterator[io.StringIO]:
-        """Standard error, as a terminal where it is one, on which one needn't wait for two seconds."""
+        """Yields standard error, a terminal if `is_one`, without waiting for two seconds."""
         said = io.StringIO()
         with contextlib.redirect_stderr(said), mock.patch.object(said, "isatty", return_value=is_one, create=True):
             with mock.patch.multiple(Progress, PATIENCE=0.01, PAUSE=0.01):
@@ -446,37 +382,10 @@ class Terminals(unittest.TestCase):
         self.assertEqual(said.getvalue(), "")
 
 
-class Fronts(unittest.TestCase):
-    def test_answers_that_go_on_are_a_front(self) -> None:
-        with tempfile.NamedTemporaryFile("w") as kept:
-            kept.write("ok,1\nok,2\n")
-            kept.flush()
-            words = f"front $S {kept.name} --program $P"
-            status, printed, _ = answers(words, PAY + "rows,pay\n", f"ok,1\nok,2\n{ROWS}")
-        self.assertEqual((status, printed), (0, ""))
-
-    def test_an_empty_file_is_reported(self) -> None:
-        status, printed, said = answers("front $S /dev/null --program $P", PAY, "ok,1\nok,2\n")
-        self.assertEqual((status, printed, "is empty, so any answers begin with it" in said), (0, "", True))
-
-    def test_an_edited_record_is_reported_with_its_line(self) -> None:
-        with tempfile.NamedTemporaryFile("w") as kept, tempfile.NamedTemporaryFile("w") as before:
-            kept.write(f"ok,1\nok,2\n{ROWS}".replace(",A,5", ",A,4"))
-            before.write(PAY.replace(",A,5", ",A,4") + "rows,pay\n")
-            kept.flush()
-            before.flush()
-            words = f"front $S {kept.name} --program $P --before {before.name}"
-            status, printed, _ = answers(words, PAY + "rows,pay\n", f"ok,1\nok,2\n{ROWS}")
-        self.assertEqual(status, 1)
-        self.assertIn("line 3: the script said row,2024-01-01,2024-03-01,A,4 (line 3), and now says row,", printed)
-        self.assertIn("line 6: rows,pay: line 3 of the kept answers is row,1,2024-01-01,2024-03-01,A,4", printed)
-
-
 class Hints(unittest.TestCase):
     def test_words_of_other_languages_are_answered_by_what_to_write(self) -> None:
         for record, part in [
-            ("select * from pay", "`tools/answers sqlite` takes SQL"), ("alter,pay", "a table can't be changed"),
-            ("drop,pay", "a table can't be changed or removed"), ("# a comment", "a script has no comments"),
+            ("select * from pay", "the commands are table, load, "), ("# a comment", "a script has no comments"),
             ("sep=;", "a spreadsheet's first line"), ("hello", "the commands are table, load, "),
         ]:
             with self.subTest(record):
@@ -506,8 +415,16 @@ class Hints(unittest.TestCase):
                 os.environ["DIPQ"] = "/another"
                 self.assertEqual(which.program(), "/another")
 
+    def test_a_package_in_another_project_has_not_that_project_s_version(self) -> None:
+        with tempfile.TemporaryDirectory() as folder, mock.patch.object(version, "TOP", Path(folder)):
+            Path(folder, ".git").mkdir()
+            with mock.patch.dict(os.environ):
+                os.environ.pop("SOURCE_DATE_EPOCH", None)
+                self.assertEqual(version.of_repository(), version.UNKNOWN)
+
     def test_a_program_that_is_missing_is_reported_with_its_name_in_the_environment(self) -> None:
-        status, _, said = answers("csv $S --program /none/dipq", PAY, "")
+        with mock.patch.dict(os.environ, DIPQ="/none/dipq"):
+            status, _, said = answers("csv $S", PAY, "")
         self.assertEqual(status, 1)
         self.assertIn("DIPQ in the environment", said)
 

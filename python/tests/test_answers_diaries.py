@@ -1,11 +1,12 @@
-"""The commit that a diary says was the newest on a day, beside one that is looked for from day to day."""
+"""The newest commit on a day by a diary, compared with a search from day to day."""
 import os
 import unittest
 from datetime import date, timedelta
 from typing import List, NamedTuple, Optional, Tuple
 
-from ruzgalt import answers
-from ruzgalt.answers import Answer, asking, diary
+from ruzgalt.script import answers
+from ruzgalt.script import changes, run
+from ruzgalt.script.answers import Answer
 from ruzgalt.errors import Misfit
 from tests.support import PROGRAM
 
@@ -19,7 +20,7 @@ EXAMPLES = int(os.environ.get("TOOLS_EXAMPLES", "100"))
 DRAWN = settings(max_examples=EXAMPLES, deadline=None, database=None, derandomize=EXAMPLES <= 150)
 FIRST = date(2024, 1, 1)
 DAYS, COMMITS = 24, 7
-# A start, a length, and a commit; 0 is none.
+# A start, a length, and a commit, or 0.
 ENTRIES = st.lists(st.tuples(st.integers(0, 20), st.integers(1, 20), st.integers(0, COMMITS)), max_size=5)
 
 
@@ -30,7 +31,7 @@ class Entry(NamedTuple):
 
 
 def entries_of(drawn: List[Tuple[int, int, int]], has_order: bool) -> List[Entry]:
-    """Rows of a diary. In order later days have later commits, as a diary must have them."""
+    """Rows of a diary. In order, later days have later commits, which a diary must have."""
     days = sorted(drawn) if has_order else drawn
     commits = [commit for _, _, commit in drawn]
     return [
@@ -40,10 +41,10 @@ def entries_of(drawn: List[Tuple[int, int, int]], has_order: bool) -> List[Entry
 
 
 def answer_of(entries: List[Entry]) -> Answer:
-    """Returns that to `rows` of this diary after so many commits."""
+    """Returns the answer to `rows` of this diary after `commits` commits."""
     rows = "".join(f"row,{entry.start},{entry.end},{entry.newest}\n" for entry in entries)
     script = f"table,diary,newest,int\nload,diary\n{rows}end\n" + "load,diary\nend\n" * (COMMITS - 2)
-    found = asking.output(str(PROGRAM), f"{script}rows,diary\n".encode())
+    found = run.output(str(PROGRAM), f"{script}rows,diary\n".encode())
     return answers.of(f"{script}rows,diary\n".encode(), found)[-1]
 
 
@@ -59,7 +60,7 @@ def commit_on(entries: List[Entry], day: date) -> Optional[int]:
 
 
 def goes_back(entries: List[Entry]) -> bool:
-    """Whether a day has a later commit than one behind it."""
+    """Returns whether a day has a later commit than a later day."""
     own = [entry for entry in entries if entry.newest]
     return any(one.start < other.start and one.newest > other.newest for one in own for other in own)
 
@@ -73,9 +74,9 @@ class Diaries(unittest.TestCase):
         for day in (FIRST + timedelta(place) for place in range(DAYS)):
             commit = None if goes_back(entries) else commit_on(entries, day)
             if commit is None:
-                self.assertRaises(Misfit, diary.commits_at, found, [str(day)])
+                self.assertRaises(Misfit, changes.commits_at, found, [str(day)])
             else:
-                self.assertEqual(diary.commits_at(found, [str(day)]), {str(day): commit})
+                self.assertEqual(changes.commits_at(found, [str(day)]), {str(day): commit})
 
 
 if __name__ == "__main__":

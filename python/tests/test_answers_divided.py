@@ -1,4 +1,4 @@
-"""Divisions with their rows, and by groups, beside how many rows hold on each day."""
+"""Divisions with their rows, and by groups, compared with counts of rows on each day."""
 import os
 import unittest
 from collections import Counter, defaultdict
@@ -23,7 +23,7 @@ OWN = ["part", "row_id", "instant", "valid_from", "valid_to"]
 
 
 def asked(script: str, *words: str) -> List[List[str]]:
-    status, text, said = run(["tools/answers", "csv", "-", "--ask", "dip,t", "--program", str(PROGRAM), *words], script)
+    status, text, said = run(["tools/answers", "csv", "-", "--ask", "dip,t", *words], script)
     if status:
         raise AssertionError(said)
     return read(text)

@@ -1,4 +1,4 @@
-"""What `raise` and `next` of tools/answers print, answered by the program, beside what each day held before.
+"""What `raise` and `next` of tools/answers print, answered by the program, compared with the days before.
 
 Names, texts and amounts are as odd as they may be.
 """
@@ -39,7 +39,7 @@ def raised(amount: int, percent: str, rounding: str) -> int:
 
 
 def days_of(rows: List[List[str]], first: int) -> Counts[Day]:
-    """What each day holds of records: of columns from that place on, the last one is the amount."""
+    """Returns the rows of each day, from the column `first` on; the last one is the amount."""
     found: Counts[Day] = Counter()
     for record in rows:
         start, end = (date.fromisoformat(point) for point in record[first:first + 2])
@@ -49,9 +49,9 @@ def days_of(rows: List[List[str]], first: int) -> Counts[Day]:
 
 
 def answer_of(script: str) -> List[List[str]]:
-    """The records of the script's last answer, as the program prints it, by tools/answers."""
+    """Returns the records of the script's last answer, from tools/answers."""
     with kept(script) as file:
-        status, text, said = run(["tools/answers", "csv", file, "--program", str(PROGRAM)])
+        status, text, said = run(["tools/answers", "csv", file])
     if status:
         raise AssertionError(said)
     return read(text)[1:]
@@ -68,7 +68,7 @@ class GoingOn(unittest.TestCase):
         words = ["tools/answers", "raise", "-", "t", case.amounts, "--percent", percent, "--from", str(start)]
         more = [*(["--to", str(end)] if end else []), "--round", rounding]
         more += ["--where", f"{case.texts[0]}={where.group[0]}"] if where else []
-        status, text, said = run([*words, *more, "--program", str(PROGRAM)], case.script)
+        status, text, said = run([*words, *more], case.script)
         wanted: Counts[Day] = Counter()
         for row in case.rows:
             meets = where is None or row.group[0] == where.group[0]
@@ -88,7 +88,7 @@ class GoingOn(unittest.TestCase):
     @DRAWN
     @given(cases(), st.booleans())
     def test_an_answer_is_a_table_of_the_next_script(self, case: Case, has_ids: bool) -> None:
-        words = ["tools/answers", "next", "-", "--table", "n", "--program", str(PROGRAM), *["--ids"] * has_ids]
+        words = ["tools/answers", "next", "-", "--table", "n", *["--ids"] * has_ids]
         status, text, said = run(words, case.script)
         self.assertEqual((status, said), (0, ""))
         made, before = answer_of(f"{text}rows,n\n"), answer_of(case.script)
@@ -100,7 +100,7 @@ class GoingOn(unittest.TestCase):
     def test_a_raise_that_the_script_has_is_refused(self) -> None:
         rows = "row,2024-01-01,9999-12-31,A,5000\nrow,2024-01-01,9999-12-31,B,6000\n"
         load = f"table,t,dept,text,n,int\nload,t\n{rows}end\n"
-        words = ["tools/answers", "raise", "-", "t", "n", "--program", str(PROGRAM), "--percent"]
+        words = ["tools/answers", "raise", "-", "t", "n", "--percent"]
         status, updates, said = run([*words, "2.5", "--from", "2025-01-01"], load)
         self.assertEqual((status, updates.count("\n"), said), (0, 2, ""))
         raised = load + updates
@@ -119,7 +119,7 @@ class GoingOn(unittest.TestCase):
             ["table", "t", "name", "text", "n", "int"], ["load", "t"], ["row", "2024-01-01", "2024-02-01", 'a"b', "7"],
             ["end"], ["agg", "t", "sum", "n", "by", "name"],
         ])
-        words = ["tools/answers", "next", "-", "--table", "total", "--program", str(PROGRAM), "--key", "name"]
+        words = ["tools/answers", "next", "-", "--table", "total", "--key", "name"]
         wanted = 'table,total,name,text,sum_n,int,key,name\nload,total\nrow,2024-01-01,2024-02-01,"a""b",7\nend\n'
         self.assertEqual(run(words, script), (0, wanted, ""))
 
@@ -135,7 +135,7 @@ class Words(ToolCase):
             (["--percent", "2.5", "--from", "1.7.2024"], "--from 1.7.2024: not a date or time"),
             ([*more, "--to", "2024-07-01T00:00:00"], "isn't before --to"),
             ([*more, "--where", "name=A"], "the table pay has no column name; its columns are person, euros"),
-            ([*more, "--where", "euros=05"], "--where euros=05: not a whole number in digits alone"),
+            ([*more, "--where", "euros=05"], "--where euros=05: not a whole number in digits only"),
         ]:
             self.check([*pay, *words], "", 1, reason)
         wrong = ["tools/answers", "raise", EXAMPLE, "pay", "person", "--answers", EXAMPLE + ".stdout", *more]
@@ -146,11 +146,11 @@ class Words(ToolCase):
     def test_a_raise_says_how_it_rounds(self) -> None:
         pay = ["tools/answers", "raise", EXAMPLE, "pay", "euros", "--answers", EXAMPLE + ".stdout"]
         more = ["--from", "2024-07-01", "--dry-run"]
-        half = "4800 comes to 4800.048, which isn't a whole number: say how it is rounded"
+        half = "4800 becomes 4800.048, which isn't a whole number: say how it is rounded"
         self.check([*pay, *more, "--percent", "0.001", "--where", "euros=4800"], "", 1, half)
         table = "rows,euros,exact,raised\n1,5400,5535,5535\n1,4800,4920,4920\n"
         self.check([*pay, *more, "--percent", "2.5"], "", 0, table)
-        note = "--to 2024-12-31: amounts of that day stay as they are; --to 2025-01-01 raises those of the last day too"
+        note = "--to 2024-12-31: amounts of that day stay as they are; --to 2025-01-01 raises the amounts of the last"
         self.check([*pay, *more, "--percent", "2.5", "--to", "2024-12-31"], "", 0, note)
         self.check([*pay, *more, "--percent", "0.001", "--round", "down"], "", 0, "1,5400,5400.054,5400\n")
 

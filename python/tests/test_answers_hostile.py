@@ -1,6 +1,6 @@
-"""What the tools make of the program's answers, where texts and names are as odd as they may be, beside Python's csv.
+"""The tools' output for odd texts and names, compared with Python's csv.
 
-hypothesis draws tables, rows and a question. The program answers, and each tool's table is to have exactly the fields
+hypothesis draws tables, rows and a question. The program answers, and each tool's table must have exactly the fields
 that a plain reading of those bytes finds. TOOLS_EXAMPLES is how many are drawn.
 """
 import csv
@@ -34,7 +34,7 @@ NAMES = [
     "row_id", "id", "valid_from", "valid_to", "sys_from", "sys_to", "count", "sum_n", "part", "instant", "change",
     "left_id", "right_id", "left_a", "row_id_", "a", "n", "x" * 32,
 ]
-# What means something to a reader of CSV, to a spreadsheet, a shell, SQLite or a terminal, and what has no ink.
+# Signs of CSV, spreadsheets, shells, SQLite and terminals, and characters without ink.
 PIECES = [
     '"', '""', ",", "\n", "\r", "\r\n", "\nend,1\n", "\nrow,1,2024-01-01,2024-02-01,", "end", "=1+1", "-5", "@", "\t",
     "'", ";", " ", "\x1b[2J", "\x07", "\x7f", "\x85", "\u2028", "\u202e", "\u3164", "\ufeff", "\u00fc", "u\u0308",
@@ -60,7 +60,7 @@ ENDS = st.one_of(st.integers(1, 9).map(timedelta), st.none())
 
 
 class Case(NamedTuple):
-    """A script, whose last command is a question, and the place of numbers that may be nothing, where it has one."""
+    """A script whose last command is a question, and the index of numbers that may be missing, if it has one."""
 
     script: str
     open_place: Optional[int] = None
@@ -68,7 +68,7 @@ class Case(NamedTuple):
 
 def printed(records: List[List[str]]) -> str:
     text = io.StringIO()
-    # csv's writer quotes a field for the characters of its own line ends alone.
+    # csv's writer quotes a field only for the characters of its own line ends.
     csv.writer(text, lineterminator="\r\n").writerows(records)
     return text.getvalue()
 
@@ -97,7 +97,7 @@ def cases(draw: Callable[[Any], Any]) -> Case:
 
 
 def read_plainly(output: bytes, place: Optional[int]) -> List[List[Optional[str]]]:
-    """The fields of the last answer, read by csv alone; of a place `-` is nothing."""
+    """Returns the fields of the last answer, read only by csv; at one index `-` is None."""
     records = list(csv.reader(io.StringIO(output.decode(), newline="")))
     if records[-1][0] == "part" or records[-1][0] == "dip":
         [opening] = [record for record in records if record[0] == "dip"]
@@ -112,7 +112,7 @@ def read_plainly(output: bytes, place: Optional[int]) -> List[List[Optional[str]
 
 
 def is_run(field: str) -> bool:
-    """Whether a spreadsheet runs a text: by its first sign, where that isn't all, or the minus of a number."""
+    """Returns whether a spreadsheet runs a text: by its first sign, except a sign by itself or a number's minus."""
     digits = field[1:].replace(",", ".").split(".")
     is_number = field[:1] == "-" and len(digits) <= 2 and all(one.isascii() and one.isdigit() for one in digits)
     return field[:1] in {*"=+-@\t\r\n\uff1d\uff0b\uff0d\uff20"} and field not in "+-" and not is_number
@@ -166,7 +166,7 @@ class Hostile(unittest.TestCase):
             tools = Tools(case, folder)
             wanted = tools.wanted
             texts = [["" if one is None else one for one in record] for record in wanted]
-            for more in (f"--program {PROGRAM}", f"--answers {tools.kept}"):
+            for more in ("", f"--answers {tools.kept}"):
                 header, records = tools.by_csv(more)
                 self.assertEqual(records, texts)
                 self.assertEqual(len(set(header)), len(header))

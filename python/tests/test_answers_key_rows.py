@@ -1,7 +1,7 @@
-"""The rows that `refusals` shows for a key, beside a plain computation, to which a row is the set of its instants.
+"""The rows that `refusals` shows for a key, compared with a plain computation on sets of instants.
 
 hypothesis draws a table with a key, and loads, updates and deletes of it. The program refuses some, and of each the
-pairs of rows are to be those that would be equal in the key and share an instant. TOOLS_EXAMPLES is how many are drawn.
+pairs must be the rows that are equal in the key and share an instant. TOOLS_EXAMPLES is how many are drawn.
 """
 import os
 import re
@@ -35,17 +35,17 @@ TEXTS = ["a", "A", "", " a", "\u00e9", "e\u0301", "1", "01", "x,y", 'q"q', '"', 
 NUMBERS = ["0", "1", "-1", "10", str((1 << 63) - 1), str(-1 << 63)]
 # So many pairs of rows are shown of one refusal, and then that there are more.
 SHOWN, MORE = 20, "and more pairs of rows"
-# An empty text alone in a record.
+# A record with just an empty text.
 EMPTY = '""'
 Values = Tuple[str, ...]
 Pairs = List[Tuple[int, str]]
 Instants = FrozenSet[int]
-# The line of a pair of rows, and those of the two.
+# The line of a pair of rows, and the lines of the two.
 Shown = Tuple[str, Tuple[str, ...]]
 
 
 class Row(NamedTuple):
-    """A row: the instants at which it holds, its values, and what a person reads of where it comes from."""
+    """A row: its instants, its values, and its origin for a person."""
 
     instants: Instants
     values: Values
@@ -53,7 +53,7 @@ class Row(NamedTuple):
 
 
 class Step(NamedTuple):
-    """A load of rows, or a change of those that hold at some instants and have the values of `where`."""
+    """A load of rows, or a change of the rows that hold at some instants and have the values of `where`."""
 
     word: str
     rows: List[Tuple[Instants, Values]] = []

@@ -1,11 +1,11 @@
-"""Answers as a person reads them: amounts with decimals and last days, beside Python's decimals and dates."""
+"""Answers as a person reads them: amounts with decimals and last days, compared with Python's decimals and dates."""
 import os
 import unittest
 from datetime import timedelta
 from decimal import Decimal
 from pathlib import Path
 
-from tests.support import EXAMPLE, TOP, ToolCase, kept, run
+from tests.support import EXAMPLE, NEEDS_PANDAS, TOP, ToolCase, kept, run
 
 try:
     from hypothesis import assume, given, settings
@@ -30,7 +30,7 @@ class Looks(unittest.TestCase):
     @DRAWN
     @given(cases(), st.integers(0, 20), st.booleans())
     def test_amounts_and_last_days_are_those_of_the_records(self, case: Case, digits: int, is_german: bool) -> None:
-        words = ["tools/answers", "csv", "-", "--program", str(PROGRAM), "--last-day"]
+        words = ["tools/answers", "csv", "-", "--last-day"]
         amount = case.named[-1]
         more = ["--decimals", f"{amount}={digits}", *["--german"] * is_german]
         status, text, said = run([*words, *more], case.script)
@@ -46,12 +46,12 @@ class Looks(unittest.TestCase):
     @DRAWN
     @given(cases(), st.booleans())
     def test_what_is_shown_loads_as_what_it_was(self, case: Case, is_german: bool) -> None:
-        assume(not any("\0" in text for row in case.rows for text in row.group))
+        assume(not any(set("\0\r\n") & set(text) for row in case.rows for text in row.group))
         rows, german = case.rows, ["--german"] * is_german
         shown = ["--decimals", f"{case.named[-1]}=2", "--last-day", *german]
-        status, text, said = run(["tools/answers", "csv", "-", "--program", str(PROGRAM), *shown], case.script)
+        status, text, said = run(["tools/answers", "csv", "-", *shown], case.script)
         self.assertEqual(status, 0, said)
-        words = ["tools/csv-to-load", "t", "valid_from", "last_day", *case.named, *shown, "--line-breaks"]
+        words = ["tools/csv-to-load", "t", "valid_from", "last_day", *case.named, *shown]
         status, text, said = run(words, text)
         self.assertEqual(status, 0, said)
         wanted = [[str(row.start), str(row.end), *row.group, str(row.amount)] for row in rows]
@@ -97,6 +97,7 @@ class Words(ToolCase):
             words = ["tools/answers", "csv", "-", "--last-day", "--answers", answers]
             self.check(words, script, 1, "--last-day: 2024-01-02T08:00:00 has a time")
 
+    @NEEDS_PANDAS
     def test_other_tables_of_time_are_shown_so_too(self) -> None:
         words = ["--decimals", "euros=2", "--last-day"]
         rows = "row,2024-01-01,2024-02-01,A,5\nrow,2024-03-01,2024-04-01,A,7\n"
@@ -112,6 +113,7 @@ class Words(ToolCase):
                 name, *others = command
                 self.check(["tools/answers", name, "-", *others, "--answers", answers], script, 0, wanted)
 
+    @NEEDS_PANDAS
     def test_other_tables_are_printed_for_a_spreadsheet_too(self) -> None:
         rows = 'row,2024-01-01,2024-02-01,"=A;B",5\nrow,2024-03-01,2024-04-01,"=A;B",7\n'
         script = f"table,pay,person,text,euros,int\nload,pay\n{rows}end\nrows,pay\nrows,pay,asof,1\n"

@@ -1,18 +1,20 @@
-"""What `months` and `coalesce` of tools/answers print, beside what counting day by day gives.
+"""The output of `months` and `coalesce`, compared with counting day by day.
 
-Names and texts are as odd as they may be. The program answers, where it is built.
+Names and texts are odd. The program answers if it is built.
 """
 import csv
 import io
 import os
+import sys
 import unittest
 from collections import defaultdict
 from datetime import date, timedelta
 from fractions import Fraction
 from pathlib import Path
 from typing import Any, Callable, DefaultDict, Dict, List, NamedTuple, Optional, Set, Tuple
+from unittest import mock
 
-from tests.support import EXAMPLE, TOP, ToolCase, kept, run
+from tests.support import EXAMPLE, NEEDS_PANDAS, TOP, ToolCase, kept, run
 
 try:
     from hypothesis import given, settings
@@ -27,7 +29,7 @@ EXAMPLES = int(os.environ.get("TOOLS_EXAMPLES", "100"))
 DRAWN = settings(max_examples=EXAMPLES, deadline=None, database=None, derandomize=EXAMPLES <= 150)
 START = date(2023, 12, 28)
 DAYS = st.integers(0, 70).map(lambda days: START + timedelta(days))
-AMOUNTS = st.one_of(st.integers(-(1 << 63), (1 << 63) - 1), st.integers(-9, 9))
+AMOUNTS = st.one_of(st.integers(1 - (1 << 63), (1 << 63) - 1), st.integers(-9, 9))
 PAYROLL = ["tools/answers", "months", "examples/payroll.csv", "--answers", "examples/payroll.csv.stdout"]
 MONTHLY = ["--per", "month"]
 KEYS: Dict[str, Callable[[date], Any]] = {
@@ -107,11 +109,12 @@ def plain_sums(rows: List[Row], each: str, per: str) -> Dict[Place, Fraction]:
 
 
 def differences(rows: List[Row], less: List[Row], each: str, per: str) -> Dict[Place, Fraction]:
-    """The amount of each group in each piece, less that of other rows."""
+    """Returns the amount of each group in each piece, less the other rows' amount."""
     found, others = plain_sums(rows, each, per), plain_sums(less, each, per)
     return {place: found.get(place, Fraction(0)) - others.get(place, Fraction(0)) for place in {*found, *others}}
 
 
+@NEEDS_PANDAS
 @unittest.skipUnless(PROGRAM.exists(), "a built program to answer records that hypothesis draws")
 class OverTime(unittest.TestCase):
     @DRAWN
@@ -119,7 +122,7 @@ class OverTime(unittest.TestCase):
     def test_sums_are_those_of_days(self, case: Case, each: str, per: str) -> None:
         by = [word for name in case.named[:-1] for word in ("--by", name)]
         with kept(case.script) as script:
-            words = ["tools/answers", "months", script, "--program", str(PROGRAM), "--each", each, "--per", per]
+            words = ["tools/answers", "months", script, "--each", each, "--per", per]
             status, text, said = run([*words, "--sum", case.named[-1], *by])
         self.assertEqual(status, 0, said)
         header, *records = read(text)
@@ -131,7 +134,7 @@ class OverTime(unittest.TestCase):
             self.assertEqual(KEYS[each](days[1]), KEYS[each](date.fromisoformat(end) - timedelta(1)))
 
     def check_sums(self, records: List[List[str]], wanted: Dict[Place, Fraction], each: str, said: str) -> None:
-        """Each sum is next to the exact one, those of a group to its own sum, and what is rounded is reported."""
+        """Each sum is close to the exact one, a group's sums to its own sum, and rounding is reported."""
         found = {(tuple(group), KEYS[each](date.fromisoformat(start))): int(one) for start, _, *group, one in records}
         self.assertEqual(sorted(found), sorted(wanted))
         self.assertEqual(len(found), len(records))
@@ -153,7 +156,7 @@ class OverTime(unittest.TestCase):
         some = st.lists(st.sampled_from(case.rows), max_size=4) if case.rows else st.just([])
         taken, added = data.draw(some), data.draw(some)
         value = data.draw(st.sampled_from([*(row.group[0] for row in case.rows), "none"])) if case.texts else None
-        words = ["months", "--program", str(PROGRAM), "--each", each, "--per", per, "--sum", case.named[-1]]
+        words = ["months", "--each", each, "--per", per, "--sum", case.named[-1]]
         words += [word for name in case.named[:-1] for word in ("--by", name)]
         words += [] if value is None else ["--where", f"{case.named[0]}={value}"]
         has_zeros = data.draw(st.booleans())
@@ -173,7 +176,7 @@ class OverTime(unittest.TestCase):
     def test_united_periods_have_the_days_of_their_records(self, case: Case, count: int) -> None:
         names = case.named[:-1][:count]
         with kept(case.script) as script:
-            words = ["tools/answers", "coalesce", script, "--program", str(PROGRAM), *names]
+            words = ["tools/answers", "coalesce", script, *names]
             status, text, said = run(words)
         self.assertEqual(status, 0, said)
         header, *records = read(text)
@@ -188,24 +191,37 @@ class OverTime(unittest.TestCase):
         found: DefaultDict[Tuple[str, ...], List[date]] = defaultdict(list)
         for start, end, *group in records:
             first, behind = date.fromisoformat(start), date.fromisoformat(end)
-            # A maximal period: no day beside it is one of the group's.
+            # A maximal period: neither neighbouring day is the group's.
             self.assertFalse({first - timedelta(1), behind} & wanted[tuple(group)])
             found[tuple(group)].extend(first + timedelta(more) for more in range((behind - first).days))
         self.assertEqual({group: sorted(days) for group, days in wanted.items() if days}, dict(found))
         self.assertEqual([tuple(group) for _, _, *group in records], sorted(tuple(group) for _, _, *group in records))
 
 
+class WithoutPandas(ToolCase):
+    def test_one_line_says_how_to_have_it(self) -> None:
+        with mock.patch.dict(sys.modules):
+            for name in [name for name in sys.modules if name.startswith(("ruzgalt.frames", "pandas."))]:
+                del sys.modules[name]
+            sys.modules["pandas"] = None  # type: ignore[assignment]
+            for words in (["gaps", EXAMPLE, "person"], ["months", EXAMPLE, "--sum", "euros", *MONTHLY]):
+                needed = "answers: this command needs pandas: `apt-get install python3-pandas`, or `pip install pandas`"
+                self.check(["tools/answers", *words, "--ask", "rows,pay"], "", 1, needed)
+
+
+@NEEDS_PANDAS
 class Words(ToolCase):
     def test_what_can_t_be_counted_is_refused(self) -> None:
         months = ["tools/answers", "months", EXAMPLE, "--answers", EXAMPLE + ".stdout", *MONTHLY]
-        self.check([*months, "4", "--sum", "euros"], "", 1, "an `at` is of one point alone: ask by `rows`")
+        self.check([*months, "4", "--sum", "euros"], "", 1, "an `at` is of one point only: ask by `rows`")
         self.check([*months, "6", "--sum", "euros"], "", 1, "versions of several commits")
         self.check([*months, "7", "--sum", "number"], "", 1, "its records aren't periods")
         pay = [*PAYROLL, "--go-on", *MONTHLY]
-        self.check([*pay, "--sum", "sum_euros"], "", 1, "9999-12-31,42150: no end is known: give --to, up to which")
+        unknown = "9999-12-31,42150: no end is known: give --to, the time until which"
+        self.check([*pay, "--sum", "sum_euros"], "", 1, unknown)
         self.check([*pay, "--sum", "euros"], "", 1, "no column euros; its columns are valid_from, valid_to, sum_")
         self.check([*pay, "--sum", "valid_to"], "", 1, "valid_to: a start or an end")
-        ids = ["tools/answers", "months", EXAMPLE, "--ask", "rows,pay", "--program", str(PROGRAM), *MONTHLY]
+        ids = ["tools/answers", "months", EXAMPLE, "--ask", "rows,pay", *MONTHLY]
         self.check([*ids, "--sum", "row_id"], "", 1, "--sum row_id: a column of ids, whose sums mean nothing")
         self.check([*pay, "--sum", "sum_euros", "--to", "2024-13-01"], "", 1, "--to 2024-13-01: not a date or time")
         both = ["--from", "2024-02-01", "--to", "2024-02-01"]
@@ -267,7 +283,7 @@ class Words(ToolCase):
         self.check([*months, "--less", "last-1", "--no-zeros"], "", 0, "sum_euros\n2024-06-01,2024-07-01,480\n")
         self.check([*months, "last", "--less", "last"], "", 1, "--less last: that is the answer whose amounts are")
         self.check([*months, "--less", "before"], "", 1, "before: not a NUMBER, @LINE, last or last-N")
-        self.check([*months, "--less", "@29"], "", 1, "an `at` is of one point alone")
+        self.check([*months, "--less", "@29"], "", 1, "an `at` is of one point only")
 
 
 if __name__ == "__main__":

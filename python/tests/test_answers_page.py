@@ -1,6 +1,7 @@
-"""The page of `tools/answers page`: its data, what stands round them, and what is left out. No browser is needed."""
+"""The page of `tools/answers page`: its data, the document around them, and omissions. No browser is needed."""
 import json
 import math
+import os
 import re
 import subprocess
 import tempfile
@@ -11,10 +12,11 @@ from pathlib import Path
 from typing import Any, Dict, List
 from unittest import mock
 
-from ruzgalt.answers import Answer
-from ruzgalt.commands import answers_tool
+from ruzgalt.script.answers import Answer
+from ruzgalt.cli import answers as answers_tool
 from ruzgalt.errors import Misfit
-from ruzgalt.page import contents, document, drawings, findings, sources
+from ruzgalt.cli import sources
+from ruzgalt.report import contents, document
 from tests.support import PROGRAM, TOP, ToolCase, kept, run
 from tests.test_answers_scripts import SCRIPTS, found_in
 
@@ -27,7 +29,7 @@ TIME = "2024-01-01,2024-02-01"
 
 
 def page_of(script: str, given: str, *words: str) -> str:
-    """Returns the page of a script that has these answers, if any are given. Raises Misfit if there is none."""
+    """Returns the page of a script with these answers, if any are given. Raises Misfit if no page is made."""
     with kept(script) as name, kept(given) as answers:
         more = ["--answers", answers] if given else []
         status, printed, said = run(["tools/answers", "page", name, *more, "--go-on", *words])
@@ -109,7 +111,7 @@ class Documents(unittest.TestCase):
         for colours in (light, dark):
             for ink in ("ink", "soft", "accent", "bad"):
                 for paper in ("paper", "head", "then", "now", "notice"):
-                    # Of the marked rows the text is in the page's own ink.
+                    # The text of marked rows has the page's own colour.
                     if ink == "ink" or paper in ("paper", "head"):
                         with self.subTest(f"{ink} on {paper}"):
                             self.assertGreaterEqual(contrast(colours[ink], colours[paper]), 4.5)
@@ -177,7 +179,7 @@ class Contents(ToolCase):
 
     def test_it_says_which_tool_made_it(self) -> None:
         for is_installed in (False, True):
-            with mock.patch("ruzgalt.commands.called.IS_INSTALLED", is_installed):
+            with mock.patch("ruzgalt.which.IS_INSTALLED", is_installed):
                 self.assertEqual(data_of(example("pay"))["data"]["isInstalled"], is_installed)
 
     def test_refusals_have_their_reasons_and_of_a_key_the_rows(self) -> None:
@@ -282,7 +284,7 @@ class Contents(ToolCase):
     def test_answers_that_the_program_does_not_print_make_no_page(self) -> None:
         answered = Path(TOP, "examples/pay.csv.stdout").read_text().replace(",5400", ",5401")
         words = ["tools/answers", "page", "examples/pay.csv", "--answers", "-"]
-        wanted = 'line 5: it has row,4,2024-07-01,2025-01-01,"Byron, Ada",5401, but the program prints row,'
+        wanted = 'line 5: it has row,4,2024-07-01,2025-01-01,"Byron, Ada",5401, and the program prints row,'
         self.check(words, answered, 1, f"answers: standard input, {wanted}")
 
     def test_the_status_is_that_of_a_list(self) -> None:
@@ -322,7 +324,7 @@ class Limits(unittest.TestCase):
     def test_all_findings_are_counted(self) -> None:
         script = "rows,t\n" * 3 + "table,t,a,int\n" + f"delete,t,{TIME}\n" * 3 + "load,t\nend\n"
         given = "".join(f"error,{number},NoTable\n" for number in range(1, 4)) + "ok,1\nok,2\nok,3\nok,4\nok,5\n"
-        with mock.patch.object(findings, "LISTED", 1):
+        with mock.patch.object(contents, "LISTED", 1):
             data = data_of(page_of(script, given))["data"]
         self.assertEqual([len(data[what]) for what in ("refused", "idle", "doubtful")], [1, 1, 0])
         self.assertEqual(data["counts"], {"refused": 3, "idle": 4, "doubtful": 0, "questions": 0})
@@ -346,7 +348,7 @@ class Limits(unittest.TestCase):
         self.assertEqual(data["leftOut"], ["1 commits after the first 2"])
 
     def test_a_picture_of_many_records_is_left_to_the_tool(self) -> None:
-        with mock.patch.object(drawings, "MOST", 1):
+        with mock.patch.object(contents, "MOST", 1):
             [question, *_] = data_of(example("pay"))["data"]["questions"]
         self.assertIn("2 records are more than 1", question["noPicture"])
 
@@ -356,13 +358,13 @@ class Limits(unittest.TestCase):
             ("<svg><rect x='1' fill='url(//a)'/></svg>", ["svg", {}, ["rect", {"x": "1"}]]),
             ("<svg><rect id='a' fill='url(#b)'/></svg>", ["svg", {}, ["rect", {"id": "p4-a", "fill": "url(#p4-b)"}]]),
         ]:
-            with self.subTest(text), mock.patch("ruzgalt.pictures.svg.draw", return_value=text):
+            with self.subTest(text), mock.patch("ruzgalt.report.svg.draw", return_value=text):
                 [question, *_] = data_of(example("pay"))["data"]["questions"]
                 self.assertEqual(question["picture"], tree)
 
 
 class Programs(unittest.TestCase):
-    def sources(self, script: str, *ask: str) -> sources.Sources:
+    def sources(self, script: str, *ask: str) -> contents.Sources:
         with kept(script) as name:
             return sources.ask(answers_tool.options_of("page", [name, "--go-on", *(f"--ask={one}" for one in ask)]))
 
@@ -391,9 +393,10 @@ class Programs(unittest.TestCase):
             # Its second run sees the file that the first one has made.
             program.write_text(f"#!/bin/sh\ncat >/dev/null\nmkdir {folder}/ran 2>/dev/null && echo ok,1 || echo ok,2\n")
             program.chmod(0o700)
-            status, printed, said = run(["tools/answers", "page", name, "--program", str(program)])
+            with mock.patch.dict(os.environ, DIPQ=str(program)):
+                status, printed, said = run(["tools/answers", "page", name])
         self.assertEqual((status, printed), (1, ""))
-        self.assertIn("it was run again on the same script, and printed other answers: name it by --program", said)
+        self.assertIn("it was run again on the same script, and printed other answers: name it by DIPQ", said)
 
     def test_the_program_that_a_command_runs_is_shown_beside_it(self) -> None:
         with tempfile.TemporaryDirectory() as folder:

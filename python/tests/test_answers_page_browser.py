@@ -1,6 +1,6 @@
-"""The page of `tools/answers page` in a browser: what it shows, by click and by key, light and dark, and on paper.
+"""The page of `tools/answers page` in a browser: by click and by key, light and dark, and on paper.
 
-Where the environment names a folder in PICTURES, what the pages look like is put there.
+If PICTURES names a folder in the environment, screenshots of the pages are put there.
 """
 import os
 import re
@@ -10,7 +10,7 @@ from pathlib import Path
 from typing import Any, Dict, List, Tuple
 from unittest import mock
 
-from ruzgalt.page import contents
+from ruzgalt.report import contents
 from tests.browser import MISSING, PROGRAM, Browser
 from tests.support import TOP, kept, run
 from tests.test_answers_page import HOSTILE, TIME, data_of, example, hostile, page_of
@@ -18,7 +18,7 @@ from tests.test_answers_scripts import past_of
 
 # A division, an audit and a payroll.
 EXAMPLES = ("posts", "audit", "payroll")
-# Runs before the page's own script would, to see what is saved: the texts of blobs.
+# Runs before the page's own script, to keep the saved texts of blobs.
 CATCH = """globalThis.saved = []; URL.createObjectURL = (blob) => { saved.push(blob.text()); return "blob:none"; };
 HTMLAnchorElement.prototype.click = function () { saved.push(this.download); }; true"""
 GRID = "document.querySelectorAll('{} .table')[{}]"
@@ -238,7 +238,7 @@ class Grids(BrowserCase):
 
 class Times(BrowserCase):
     def test_the_sliders_show_what_held_as_each_commit_knew_it(self) -> None:
-        """At each point at which something changes, and at each commit, as the program answers `at`."""
+        """At each point of a change, and at each commit, the page shows the program's answer to `at`."""
         for name in ("payroll", "pay", "ward", "joins"):
             past = past_of(TOP / f"examples/{name}.csv")
             self.open(example(name))
@@ -250,7 +250,7 @@ class Times(BrowserCase):
                         self.assertEqual(shown, [row_id for row_id, *_ in answer.table.texts()])
 
     def moments(self, place: int) -> Dict[Tuple[str, int], List[str]]:
-        """The ids of the rows that a table shows, where its sliders are moved to each of their places."""
+        """Returns the ids of the rows that a table shows at each position of its sliders."""
         code = f"""(() => {{
           const fields = document.querySelectorAll('#tables article')[{place}].querySelector('fieldset');
           const [day, commit] = fields.querySelectorAll('input[type=range]');
@@ -373,7 +373,7 @@ class Shown(BrowserCase):
         heads = self.value("[...document.querySelectorAll('#questions th button')].map((one) => one.textContent)")
         self.assertEqual(heads, ["row_id", "valid_from", "last_day", "cents"])
         self.assertEqual(self.cells("#tables", 1)[0][:5], ["2024-03-01", "9999-12-31", "2", "", "-0.05"])
-        # Over a bar of a picture the same is shown as in the table beside it.
+        # A bar of a picture shows the same as the table next to it.
         fact = "document.querySelector('#tables select[aria-label^=Fact]')"
         self.value(f"{fact}.selectedIndex = 1; {fact}.dispatchEvent(new Event('change'))")
         over = "row_id: 1, valid_from: 2024-01-01, last_day: 2024-02-29, sys_from: 2, sys_to: , cents: 12,345.67"

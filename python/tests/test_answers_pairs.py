@@ -1,12 +1,11 @@
-"""Which records of two answers to one question differ, beside counts for each day; and verdicts in sentences."""
+"""Which records of two answers to one question differ, compared with counts for each day; and verdicts in sentences."""
 import os
 import unittest
 from collections import Counter
 from typing import Counter as Counts, List, Tuple
 
-from ruzgalt import answers
-from ruzgalt.answers import verdicts
-from ruzgalt.page import pairs
+from ruzgalt.script import answers
+from ruzgalt.report import contents
 
 try:
     from hypothesis import given, settings
@@ -55,7 +54,7 @@ class Pairs(unittest.TestCase):
     def test_as_many_are_marked_as_there_are_more(self, then: List[Row], now: List[Row]) -> None:
         script, listed = script_of(then, now)
         *_, first, second = answers.of(script.encode(), listed.encode())
-        found = pairs.marks(first, second)
+        found = contents.marks(first, second)
         assert found is not None
         for rows, others, signs in ((then, now, found[0]), (now, then, found[1])):
             self.assertEqual(len(signs), len(rows))
@@ -74,7 +73,7 @@ class Verdicts(unittest.TestCase):
             ("2024-01-05", "yes", "Yes: no two rows of a part overlap, and fewer parts than 11 aren't enough: 11 rows "
              "hold on 2024-01-05."),
             ("-", "yes", "Yes: no two rows of a part overlap, and fewer parts than 11 aren't enough: "
-             "there are no rows."),
+             "the table has no rows."),
             ("2024-01-05", "no,NotCrowded,10", "No: 11 parts are enough, but 2024-01-05 needs only 10: it doesn't show "
              "that fewer aren't."),
             ("-", "no,NotCrowded,0", "No: 11 parts are enough, but no day is claimed: it doesn't show that fewer "
@@ -85,7 +84,7 @@ class Verdicts(unittest.TestCase):
             ("-", "no,Overlap,3,4", "No: rows 3 and 4 are in one part, and overlap."),
         ]:
             found = answers.of(script.format(instant).encode(), f"ok,1\nok,2\n{printed}\n".encode())
-            self.assertEqual(verdicts.sentence_of(found[-1]), sentence)
+            self.assertEqual(answers.sentence_of(found[-1]), sentence)
 
 
 if __name__ == "__main__":

@@ -1,4 +1,4 @@
-"""Each script of examples/ and tests/ beside its answers: tables, pictures, refusals, and answers that are damaged."""
+"""Each script of examples/ and tests/ with its answers: tables, pictures, refusals, and answers that are damaged."""
 import json
 import re
 import subprocess
@@ -8,12 +8,13 @@ import xml.etree.ElementTree
 from pathlib import Path
 from typing import Iterator, List, Tuple
 
-from ruzgalt import answers
-from ruzgalt.answers import Answer, databases, export, picks
-from ruzgalt.answers.past import Past
-from ruzgalt.checking import overlaps, refusals
+from ruzgalt.script import answers
+from ruzgalt.report import databases, export, picks
+from ruzgalt.script.answers import Answer
+from ruzgalt.script.run import Past
+from ruzgalt.script import overlaps, refusals
 from ruzgalt.errors import Misfit
-from ruzgalt.pictures import cells, figures, svg, terminal
+from ruzgalt.report import figures, svg
 from ruzgalt.script import commands, reader, records
 from tests.support import PROGRAM, TOP
 
@@ -77,7 +78,7 @@ class Scripts(unittest.TestCase):
             explained = overlaps.explained(past_of(script), [one for one in found if one.refusal])
             self.assertEqual([number for number, lines in explained.items() if lines], overlapping)
 
-    def test_pictures_keep_to_80_columns_and_are_xml(self) -> None:
+    def test_pictures_are_xml(self) -> None:
         for script in SCRIPTS:
             past = past_of(script)
             for answer in found_in(script):
@@ -94,9 +95,6 @@ class Scripts(unittest.TestCase):
             # Versions are drawn of one fact, and there may be several.
             self.assertIn(word, ("between", "fromto"))
             return
-        # The title is the command, which may be longer.
-        widths = map(cells.width_of, terminal.draw(picture, 80).splitlines()[1:])
-        self.assertLessEqual(max(widths, default=0), 80)
         xml.etree.ElementTree.fromstring(svg.draw(picture))
 
     def test_tables_are_the_same_in_sqlite_and_json(self) -> None:

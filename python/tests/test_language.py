@@ -3,17 +3,21 @@ import re
 import unittest
 from unittest import mock
 
-from ruzgalt import answers
-from ruzgalt.answers import picks
-from ruzgalt.checking import refusals
-from ruzgalt.periods import spans
-from ruzgalt.pictures import figures
+from ruzgalt.script import answers
+from ruzgalt.report import picks
+from ruzgalt.script import refusals
+from ruzgalt.report import figures
 from ruzgalt.script.language import COMMANDS, Answered, Form, Role
 from tests.support import TOP
 
-HOLDING = Form("holding,T,POINT[,asof,N]", Answered.ROWS, behind=(Role.POINT,))
+HOLDING = Form("holding,T,POINT[,asof,N]", Answered.ROWS, more=(Role.POINT,))
 # Modules that applied a change, answered a query, or compared the rows of a key, without the program.
-DECIDING = ("checking/again.py", "checking/fitting.py", "checking/replay.py", "frames/standing.py")
+DECIDING = (
+    "checking/again.py", "checking/fitting.py", "checking/replay.py", "answers/calendar.py", "periods/spans.py",
+    "periods/amounts.py", "frames/standing.py", "frames/batches.py", "frames/unmeant.py", "store/batches.py",
+)
+# Modules of a store that do its changes and know its commits; without arrays they can't look at rows.
+SENDING = ("book", "live", "script", "store")
 SCRIPT = b"""table,t,k,text
 load,t
 row,2024-01-01,2024-02-01,a
@@ -38,7 +42,11 @@ class Language(unittest.TestCase):
     def test_only_the_program_decides_what_a_change_a_key_or_a_query_does(self) -> None:
         package = TOP / "python" / "ruzgalt"
         self.assertEqual([name for name in DECIDING if (package / name).exists()], [])
-        self.assertFalse(hasattr(spans, "overlapping"))
+        texts = {file.stem: file.read_text(encoding="utf-8") for file in package.joinpath("store").glob("*.py")}
+        self.assertEqual([name for name in SENDING if "numpy" in texts[name]], [])
+        # The program finds the rows because of which a key refuses a change.
+        self.assertEqual([name for name, text in texts.items() if 'Refused("KeyOverlap"' in text], ["keys"])
+        self.assertIn("Live(", texts["keys"])
 
     def test_each_word_has_its_part_of_the_language_s_page(self) -> None:
         page = TOP.joinpath("docs/LANGUAGE.md").read_text(encoding="utf-8")

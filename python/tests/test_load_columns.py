@@ -1,4 +1,4 @@
-"""Columns that have other words in a file than in the table, and rows that stand in it twice, beside Python's csv.
+"""Columns with other names in a file than in the table, and rows that it has twice, compared with Python's csv.
 
 Names and texts are as odd as they may be.
 """
@@ -25,7 +25,8 @@ HEADERS = st.lists(
     st.sampled_from([*NAMES, "=", "a=b", "x=", "Neu", "\u00dc", *filter(str.isprintable, PIECES)]),
     min_size=1, max_size=3,
 ).map("".join).filter(lambda name: name.strip() == name and name[:1] not in ("-", "", "="))
-FIELDS = TEXTS.filter(lambda text: "\0" not in text)
+# A field of a file has one line.
+FIELDS = TEXTS.filter(lambda text: not set("\0\r\n") & set(text))
 
 
 class File(NamedTuple):
@@ -49,15 +50,17 @@ def files(draw: Callable[[Any], Any]) -> File:
     names = draw(st.lists(st.sampled_from(NAMES), min_size=1, max_size=3, unique=True))
     count = len(names)
     header = draw(st.lists(HEADERS, min_size=count, max_size=count, unique=True))
-    # A word is a name of the header where that has it, so none is to be of another column's.
+    # A word is a name of the header if that has it, so it mustn't be another column's.
     assume(not {f"{name}={column}" for name, column in zip(names, header)} & {*header, "From", "To"})
     assume(not {"From", "To"} & {*header})
+    # A name of the table mustn't be another column's in the file, since options take both.
+    assume(not any(name in header and header.index(name) != place for place, name in enumerate(names)))
     values = st.lists(st.one_of(st.sampled_from(["", "A", " A"]), FIELDS), min_size=count, max_size=count)
     return File(names, header, draw(st.lists(values, max_size=6)))
 
 
 def loaded(words: List[str], file: File) -> List[List[str]]:
-    status, text, said = run(["tools/csv-to-load", "t", "From", "To", *words, "--line-breaks"], file.text)
+    status, text, said = run(["tools/csv-to-load", "t", "From", "To", *words], file.text)
     if status:
         raise AssertionError(said)
     return list(csv.reader(io.StringIO(text, newline="")))
@@ -108,7 +111,7 @@ class Columns(unittest.TestCase):
         rows = [*file.rows, *again]
         once = [[*row] for row in dict.fromkeys(map(tuple, rows))]
         status, text, said = run(
-            ["tools/csv-to-load", "t", "From", "To", *file.words, "--line-breaks", "--drop-equal"],
+            ["tools/csv-to-load", "t", "From", "To", *file.words, "--drop-equal"],
             file._replace(rows=rows).text,
         )
         found = list(csv.reader(io.StringIO(text, newline="")))

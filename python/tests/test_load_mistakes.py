@@ -1,11 +1,12 @@
 """Mistakes that a new user makes with tools/csv-to-load: none is loaded with a wrong number, or without a word."""
 import sys
+import tempfile
 import unittest
 from typing import List, Tuple, Union
 from unittest import mock
 
-from ruzgalt.commands import load_tool
-from tests.support import Stream
+from ruzgalt.cli import load as load_tool
+from tests.support import Stream, run
 from tests.test_load import HEADER, WORDS, Case, load, rows
 
 CENTS = [*WORDS, "--decimals", "Pay=2"]
@@ -17,13 +18,13 @@ class Refused(Case):
         one = f"A,1,{PERIOD}\n"
         files: List[Tuple[Union[str, bytes], str]] = [
             ((HEADER + one).replace(",", "|"), "it has 'Name|Pay|Start|End'; `(echo 'sep=|'; cat FILE)` makes '|' the"),
-            ((HEADER + one).encode("utf-16-le"), "third of its bytes are zero: `iconv -f UTF-16LE -t UTF-8` converts"),
-            ((HEADER + one).encode("utf-16-be"), "`iconv -f UTF-16BE -t UTF-8` converts it to UTF-8"),
-            ((HEADER + one).encode("utf-16"), "`iconv -f UTF-16 -t UTF-8` converts a file from Windows"),
-            (f"{HEADER}Müller,1,{PERIOD}\n".encode("cp1252"), "`iconv -f WINDOWS-1252 -t UTF-8` converts"),
+            ((HEADER + one).encode("utf-16-le"), "third of its bytes are zero, so it isn't UTF-8; use --encoding utf"),
+            ((HEADER + one).encode("utf-16-be"), "use --encoding utf-16-be"),
+            ((HEADER + one).encode("utf-16"), "isn't UTF-8; use --encoding utf-16"),
+            (f"{HEADER}Müller,1,{PERIOD}\n".encode("cp1252"), "--encoding cp1252 for 'Müller', or --encoding cp850"),
             ("\ufeff\ufeff" + HEADER + one, "not in the header: Name; it has '\\ufeffName'"),
             (f"Payroll 2024\n{HEADER}{one}", "it has 'Payroll 2024'"), (f"# export\n{HEADER}{one}", "'# export'"),
-            (f"{HEADER}A,4,50,{PERIOD}\n", "line 2: 5 fields, but the header has 4; put"),
+            (f"{HEADER}A,4,50,{PERIOD}\n", "line 2: 5 fields, and the header has 4; put"),
             (f"{HEADER}# half\n{one}", "line 2: 1 fields"), (f'{HEADER}"A,1,{PERIOD}\n{one}', "unexpected end"),
             (HEADER.replace(",", ";") + one, "line 2: 1 fields"), (f'{HEADER}"A\\"B",1,{PERIOD}\n', "expected after"),
         ]
@@ -37,7 +38,7 @@ class Refused(Case):
 
     def test_numbers_of_other_forms_are_refused(self) -> None:
         for number, part in [
-            ("5 k", "is k a multiple, or a sign?"), ("5 Mio.", "is Mio. a multiple"), ("5 CR", "is CR a multiple"),
+            ("5 k", "leave out the text around it"), ("5 Mio.", "has only 5"), ("5 CR", "has only 5"),
             ("1.2E3", "its digits are rounded off"), ("+5", "leave out the +"), ("1/2", "not a number"),
             ("٥", "not a number"), ("５", "not a number"), ("", "not a number"), ("-", "not a number"),
             ("--5", "not a number"),
@@ -62,18 +63,11 @@ class Refused(Case):
             self.loaded(f"load,pay\nrow,{PERIOD},A,{number}\nend\n", rows(f"A,{number},{PERIOD}"), *table)
 
     def test_a_file_as_a_column_is_refused_as_that(self) -> None:
-        self.refused(f"{__file__} is a file: give it by --file or `<`", rows(f"A,1,{PERIOD}"), *WORDS, __file__)
+        self.refused(f"{__file__} is a file: give it as the last word", rows(f"A,1,{PERIOD}"), *WORDS, __file__)
 
-    def test_a_unit_of_no_column_is_refused(self) -> None:
-        self.refused("--unit needs --decimals", rows(f"A,5 €,{PERIOD}"), *WORDS, "--unit", "€")
+    def test_a_decimal_mark_of_no_column_is_refused(self) -> None:
         words = [*WORDS, "--decimal-mark", ","]
         self.refused("--decimal-mark needs --decimals", rows(f"A,5,{PERIOD}"), *words)
-
-    def test_a_multiple_is_no_unit(self) -> None:
-        for unit in ("k€", "TEUR", "Mio.", "mn", "CR"):
-            with self.assertRaises(SystemExit), mock.patch("sys.stderr", Stream()) as said:
-                load(rows(f"A,5 {unit},{PERIOD}"), *CENTS, "--unit", unit)
-            self.assertIn(f"{unit}: a multiple or a sign, which can't be left out".encode(), said.bytes.getvalue())
 
     def test_points_of_other_forms_are_refused(self) -> None:
         for end, part in [
@@ -86,6 +80,44 @@ class Refused(Case):
         ]:
             with self.subTest(end):
                 self.refused(part, rows(f"A,1,2024-01-01,{end}"))
+
+
+class Files(Case):
+    def test_the_offered_encodings_read_the_file(self) -> None:
+        for name in ("cp1252", "cp850", "mac_roman", "utf-16", "utf-16-le"):
+            data = rows(f"Müller,1,{PERIOD}").encode(name)
+            _, [note] = load(data, *WORDS)
+            self.assertIn(f"--encoding {name}", note)
+            self.loaded(f"load,pay\nrow,{PERIOD},Müller,1\nend\n", data, *WORDS, "--encoding", name)
+        self.refused("byte 21 isn't ascii", rows(f"Müller,1,{PERIOD}"), *WORDS, "--encoding", "ascii")
+
+    def test_lines_before_the_header_are_skipped(self) -> None:
+        for title in ("Pay of 2024\n\n", "Pay, of\nall\n"):
+            text = title + rows(f"A,1,{PERIOD}", f"B,2,{PERIOD}", f"C,3,{PERIOD},")
+            self.refused("; the header seems to be line 3: use --skip 2", text, *WORDS)
+            self.refused("line 6: 5 fields, and the header has 4", text, *WORDS, "--skip", "2")
+
+    def test_the_last_word_may_be_the_file(self) -> None:
+        with tempfile.NamedTemporaryFile("w", suffix=".csv") as file:
+            file.write(rows(f"A,1,{PERIOD}"))
+            file.flush()
+            wanted = (0, f"load,pay\nrow,{PERIOD},A,1\nend\n", "")
+            self.assertEqual(run(["tools/csv-to-load", *WORDS, file.name]), wanted)
+
+    def test_a_forgotten_column_is_named(self) -> None:
+        part = "FROM and TO are columns too, and person=Name isn't: did you forget one?"
+        self.refused(part, rows(f"A,1,{PERIOD}"), "pay", "Start", "person=Name", "cents=Pay")
+
+
+class Advice(Case):
+    def test_an_option_that_is_given_is_not_advised(self) -> None:
+        for date, other in (("31.12.2024", "12/31/2024"), ("12/31/2024", "31/12/2024"), ("2024/12/31", "20241231")):
+            _, [note] = load(rows(f"A,1,{date},9999-12-31"), *WORDS, "--german", "--dates", other)
+            self.assertIn("write all dates of the file in one form", note)
+            self.assertNotIn("--", note)
+        for number, mark in (('"4.500,50"', "."), ("4500.50", ",")):
+            _, [note] = load(rows(f"A,{number},{PERIOD}"), *CENTS, "--decimal-mark", mark)
+            self.assertIn(f"and --decimal-mark says '{mark}': use one in the file", note)
 
 
 class Reported(Case):

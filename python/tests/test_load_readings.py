@@ -1,4 +1,4 @@
-"""Numbers and points that tools/csv-to-load reads, beside a reading of their characters that knows nothing of its own.
+"""Numbers and points that tools/csv-to-load reads, compared with a reading of their characters.
 
 Texts and words are drawn at random by hypothesis; TOOLS_EXAMPLES is how many of each.
 """
@@ -22,7 +22,7 @@ EXAMPLES = int(os.environ.get("TOOLS_EXAMPLES", "200"))
 # The same ones each time, unless many are wanted.
 DRAWN = settings(max_examples=EXAMPLES, deadline=None, database=None, derandomize=EXAMPLES <= 200)
 FIRST_DAY = datetime(1899, 12, 30)
-SPACES, UNITS = " \u00a0\u202f", ("€", "EUR", "Fr.", "%")
+SPACES, CURRENCIES = " \u00a0\u202f", ("€", "$", "EUR")
 DIGITS = "0123456789"
 
 
@@ -30,16 +30,22 @@ DIGITS = "0123456789"
 
 
 def words_of(words: Dict[str, str]) -> List[str]:
-    """The words of a command line; `yes` stands for one alone, and nothing for none."""
+    """Returns the words of a command line; `yes` is a flag, and an empty text leaves it out."""
     return [one for name, value in words.items() if value for one in ([name] if value == "yes" else [name, value])]
 
 
-def split_off(text: str, unit: str) -> str:
-    """The number of a text that has the unit before or behind it."""
+def without_currency(text: str) -> Tuple[str, str]:
+    """The number of a text that has a currency before or after it, and the currency."""
     sign, rest = ("-", text[1:]) if text[:1] == "-" else ("", text)
-    if text.endswith(unit):
-        return text[:len(text) - len(unit)].rstrip(SPACES)
-    return sign + rest[len(unit):].lstrip(SPACES) if rest.startswith(unit) else text
+    for one in CURRENCIES:
+        front, end = rest.startswith(one), rest.endswith(one)
+        number = rest[len(one):] if front else rest[:len(rest) - len(one)] if end else ""
+        if number[:1] in SPACES and front or number[-1:] in SPACES and end and not front:
+            number = number[1:] if front else number[:-1]
+        bare = number[1:] if front and number[:1] == "-" else number
+        if bare[:1] and bare[0] in DIGITS:
+            return sign + number, one
+    return text, ""
 
 
 def whole_of(text: str) -> Optional[str]:
@@ -53,7 +59,7 @@ def whole_of(text: str) -> Optional[str]:
 
 
 class Reading:
-    """What a text is where its decimals stand behind the mark: nothing, or digits before it and behind."""
+    """The reading of a text by its mark of decimals: nothing, or the digits before and after it."""
 
     def __init__(self, text: str, mark: str) -> None:
         self.is_below = text[:1] == "-"
@@ -62,7 +68,7 @@ class Reading:
         whole = whole_of(front) if marks <= set(",.'\u2019" + SPACES) - {mark} else None
         is_right = not found or (self.decimals and all(one in DIGITS for one in self.decimals))
         self.whole = whole if is_right else None
-        # A mark alone that could be of thousands and of decimals.
+        # A single mark could separate thousands or decimals.
         shown = text[self.is_below:]
         parts = shown.split("." if "." in shown else ",")
         self.is_marked = bool(set(shown) & set(".,"))
@@ -76,16 +82,13 @@ class Reading:
 
 
 def wanted_numbers(
-    texts: Sequence[str], mark: str, is_given: bool, digits: int, units: Sequence[str], bare_is: str = "",
+    texts: Sequence[str], mark: str, is_given: bool, digits: int, bare_is: str = "",
 ) -> List[str]:
-    """What the numbers become; nothing if one of them can't be read in one way only, or if they have two units."""
+    """What the numbers become; nothing if one of them can't be read in one way only, or if they have two currencies."""
     made, readings, found = [], [], set()
     for text in texts:
-        bare = text.strip(SPACES)
-        # A unit is taken off once.
-        unit = next((unit for unit in units if split_off(bare, unit) != bare), "")
-        found |= {unit} - {""}
-        bare = split_off(bare, unit) if unit else bare
+        bare, currency = without_currency(text.strip(SPACES))
+        found |= {currency} - {""}
         reading = Reading(bare.strip(SPACES), mark)
         if reading.whole is None:
             return []
@@ -130,17 +133,17 @@ NUMBER_WORDS = st.builds(
 
 class Numbers(unittest.TestCase):
     @DRAWN
-    @given(NUMBERS, NUMBER_WORDS, st.integers(0, 4), st.lists(st.sampled_from(UNITS)))
+    @given(NUMBERS, NUMBER_WORDS, st.integers(0, 4))
     def test_a_number_is_loaded_as_it_is_read_or_refused(
-        self, texts: List[str], words: Dict[str, str], digits: int, units: List[str],
+        self, texts: List[str], words: Dict[str, str], digits: int,
     ) -> None:
         file = io.StringIO(newline="")
         csv.writer(file).writerows([text, "2024-01-01", "2024-03-05"] for text in ["Pay", *texts])
         text = file.getvalue().replace("Pay,2024-01-01,2024-03-05", "Pay,Start,End", 1)
-        more = [*words_of(words), *(word for unit in units for word in ("--unit", unit))]
-        printed, notes = load(text, "pay", "Start", "End", "Pay", "--decimals", f"Pay={digits}", *more)
+        more = ["--decimals", f"Pay={digits}", *words_of(words)]
+        printed, notes = load(text, "pay", "Start", "End", "Pay", *more)
         mark = words["--decimal-mark"] or ("," if words["--german"] else ".")
-        wanted = wanted_numbers(texts, mark, bool(words["--decimal-mark"]), digits, units, words["--bare"])
+        wanted = wanted_numbers(texts, mark, bool(words["--decimal-mark"]), digits, words["--bare"])
         self.assertEqual([row[3] for row in csv.reader(io.StringIO(printed)) if row[0] == "row"], wanted)
         self.assertTrue(wanted or notes)
 
@@ -149,7 +152,7 @@ class Numbers(unittest.TestCase):
 
 
 def fields_of(text: str, mark: str, widths: Sequence[Tuple[int, int]]) -> Optional[List[int]]:
-    """The numbers between marks, each of so many digits."""
+    """Returns the numbers between marks, by their digits."""
     parts = text.split(mark)
     if len(parts) != len(widths) or not all(part and all(one in DIGITS for one in part) for part in parts):
         return None
@@ -173,7 +176,7 @@ def day_of(text: str, form: str) -> Optional[Tuple[int, int, int]]:
     return (numbers["2024"], numbers["12"], numbers["31"]) if numbers else None
 
 
-def time_of(text: str, is_cut: bool, is_own: bool) -> Optional[int]:
+def time_of(text: str, is_own: bool) -> Optional[int]:
     """The second of the day; a point's own form has two digits of an hour, seconds and 24 hours."""
     half = ""
     plain = text.rstrip(".").lower().replace(".m", "m")
@@ -184,7 +187,7 @@ def time_of(text: str, is_cut: bool, is_own: bool) -> Optional[int]:
     clock, mark, part = text.replace(",", ".").partition(".")
     if mark and not (part and all(one in DIGITS for one in part) and clock.count(":") == 2):
         return None
-    if mark and not is_cut and (is_own or set(part) != {"0"}):
+    if mark and (is_own or set(part) != {"0"}):
         return None
     hours = (2, 2) if is_own else (1, 2)
     found = fields_of(clock, ":", [hours, (2, 2), (2, 2)])
@@ -198,7 +201,7 @@ def time_of(text: str, is_cut: bool, is_own: bool) -> Optional[int]:
     return hour * 3600 + minute * 60 + second
 
 
-def read_in(text: str, form: str, is_cut: bool) -> Optional[datetime]:
+def read_in(text: str, form: str) -> Optional[datetime]:
     if form == "45657":
         days, _, part = text.replace(",", ".").partition(".")
         is_right = len(days) == 5 and all(one in DIGITS for one in days + part) and not text.endswith((".", ","))
@@ -210,7 +213,7 @@ def read_in(text: str, form: str, is_cut: bool) -> Optional[datetime]:
     marks = "T" if is_own else " T"
     place = next((at for at, one in enumerate(text) if one in marks), None) if has_time else None
     day = day_of(text[:place], "iso" if form in ("own", "2024-12-31 00:00:00") else form)
-    time = 0 if place is None else time_of(text[place + 1:], is_cut, is_own)
+    time = 0 if place is None else time_of(text[place + 1:], is_own)
     if day is None or time is None:
         return None
     try:
@@ -219,9 +222,9 @@ def read_in(text: str, form: str, is_cut: bool) -> Optional[datetime]:
         return None
 
 
-def point_of(text: str, form: Optional[str], is_cut: bool) -> Optional[datetime]:
+def point_of(text: str, form: Optional[str]) -> Optional[datetime]:
     text = text.strip(SPACES)
-    return read_in(text, "own", is_cut) or (read_in(text, form, is_cut) if form else None)
+    return read_in(text, "own") or (read_in(text, form) if form else None)
 
 
 def shown(point: datetime) -> str:
@@ -231,8 +234,8 @@ def shown(point: datetime) -> str:
 
 def wanted_row(start: str, end: str, form: Optional[str], words: Dict[str, str]) -> Optional[List[str]]:
     """The start and the end of a row, or nothing where it is refused."""
-    is_cut, is_last = "--whole-seconds" in words, "--last-day" in words
-    first, last = point_of(start, form, is_cut), point_of(end, form, is_cut)
+    is_last = "--last-day" in words
+    first, last = point_of(start, form), point_of(end, form)
     bare = end.strip(SPACES)
     if bare and bare == words["--no-end"] or (not bare and "--open" in words):
         last = datetime(9999, 12, 31)
@@ -247,7 +250,7 @@ def wanted_row(start: str, end: str, form: Optional[str], words: Dict[str, str])
     return [shown(first), shown(last)] if first and last and first < last else None
 
 
-# The forms, as the clock writes a day of them.
+# The forms of dates for strftime.
 FORMS = {
     "31.12.2024": "%d.%m.%Y", "31/12/2024": "%d/%m/%Y", "12/31/2024": "%m/%d/%Y", "12.31.2024": "%m.%d.%Y",
     "31-12-2024": "%d-%m-%Y", "12-31-2024": "%m-%d-%Y", "2024/12/31": "%Y/%m/%d",
@@ -279,10 +282,10 @@ def files(draw: st.DrawFn) -> Tuple[List[List[str]], Dict[str, str]]:
     odd = st.sampled_from(["", "NULL", " ", "45657.", "2024-02-30", "24:00", " 2024-12-31 "])
     text = st.one_of(own, own, own, own, own, other, odd, st.text("0123/.-: TAPMapm", max_size=12))
     pairs = draw(st.lists(st.tuples(own | text, own | text), min_size=1, max_size=2))
-    flags = draw(st.sets(st.sampled_from(["--german", "--whole-seconds", "--last-day", "--open"])))
+    flags = draw(st.sets(st.sampled_from(["--german", "--last-day", "--open"])))
     no_end = draw(st.sampled_from(["", "NULL", "9999-12-30"]))
     # Most rows start before they end.
-    rows = [sorted(pair, key=lambda one: point_of(one, form, True) or datetime.max) for pair in pairs]
+    rows = [sorted(pair, key=lambda one: point_of(one, form) or datetime.max) for pair in pairs]
     return rows, {**{"--dates": form, "--no-end": no_end}, **dict.fromkeys(flags, "yes")}
 
 
@@ -303,7 +306,7 @@ class Points(unittest.TestCase):
     @DRAWN
     @given(st.lists(POINTS, min_size=2, max_size=6), st.sampled_from(["31/12/2024", "12/31/2024", "31-12-2024"]))
     def test_dates_that_are_as_good_the_other_way_round_are_reported(self, points: List[datetime], form: str) -> None:
-        """Silent are dates of which one has no other reading, or whose months are twice as many as by that."""
+        """No report is made if a date has no other reading, or if the months are twice the number by it."""
         pattern = FORMS[form]
         lines = [f"A{place},{point.strftime(pattern)},9999-12-31\n" for place, point in enumerate(points)]
         _, notes = load("".join(["Pay,Start,End\n", *lines]), "pay", "Start", "End", "Pay", "--dates", form)

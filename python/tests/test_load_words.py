@@ -1,4 +1,4 @@
-"""The words of tools/csv-to-load, and what is printed and reported beside its status."""
+"""The words of tools/csv-to-load, its output, its reports and its status."""
 import unittest
 
 from tests.support import ToolCase
@@ -39,7 +39,7 @@ class Loads(ToolCase):
 
     def test_an_option_of_one_value_stands_once_and_is_not_empty(self) -> None:
         for option, value in [
-            ("--file", "a.csv"), ("--sheet", "2024"), ("--part", "1/2"), ("--table", "a"), ("--check", "-"),
+            ("--file", "a.csv"), ("--sheet", "2024"), ("--table", "a"), ("--check", "-"),
             ("--dates", "31/12/2024"), ("--decimal-mark", ","),
         ]:
             twice = [*LOADS, option, value, f"{option}={value}"]
@@ -86,7 +86,7 @@ class Loads(ToolCase):
         self.check(LOADS, stray, 1, "csv-to-load: line 2: ';' expected after '\"'")
         self.check(LOADS, stray.replace('" G', ""), 1, "csv-to-load: line 2: unexpected end of data")
         taken = CSV.format("5", "2024-01-01", "2024-02-01") + BROKEN
-        self.check(LOADS, taken, 1, "csv-to-load: line 3: a field in quotes continues to line 4; ")
+        self.check(LOADS, taken, 1, "csv-to-load: line 3: a field in quotes continues to line 4: is a quote ")
 
     def test_ends_that_look_otherwise_are_reported(self) -> None:
         once = "Name;Pay;Start;End\nA;5;{};{}\n"
@@ -108,15 +108,13 @@ class Loads(ToolCase):
         self.check(
             LOADS, "Name;Pay;Start;End\n", 0, "csv-to-load: no row follows the header, so the load has none\n",
         )
-        self.check(LOADS, "\n", 1, "csv-to-load: there is no header: the file has nothing but empty lines\n")
+        self.check(LOADS, "\n", 1, "csv-to-load: the file has no header, just empty lines\n")
 
-    def test_line_breaks_stand_in_quotes_where_that_is_wanted(self) -> None:
-        taken = CSV.format("5", "2024-01-01", "2024-02-01") + BROKEN
+    def test_a_field_too_many_is_refused(self) -> None:
         self.check(
             LOADS, "Name,Pay,Start,End\nHill, G,5,2024-01-01,2024-03-05\n", 1,
-            "line 2: 5 fields, but the header has 4; ",
+            "line 2: 5 fields, and the header has 4; ",
         )
-        self.check([*LOADS, "--line-breaks"], taken, 0, '"By;6;2024-01-01;2024-02-01\nBy",7\n')
 
 
 if __name__ == "__main__":

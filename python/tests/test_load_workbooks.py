@@ -1,4 +1,4 @@
-"""Workbooks of Excel that tools/csv-to-load reads, beside the values that were put into them."""
+"""Workbooks of Excel that tools/csv-to-load reads, compared with the values that were put into them."""
 import csv
 import importlib.util
 import io
@@ -40,7 +40,7 @@ class Row(NamedTuple):
 
     @property
     def values(self) -> List[Any]:
-        """What is put into cells. A day is a date, and cents are a number with decimals."""
+        """Returns the cells' values: a day is a date, and cents are a number with decimals."""
         return [self.start, self.end, self.text, self.whole, self.cents / 100]
 
     @property
@@ -73,7 +73,7 @@ def workbook(sheets: Dict[str, Sequence[Sequence[Any]]]) -> bytes:
 
 
 def computed(data: bytes, value: str, kind: str = "n") -> bytes:
-    """The workbook with a value of a kind behind each formula, which openpyxl doesn't write."""
+    """Returns the workbook with a saved value after each formula, which openpyxl doesn't write."""
     made = io.BytesIO()
     with zipfile.ZipFile(io.BytesIO(data)) as old, zipfile.ZipFile(made, "w") as new:
         for name in old.namelist():
@@ -96,7 +96,7 @@ HEADER = ["From", "To", "Text", "Whole", "Cents"]
 VALUES = ["Text", "Whole", "Cents", "--decimals", "Cents=2"]
 
 
-@unittest.skipUnless(importlib.util.find_spec("openpyxl"), "openpyxl, by which workbooks are read")
+@unittest.skipUnless(importlib.util.find_spec("openpyxl"), "openpyxl, which reads workbooks")
 class Workbooks(ToolCase):
     @DRAWN
     @given(ROWS, st.sampled_from([[], ["--german"], ["--decimal-mark", ","]]), st.integers(0, 2))
@@ -192,7 +192,7 @@ class Workbooks(ToolCase):
         book.save(data)
         status, text, said = loaded(data.getvalue(), ["Dept"])
         self.assertEqual((status, text.count(",A\n"), text.count(",\n")), (0, 1, 1))
-        self.assertIn("the sheet: merged cells at C2:C3, of which only the first has the value; the others are", said)
+        self.assertIn("the sheet: merged cells at C2:C3, and only the first has the value; the others are", said)
 
     def test_of_several_sheets_one_is_named(self) -> None:
         row = [date(2024, 1, 1), date(2024, 2, 1), "x"]
@@ -210,7 +210,7 @@ class Workbooks(ToolCase):
         self.assertIn("an old spreadsheet workbook, not a CSV file: save it", loaded(b"\xd0\xcf\x11\xe0", ["Name"])[2])
 
     def test_a_sheet_without_rows_has_no_header(self) -> None:
-        self.assertIn("there is no header: the file has nothing but empty lines", loaded(workbook({"A": []}), ["N"])[2])
+        self.assertIn("the file has no header, just empty lines", loaded(workbook({"A": []}), ["N"])[2])
         self.assertIn("not in the header: N", loaded(workbook({"A": [["From", "To"]]}), ["N"])[2])
 
 

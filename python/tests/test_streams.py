@@ -1,6 +1,7 @@
 """The tools as a shell runs them: with closed streams, on a full disk, and ended by Ctrl-C."""
 import os
 import pty
+import re
 import signal
 import subprocess
 import sys
@@ -20,7 +21,7 @@ LOADED = "load,pay\nrow,2024-01-01,2024-03-05, Hill\nend\n"
 
 
 def run(command: str, given: str = CSV) -> Tuple[int, str, str]:
-    """The status of a command of a shell, what it prints and what it says."""
+    """Returns the status of a shell's command, and its standard output and error."""
     ran = subprocess.run(["bash", "-c", command], cwd=TOP, input=given, capture_output=True, text=True)
     return ran.returncode, ran.stdout, ran.stderr
 
@@ -70,7 +71,7 @@ class ClosedStreams(unittest.TestCase):
                     self.assertEqual((status, said.partition(": ")[2]), (1, "File too large\n"))
 
 
-# What acts on a terminal, can't be seen, or turns what stands behind it.
+# Characters that act on a terminal, can't be seen, or turn the text after them.
 ACTING = 'A\x1b[2J\x07\r\x9b1m\u202e\u3164\n3,2024-01-01,B'
 CODES = r"A\x1b[2J\x07\r\x9b1m\u202e\u3164\n3,2024-01-01,B"
 ROW = f'2024-01-01,2024-02-01,"{ACTING}"'
@@ -98,17 +99,19 @@ class Terminals(unittest.TestCase):
         for tool, more in [
             ("list", ""), ("refusals", ""), ("csv", "--go-on"), ("csv", ""), ("json", "--go-on"),
             ("sqlite", ":memory: 3=t --go-on --query 'select substr(a, 1, 1) || char(27) as c from t'"),
-            ("picture", "--go-on"), ("picture", "--svg --go-on"), ("history", "t --go-on"), ("only", "t 1 --go-on"),
+            ("picture", "--go-on"), ("history", "t --go-on"),
             ("changed", "3 3 --go-on"), ("overlaps", "a --of 3 --go-on"), ("csv", "$'\\e[2J'"),
             ("csv", "--go-on --ask $'rows,\\e[2J'"), ("history", "t --where $'\\e[2J'"), ("csv", "--go-on $'\\e'=1"),
         ]:
             with self.subTest(f"{tool} {more}"):
-                for line in on_terminal(self.words(tool, more)).split(b"\n"):
+                # A slow machine shows for a moment how far the tool is.
+                shown = re.sub(rb"\r[^\r\n]*\x1b\[K", b"", on_terminal(self.words(tool, more)))
+                for line in shown.replace(b"\r\x1b[K", b"").split(b"\n"):
                     self.assertTrue(line.decode().isprintable(), line)
 
     def test_what_is_there_is_shown_by_codes(self) -> None:
         wanted = f'row_id,valid_from,valid_to,a\n1,2024-01-01,2024-02-01,"{CODES}"\n'
-        self.assertEqual(on_terminal(self.words("csv", "--go-on")).decode(), wanted)
+        self.assertEqual(on_terminal(f"{self.words('csv', '--go-on')} 2>/dev/null").decode(), wanted)
 
     def test_in_a_pipe_bytes_stay_as_they_are(self) -> None:
         ran = subprocess.run(["bash", "-c", self.words("csv", "--go-on")], cwd=TOP, capture_output=True)
@@ -139,7 +142,7 @@ def on_terminal(command: str) -> bytes:
 
 
 class Files(unittest.TestCase):
-    """Files that the tools write, and those that they read and leave."""
+    """Files that the tools write, or only read."""
 
     def test_where_there_is_no_more_room_no_file_is_left(self) -> None:
         """A short script has a long answer, and the program itself may write all of it."""
@@ -150,7 +153,7 @@ class Files(unittest.TestCase):
             Path(folder, "a").write_text(f"#!/bin/sh\nulimit -S -f unlimited\nexec {PROGRAM}\n")
             Path(folder, "a").chmod(0o700)
             for words in (f"csv {folder}/s --folder {folder}/out", f"sqlite {folder}/s {folder}/z.db"):
-                status, _, said = run(f"ulimit -S -f 64; {ANSWERS} {words} --program {folder}/a")
+                status, _, said = run(f"ulimit -S -f 64; DIPQ={folder}/a {ANSWERS} {words}")
                 self.assertEqual((status, said.count("\n"), said[:9]), (1, 1, "answers: "), said)
             left = sorted(str(file.relative_to(folder)) for file in Path(folder).rglob("*"))
             self.assertEqual(left, ["a", "out", "s"])
@@ -161,13 +164,17 @@ class Files(unittest.TestCase):
         with tempfile.TemporaryDirectory() as folder:
             for words in [
                 *[f"sqlite {script} {folder}/z.db 4=a"] * 2, f"sqlite {script} : --day x",
-                f"csv {script} --folder {folder}", f"list {script} --program /none", f"list {script} --program /etc",
-                f"list {script} --program /bin/false", f"csv {script} --ask '\"'", f"sqlite {script} {folder} 4=a",
+                f"csv {script} --folder {folder}", f"list {script}",
+                f"csv {script} --ask '\"'", f"sqlite {script} {folder} 4=a",
                 f"page {script}", f"csv {script} 99", f"sqlite {script} {folder}/y.db --query 'select x'",
             ]:
                 with self.subTest(words):
-                    answered = "" if "--program" in words or "--ask" in words else f" --answers {script}.stdout"
+                    answered = "" if "--ask" in words else f" --answers {script}.stdout"
                     _, _, said = run(f"{strict} {words}{answered}")
+                    self.assertNotRegex(said, "ResourceWarning|Traceback|DeprecationWarning")
+            for program in ("/none", "/etc", "/bin/false"):
+                with self.subTest(program):
+                    _, _, said = run(f"DIPQ={program} {strict} list {script}")
                     self.assertNotRegex(said, "ResourceWarning|Traceback|DeprecationWarning")
 
 

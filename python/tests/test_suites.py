@@ -1,4 +1,4 @@
-"""The tests themselves: a warning is an error in them, what is left out says why, and unittest finds all of them."""
+"""The tests themselves: a warning is an error, a test that is left out says why, and unittest finds all of them."""
 import os
 import subprocess
 import sys

@@ -9,8 +9,6 @@ from manual.numpydoc import Docstring, Entry
 
 WIDTH = 110
 NO_CALLS = ("frames", "__version__")
-# Methods of a store that its own modules call.
-INNER = ("accept", "asked", "change", "known", "seen", "settled")
 HEAD = [
     "# API", "",
     "For who calls `ruzgalt` from Python: what it offers, call by call. [FRAMES](FRAMES.md) is the page to read first: "
@@ -46,7 +44,7 @@ def methods(name: str, subject: type) -> Iterator[Tuple[str, Any]]:
     bases = [base for base in inspect.getmro(subject) if base.__module__.startswith("ruzgalt.")]
     for word, one in (pair for base in bases for pair in vars(base).items()):
         is_method = inspect.isfunction(one) or isinstance(one, (classmethod, property))
-        if is_method and not word.startswith("_") and word not in INNER:
+        if is_method and not word.startswith("_"):
             yield f"{name}.{word}", one if isinstance(one, property) else getattr(subject, word)
 
 

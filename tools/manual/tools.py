@@ -3,11 +3,11 @@ from argparse import Action, ArgumentParser
 from typing import Iterable, Iterator, List, Sequence
 
 from manual.roff import exact, inline, item, opening, paragraph, prose, section, verbatim
-from ruzgalt.answers import picks
-from ruzgalt.commands import answers_tool, load_tool
+from ruzgalt.report import picks
+from ruzgalt.cli import answers as answers_tool, load as load_tool
 
 # The words that each command of dipq-answers takes are described once.
-SHARED = ("script", "help", "program", "answers", "ask", "go_on")
+SHARED = ("script", "help", "answers", "ask", "go_on")
 IN_A_REPOSITORY = "In a repository of Ruzgalt, and in its documents, the command is {}."
 SEE_ALSO = (
     r"\fBdipq\fR(1), {}. In the repository of Ruzgalt, and in /usr/share/doc/dipq where its package is installed: "
@@ -15,10 +15,9 @@ SEE_ALSO = (
 )
 DIPQ = "The program that answers scripts. By default it is the dipq that is installed beside the tool."
 ANSWERS_STATUS = [
-    ("0", "Nothing was refused; for `front`, nothing differs."),
+    ("0", "Nothing was refused."),
     ("1", "Something isn't understood, or a command was refused; with `--go-on` refused commands count only for "
-     "`refusals`, and refused questions of `--ask` always. For `front`, something differs; for `faulty`, a row is at "
-     "fault."),
+     "`refusals`, and refused questions of `--ask` always."),
     ("2", "The arguments are wrong."),
 ]
 LOAD_STATUS = [
@@ -38,7 +37,7 @@ ANSWERS_EXAMPLES = [
      "dipq-answers months pay.csv --ask rows,pay --sum cents --per month --by person --to 2024-12-31 \\\n"
      "    --decimals cents=2 --last-day\n"
      "dipq-answers raise pay.csv pay cents --percent 2.5 --from 2025-01-01 --round half-up --dry-run"),
-    ("The last division of a script as a picture for a browser:", "dipq-answers picture posts.csv --svg > posts.svg"),
+    ("The last division of a script as a picture for a browser:", "dipq-answers picture posts.csv > posts.svg"),
 ]
 LOAD_EXAMPLES = [
     ("A German file, whose last column with a date is the last day of a row, or empty:",

@@ -73,7 +73,7 @@ def spread(frame: Frame, column: Any, *, amount: Optional[str] = None, each: str
     points_as : str, optional
         ns, us, ms, s, D, S, date or datetime: the answer's points, where not as they came in.
     workers : int, default 4
-        Threads of the program, 1 to 64.
+        Calls of the library at once, 1 to 64. Rows of different values, or groups, are dealt to them.
     parts : int, optional
         Of Dask, how many partitions the answer has, where not as many as the frame.
     progress : bool, optional
@@ -93,7 +93,7 @@ def spread(frame: Frame, column: Any, *, amount: Optional[str] = None, each: str
         If `amount` or another option is missing or wrong, the frame can't be taken, or a value would be lost or
         changed; if a row has no end, and `within` has none or the amount is in total; and if times have a time zone.
     Stopped
-        If the program ended without all answers.
+        If the library is missing, or memory runs out.
 
     Warns
     -----

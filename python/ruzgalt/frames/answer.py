@@ -57,7 +57,9 @@ def beside(own: Iterable[Column], sides: Iterable[Iterable[Column]], suffixes: I
 
 
 def frame_of(names: Sequence[Any], cells: Sequence[Any]) -> Any:
-    made = pd.DataFrame(dict(enumerate(cells)))
+    # pandas aligns each Series, but would look for dates in an array of objects. No other frame has these cells.
+    arrays = [one.array if isinstance(one, pd.Series) and one.dtype != object else one for one in cells]
+    made = pd.DataFrame(dict(enumerate(arrays)), pd.RangeIndex(len(cells[0]) if cells else 0), copy=False)
     made.columns = index_of(names)
     return made
 
@@ -65,5 +67,7 @@ def frame_of(names: Sequence[Any], cells: Sequence[Any]) -> Any:
 def index_of(names: Sequence[Any]) -> Any:
     """The names as they are: of 1 and None pandas makes 1.0 and NaN."""
     index = pd.Index(names)
+    if all(type(name) is str for name in names):
+        return index
     is_kept = list(map(repr, index)) == list(map(repr, names))
     return index if is_kept else pd.Index(names, dtype=object, tupleize_cols=False)

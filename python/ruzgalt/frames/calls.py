@@ -87,7 +87,7 @@ def join(left: Any, right: Any, on: Names = None, *, left_on: Names = None, righ
     points_as : str, optional
         ns, us, ms, s, D, S, date or datetime: the answer's points, where not as they came in.
     workers : int, default 4
-        Threads of the program, 1 to 64.
+        Calls of the library at once, 1 to 64. Rows of different values, or groups, are dealt to them.
     parts : int, optional
         Of Dask, how many partitions the answer has, where not as many as the larger frame.
     progress : bool, optional
@@ -108,7 +108,7 @@ def join(left: Any, right: Any, on: Names = None, *, left_on: Names = None, righ
     Refused
         If a frame or an option can't be taken, or a value would be lost or changed.
     Stopped
-        If the program ended without all answers.
+        If the library is missing, or memory runs out.
 
     Warns
     -----
@@ -200,7 +200,7 @@ def anti(left: Any, right: Any, on: Names = None, *, left_on: Names = None, righ
     points_as : str, optional
         ns, us, ms, s, D, S, date or datetime: the answer's points, where not as they came in.
     workers : int, default 4
-        Threads of the program, 1 to 64.
+        Calls of the library at once, 1 to 64. Rows of different values, or groups, are dealt to them.
     parts : int, optional
         Of Dask, how many partitions the answer has, where not as many as the larger frame.
     progress : bool, optional
@@ -219,7 +219,7 @@ def anti(left: Any, right: Any, on: Names = None, *, left_on: Names = None, righ
     Refused
         If a frame or an option can't be taken, or a value would be lost or changed.
     Stopped
-        If the program ended without all answers.
+        If the library is missing, or memory runs out.
 
     Warns
     -----
@@ -292,7 +292,7 @@ def agg(frame: Any, function: Functions, column: Any = None, *, by: Names = None
     points_as : str, optional
         ns, us, ms, s, D, S, date or datetime: the answer's points, where not as they came in.
     workers : int, default 4
-        Threads of the program, 1 to 64.
+        Calls of the library at once, 1 to 64. Rows of different values, or groups, are dealt to them.
     parts : int, optional
         Of Dask, how many partitions the answer has, where not as many as the frame.
     progress : bool, optional
@@ -313,7 +313,7 @@ def agg(frame: Any, function: Functions, column: Any = None, *, by: Names = None
     Refused
         If the frame or an option can't be taken, or a value would be lost or changed.
     Stopped
-        If the program ended without all answers.
+        If the library is missing, or memory runs out.
 
     Warns
     -----
@@ -373,7 +373,7 @@ def dip(frame: pd.DataFrame, by: Names = None, *, period: PeriodNames = PERIOD, 
     decimals : dict, optional
         How many decimals are compared of a column of floats or Decimals, as `{"hours": 2}`.
     workers : int, default 4
-        Threads of the program, 1 to 64.
+        Calls of the library at once, 1 to 64. Rows of different values, or groups, are dealt to them.
     progress : bool, optional
         Whether standard error shows how far the call is, after two seconds. The default is True on a terminal, but
         False with Dask. True is also for notebooks and pipes, and counts the partitions that this process computes.
@@ -390,7 +390,7 @@ def dip(frame: pd.DataFrame, by: Names = None, *, period: PeriodNames = PERIOD, 
     Refused
         If the frame or an option can't be taken, as a frame of Dask, or a value would be lost or changed.
     Stopped
-        If the program ended without all answers.
+        If the library is missing, or memory runs out.
 
     Warns
     -----

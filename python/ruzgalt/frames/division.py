@@ -1,24 +1,22 @@
 """A division: of a frame of pandas by dip, and what one is, of a store's table too."""
 from __future__ import annotations
 
-from dataclasses import dataclass, replace
-from typing import Any, Generic, Iterator, List, Optional, Sequence, TypeVar
+from dataclasses import dataclass
+from typing import Any, Generic, Iterator, TypeVar
 
 import numpy as np
 import pandas as pd
 
-from ruzgalt.frames import ask, doubts, groups, instants, points, script, sides, split
-from ruzgalt.frames.arrays import Ints
+from ruzgalt.frames import ask, doubts, groups, points, sides, split
 from ruzgalt.frames.errors import Refused
 from ruzgalt.frames.kinds import Kind
 from ruzgalt.frames.named import with_levels
 from ruzgalt.frames.options import Options
-from ruzgalt.frames.output import Output, reading
-from ruzgalt.frames.sides import Side
-from ruzgalt.script import forms
+from ruzgalt.kernel import library, threads
+from ruzgalt.kernel.library import Rows
 
-# So many tables a run has, and of so many groups each is shown.
-TABLES, SHOWN = 64, 10
+# That many groups are shown.
+SHOWN = 10
 OTHERWISE = "agg(frame, 'count') has the number of parts, its greatest count, and the instant, at which that begins"
 REMEDY = "its parts are division.parts, as in frame.assign(part=division.parts)"
 OPERATIONS = """eq ne lt le gt ge add radd sub rsub mul rmul truediv rtruediv floordiv rfloordiv mod rmod pow rpow
@@ -116,85 +114,32 @@ def dip(frame: Any, options: Options) -> Division[Any]:
     side = sides.side_of(frame, [], options.period, options.form, {})
     doubts.of_decimals(options.decimals, frame)
     doubts.of_ends(side, [], options.period[-1], options.form.has_last_days)
-    if not split.means_of(options.workers).fits([side]):
-        limit = f"{len(side):,} rows, but a table can have {split.ROWS:,}, and a division can't be made in batches"
-        raise Refused("Full", f"{limit}: {OTHERWISE}")
-    parts = np.zeros(len(side), np.int64)
-    [record] = divided(side, [np.arange(len(side))], parts, options.workers)
-    return division_of(pd.Series(parts, frame.index, name="part"), record, side.kind)
+    refuse_many(len(side), "a frame")
+    part, count, second = ask.answer(library.dip, side.start, side.end)
+    instant = None if second is None else point_of(second, side.kind)
+    return Division(pd.Series(part.astype(np.int64), frame.index, name="part"), count, instant)
 
 
 def dip_by(frame: Any, options: Options) -> Division[Any]:
-    """Of each group by itself: a run divides as many groups as it may have tables."""
+    """Of each group by itself."""
     frame = with_levels(frame, options.by or ())
     side = groups.side_of(frame, [], options)
     groups.warn(frame, side, options)
     codes, firsts = groups.group_codes(side, len(options.by or ()))
-    order = np.argsort(codes.codes, kind="stable")
-    rows = np.split(order, np.flatnonzero(np.diff(codes.codes[order])) + 1) if len(order) else []
-    parts, records = np.zeros(len(side), np.int64), []
-    for batch in batches(rows, split.means_of(options.workers).cap_of([side])):
-        records += divided(side, batch, parts, options.workers)
-    index = groups.index_at(frame, options.by or (), firsts[:len(rows)])
-    seconds = np.array([instants.second_of(one[3]) for one in records], np.int64)
-    count = pd.Series([int(one[2]) for one in records], index, dtype="int64", name="count")
-    series = pd.Series(parts, frame.index, name="part")
-    return Division(series, count, points.series_of(seconds, side.kind, index).rename("instant"))
+    refuse_many(int(np.bincount(codes.codes).max(initial=0)), "a group")
+    part, counts, seconds = ask.answer(threads.dips, Rows(codes.codes, side.start, side.end), options.workers)
+    index = groups.index_at(frame, options.by or (), firsts)
+    count = pd.Series(counts, index, name="count")
+    instant = points.series_of(seconds, side.kind, index).rename("instant")
+    return Division(pd.Series(part, frame.index, name="part"), count, instant)
 
 
-def batches(rows: Sequence[Ints], cap: int) -> Iterator[List[Ints]]:
-    """The rows of groups, as many groups at a time as a run takes. Raises Refused (Full)."""
-    batch: List[Ints] = []
-    for one in rows:
-        if len(one) > cap:
-            reason = f"a group of {len(one):,} rows, but a run takes {cap:,}, and a division can't be made in batches"
-            raise Refused("Full", f"{reason}: {OTHERWISE}")
-        if len(batch) == TABLES or sum(map(len, batch)) + len(one) > cap:
-            yield batch
-            batch = []
-        batch.append(one)
-    if batch:
-        yield batch
+def refuse_many(rows: int, what: str) -> None:
+    if rows > split.ROWS:
+        reason = f"{what} of {rows:,} rows, but a division takes {split.ROWS:,}, and can't be made in parts"
+        raise Refused("Full", f"{reason}: {OTHERWISE}")
 
 
-def divided(side: Side, batch: Sequence[Ints], parts: Ints, workers: int) -> List[Sequence[str]]:
-    """The records of the divisions of these rows, each of which gets the number of its part."""
-    names = [f"t{place}" for place, _ in enumerate(batch)]
-    tables = [replace(side, columns=[]).take(rows) for rows in batch]
-    loads = [one for name, rows in zip(names, tables) for one in (script.make(name, [], []), script.load(name, rows))]
-    asked = [script.command("dip", name) for name in names]
-    output = ask.output_of([*loads, *asked], workers)
-    found = ask.first_refused(output, loads)
-    if found is not None:
-        raise ask.refusal(loads[found[0]], found[1])
-    return [part_of(command, output, rows, parts) for command, rows in zip(asked, tables)]
-
-
-def part_of(command: script.Command, output: Output, rows: Side, parts: Ints) -> Sequence[str]:
-    """The record that begins a division, whose parts are written at the rows' places."""
-    record = output.record()
-    if record[0] != "dip":
-        raise ask.refusal(command, record)
-    with reading():
-        for part in range(int(record[2])):
-            parts[rows.places[ask.rows_of(rows, ids_of(output))]] = part
-    return record
-
-
-def ids_of(output: Output) -> Ints:
-    """The rows of the next part."""
-    return np.array(output.record()[2:], np.int64)
-
-
-def division_of(parts: Any, record: Sequence[str], kind: Kind) -> Division[Any]:
-    """Of the record that begins an answer to `dip`, for rows whose points are of this kind."""
-    return Division(parts, int(record[2]), instant_of(record[3], kind))
-
-
-def instant_of(text: str, kind: Kind) -> Optional[Any]:
-    """A point of the kind; None of a dash. It is some row's start, so each kind has it that has these."""
-    point = forms.read_point(text)
-    if point is None:
-        return None
-    second = round((point - points.EPOCH).total_seconds())
+def point_of(second: int, kind: Kind) -> Any:
+    """A point of the kind. It is some row's start, so the kind of these has it."""
     return points.series_of(np.array([second]), kind).iloc[0]

@@ -5,12 +5,12 @@ rows some, with all of a key; so of a million rows it takes less than a tenth of
 """
 from __future__ import annotations
 
-from typing import Any, Collection, Iterable, List, Mapping, Sequence, Set, Tuple
+from typing import Any, Collection, Dict, Iterable, List, Mapping, Sequence, Tuple
 
 import numpy as np
 
-from ruzgalt.checking.doubts import Ends
-from ruzgalt.checking.looks import NO_VALUES, LookAlikes, fold
+from ruzgalt.lint.rows import Ends
+from ruzgalt.lint.texts import NO_VALUES, folds
 from ruzgalt.frames import instants, points, zones
 from ruzgalt.frames.arrays import Ints
 from ruzgalt.frames.errors import doubt
@@ -57,16 +57,15 @@ def of_keys(left: Sequence[Values], right: Sequence[Values]) -> None:
 
 def strangers(left: Sequence[str], right: Sequence[str]) -> List[Tuple[str, str]]:
     """Pairs of a left and a right text that look alike, of which one is on its side alone."""
-    lefts, rights = set(left), set(right)
-    found = alike(left, rights, right) if lefts - rights else []
-    return found or ([(one, other) for other, one in alike(right, lefts, left)] if rights - lefts else [])
+    return alike(left, right) or [(one, other) for other, one in alike(right, left)]
 
 
-def alike(texts: Sequence[str], there: Set[str], others: Sequence[str]) -> List[Tuple[str, str]]:
-    """The texts that aren't there among the others, each with one of these that looks like it."""
+def alike(texts: Sequence[str], others: Sequence[str]) -> List[Tuple[str, str]]:
+    """The texts that aren't among the others, each with one of these that looks like it."""
+    there = set(others)
     alone = [text for text in texts[:MOST_TEXTS] if text not in there]
-    folds = {fold(text): text for text in others[:MOST_TEXTS]} if alone else {}
-    return [(text, folds[folded]) for text, folded in zip(alone, map(fold, alone)) if folded in folds]
+    known = dict(zip(folds(others[:MOST_TEXTS]), others)) if alone else {}
+    return [(text, known[folded]) for text, folded in zip(alone, folds(alone)) if folded in known]
 
 
 def of_no_value(name: Any, *sides: Sequence[str]) -> None:
@@ -82,10 +81,10 @@ def of_groups(columns: Iterable[Values]) -> None:
     """Warns of groups of texts that look alike, and of a text that stands for no value elsewhere."""
     for column in columns:
         of_no_value(column.name, column.texts.cells)
-        seen = LookAlikes()
-        for text in column.texts.cells[:MOST_TEXTS]:
-            other = seen.other(text)
-            if other is not None:
+        seen: Dict[str, str] = {}
+        for folded, text in zip(folds(column.texts.cells[:MOST_TEXTS]), column.texts.cells):
+            other = seen.setdefault(folded, text)
+            if other != text:
                 doubt(f"{column.name!r} has {other!r} and {text!r}, which are two groups; {REMEDY}")
                 break
 
@@ -114,7 +113,7 @@ def of_ends(side: Side, key: Sequence[Values], name: Any, is_last_day: bool) -> 
     of_far_ends(walls, name)
     rows = some_rows(key, len(side))
     start, end = walls_of(side.start[rows], side), walls_of(side.end[rows], side)
-    if not len(rows) or (start % zones.DAY).any() or (end % zones.DAY).any():
+    if not len(rows) or (start % zones.DAY).any() or (end % zones.DAY).any() or not are_odd(start, end, is_last_day):
         return
     keys = keys_of(key, rows)
     # Without a key rows that share a last day may well be of two things, and of some rows none follows another.
@@ -123,9 +122,25 @@ def of_ends(side: Side, key: Sequence[Values], name: Any, is_last_day: bool) -> 
         keys = np.arange(len(rows))
     ends = RowEnds(str(name), ", ".join(str(column.name) for column in key), is_last_day)
     labels = list(side.labels[rows])
-    ends.add(labels, keys.tolist(), points.texts_of(start), points.texts_of(end))
+    ends.add(labels, keys.tolist(), texts_of(start), texts_of(end))
     for note in ends.notes():
         doubt(note)
+
+
+def texts_of(days: Ints) -> List[str]:
+    texts: List[str] = np.datetime_as_string((days // zones.DAY).view("M8[D]")).tolist()
+    return texts
+
+
+def are_odd(start: Ints, end: Ints, is_last_day: bool) -> bool:
+    """Whether Ends may doubt some: if ends were read the other way, one would be a start or the first of a month.
+
+    Mostly none would be, and then no text is made.
+    """
+    days = end - zones.DAY if is_last_day else end[end < points.NO_END] + zones.DAY
+    dates = (days // zones.DAY).view("M8[D]")
+    is_first = dates == dates.astype("M8[M]")
+    return bool(is_first.any()) or not set(start.tolist()).isdisjoint(days.tolist())
 
 
 def walls_of(seconds: Ints, side: Side) -> Ints:
@@ -147,6 +162,8 @@ def of_last_minutes(end: Ints, name: Any) -> None:
 
 def of_far_ends(end: Ints, name: Any) -> None:
     """Warns of an end that is far off, as databases have it for no end."""
+    if end.max(initial=0) < FAR:
+        return
     far = end[(end >= FAR) & (end < FARTHEST)]
     if len(far):
         remedy = "if its end isn't known, leave it missing, with open_end=True"
@@ -166,8 +183,10 @@ def keys_of(key: Sequence[Values], rows: Ints) -> Ints:
     """A number for each row, equal for equal values; without a key for all."""
     if not key:
         return np.zeros(len(rows), np.int64)
-    table = np.stack([column.codes[rows] for column in key], axis=1)
-    keys: Ints = np.unique(table, axis=0, return_inverse=True)[1].ravel()
+    table = [column.codes[rows] for column in key]
+    if len(table) == 1:
+        return table[0]
+    keys: Ints = np.unique(table, axis=1, return_inverse=True)[1].ravel()
     return keys
 
 

@@ -7,11 +7,23 @@ import warnings
 from pathlib import Path
 from typing import Any, Optional
 
-from ruzgalt.commands import progress
+from ruzgalt import progress
 from ruzgalt.frames.arrays import Marks
+from ruzgalt.script import forms
 
 # Files whose lines are never those that a warning is about: the package's, and what leaves a `with` of its.
 OURS = (str(Path(__file__).resolve().parents[1]), str(contextlib.__file__))
+# What to do if the program refuses something by this name.
+REMEDIES = {
+    "BadName": f"a name has {forms.NAME_HAS}",
+    "BadPeriod": "a start must be before its end, which is the first point after the row",
+    "BadPoint": f"must be a date or time, such as {forms.POINTS}, of the years 0001 to 9999",
+    "Full": "a table has at most 1,000,000 versions of rows, of all commits",
+    "Future": "log() lists the commits",
+    "TableExists": "load() adds rows to a table",
+    "TooMany": "a table has at most 16 columns, a store 64 tables",
+    "TwiceNamed": "each name can be given once",
+}
 
 
 class Refused(ValueError):
@@ -49,22 +61,6 @@ class Refused(ValueError):
         named = [("column", self.column), ("row", self.label)]
         place = ", ".join(f"{word} {value!r}" for word, value in named if value is not None)
         return f"{self.name}: {place + ': ' if place else ''}{self.reason}"
-
-
-class Stopped(RuntimeError):
-    """The program ended without all answers, or there is none: killed, out of memory, not found.
-
-    Of a task of Dask it says on which worker and host that was.
-
-    Examples
-    --------
-    >>> issubclass(ruzgalt.Stopped, RuntimeError)
-    True
-    """
-
-
-class OutOfMemory(Stopped):
-    """The program ran out of memory: with fewer rows it may not. Callers see a Stopped."""
 
 
 class Doubt(UserWarning):

@@ -9,8 +9,7 @@ import pandas as pd
 
 from ruzgalt.frames import checks, points, zones
 from ruzgalt.frames.arrays import Ints
-from ruzgalt.frames.ask import REMEDIES
-from ruzgalt.frames.errors import Refused
+from ruzgalt.frames.errors import REMEDIES, Refused
 from ruzgalt.frames.points import Form
 from ruzgalt.script import forms
 

@@ -22,7 +22,7 @@ from ruzgalt.frames.sides import Side
 from ruzgalt.frames.values import GREATEST, Values
 
 FUNCTIONS = ("count", "sum", "min", "max", "mean")
-# A function of the program, and the column whose numbers come together, but of a count.
+# A function of the library, and the column whose numbers come together, except for a count.
 Ask = Tuple[Any, ...]
 
 
@@ -46,7 +46,7 @@ class Measure:
 
     @property
     def asks(self) -> Sequence[Ask]:
-        """What the program is asked for it."""
+        """What the library is asked for it."""
         if self == HELD:
             return [("max",)]
         functions = ("sum", "count") if self.function == "mean" else (self.function,)
@@ -104,7 +104,7 @@ def refuse_texts(measures: Measures, columns: Mapping[Any, Values]) -> None:
 
 
 def asks_of(measures: Measures) -> List[Ask]:
-    """What the program is asked for them, each once."""
+    """What the library is asked for them, each once."""
     return list(dict.fromkeys(asked for one in measures for asked in one.asks))
 
 
@@ -118,7 +118,7 @@ def measured(side: Side, columns: Mapping[Any, Values], measures: Measures, work
 
 
 def measured_by(answer: Callable[[Ask], Found], measures: Measures) -> Found:
-    """The same of the program's answers. A mean is two values: a sum and a count, in lowest terms."""
+    """The same by a function that answers each ask. A mean is two values: a sum and a count, in lowest terms."""
     found: Dict[Ask, Found] = {asked: answer(asked) for asked in asks_of(measures)}
     start, end, group, *columns = cut_at_all(list(found.values()))
     there = dict(zip(found, columns))

@@ -87,7 +87,7 @@ def either(
     dtype = concatenated([one.iloc[:0], other.iloc[:0]]).dtype if is_wide else made.dtype
     for column, own in zip((one, other), rows):
         refuse_rounded(column, own, dtype)
-    order = np.argsort(np.concatenate([np.flatnonzero(is_first), np.flatnonzero(~is_first)]))
+    order = np.where(is_first, np.cumsum(is_first), len(rows[0]) + np.cumsum(~is_first)) - 1
     return made.astype(dtype).take(order).reset_index(drop=True)
 
 

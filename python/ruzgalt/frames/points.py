@@ -12,11 +12,10 @@ from typing import Any, List, Tuple
 import numpy as np
 import pandas as pd
 
-from ruzgalt.frames import arrow, printing, zones
+from ruzgalt.frames import arrow, zones
 from ruzgalt.frames.arrays import Cells, Ints, Marks, of_objects
 from ruzgalt.frames.errors import Refused, label_at, refuse
 from ruzgalt.frames.kinds import DAYS, NS, OFFSETS, UNITS, Kind, refuse_mixed
-from ruzgalt.frames.printing import FOURS, Printed
 from ruzgalt.frames.zones import DAY
 from ruzgalt.script import forms
 
@@ -29,10 +28,6 @@ LENGTHS = {"D": DAY, "S": 1}
 LAST_BUT_ONE = NO_END - DAY
 # The years of points in a time zone, by whether they are of datetime64[ns]: those before and after are there too.
 ZONED = {False: ("0002", "9998"), True: ("1678", "2261")}
-# Tables of days begin at numbers of days that are so many times another; those of at most so many days are kept.
-YEARS, KEPT = 1 << 13, 1 << 18
-# What comes after the year of a day, by month and day.
-MONTH_DAYS: Cells = np.array([b"-%02d-%02d" % (month, day) for month in range(1, 13) for day in range(1, 32)], "S6")
 
 
 @dataclass(frozen=True)
@@ -122,7 +117,8 @@ def seconds_of(column: Any, is_open: bool = False) -> Tuple[Ints, Kind]:
         raise Refused("WrongKind", f"{dtype} isn't datetime64, period[D], period[S] or date; {remedy}", column.name)
     missing = seconds == NAT
     refuse_missing(missing, is_open, column)
-    return np.where(missing, NO_END, seconds), kind
+    seconds[missing] = NO_END
+    return seconds, kind
 
 
 def kind_of_period(dtype: Any) -> Kind:
@@ -172,22 +168,27 @@ def of_datetimes(column: Any) -> Tuple[Ints, Kind]:
     cells = column.to_numpy()
     name = np.datetime_data(cells.dtype)[0]
     numbers, many = cells.view("i8"), UNITS[name]
-    present = numbers != NAT
-    refuse((numbers % many != 0) & present, column, "BadPoint", "a fraction of a second; .dt.floor('s') drops it")
-    seconds = np.where(present, numbers // many, NAT)
-    refuse_outside(present & ((seconds < FIRST) | (seconds > LAST)), column)
+    # A remainder takes longer than a product.
+    seconds, missing = numbers // many, numbers == NAT
+    is_cut = seconds * many != numbers
+    refuse(is_cut & ~missing, column, "BadPoint", "a fraction of a second; .dt.floor('s') drops it")
+    seconds[missing] = NAT
+    refuse_outside(seconds, FIRST, LAST, column)
     return seconds, Kind(name)
 
 
 def of_periods(column: Any) -> Tuple[Ints, Kind]:
     numbers, name = column.array.asi8, kind_of_period(column.dtype).name
-    length, present = LENGTHS[name], numbers != NAT
-    refuse_outside(present & ((numbers < FIRST // length) | (numbers > LAST // length)), column)
-    return np.where(present, numbers * length, NAT), Kind(name)
+    length = LENGTHS[name]
+    refuse_outside(numbers, FIRST // length, LAST // length, column)
+    return np.where(numbers != NAT, numbers * length, NAT), Kind(name)
 
 
-def refuse_outside(marked: Marks, column: Any) -> None:
-    refuse(marked, column, "BadPoint", "outside the years 0001 to 9999")
+def refuse_outside(numbers: Ints, first: int, last: int, column: Any) -> None:
+    """Raises Refused for a point that isn't between two others, and isn't missing."""
+    if len(numbers) and not first <= numbers.min() <= numbers.max() <= last:
+        marked = (numbers != NAT) & ((numbers < first) | (numbers > last))
+        refuse(marked, column, "BadPoint", "outside the years 0001 to 9999")
 
 
 def of_dates(column: Any) -> Tuple[Ints, Kind]:
@@ -286,61 +287,12 @@ def period_of(seconds: int) -> Any:
     return pd.Period(ordinal=seconds, freq=OFFSETS["S"])
 
 
-def printed(seconds: Ints) -> List[Printed]:
-    """The points as a script has them: their days, and after these their times, where some aren't midnights."""
-    days = seconds // DAY
-    times = seconds - days * DAY
-    if not times.any():
-        return [printed_days(days)]
-    codes, found = pd.factorize(times)
-    table = np.where(found == 0, b"", table_of_times(found))
-    return [printed_days(days), Printed(table, codes)]
-
-
-def printed_days(days: Ints) -> Printed:
-    """A day beside the others, 9999-12-31, is far off and frequent."""
-    far = NO_END // DAY
-    is_far = days == far
-    low = int(days.min(initial=far))
-    high = int(days.max(initial=low, where=~is_far))
-    if high - low > len(days):
-        codes, found = pd.factorize(days)
-        return Printed(table_of_days(found), codes)
-    # Columns of one call share a table, as they share their years.
-    low, high = low - low % YEARS, min(high - high % YEARS + YEARS, far)
-    table = kept_days(low, high) if high - low <= KEPT else days_between(low, high)
-    return Printed(table, np.where(is_far, high + 1 - low, days - low))
-
-
-def days_between(low: int, high: int) -> Cells:
-    """A table of these days, and after them of the one that stands for no end."""
-    return table_of_days(np.append(np.arange(low, high + 1), NO_END // DAY))
-
-
-@lru_cache(maxsize=2)
-def kept_days(low: int, high: int) -> Cells:
-    return days_between(low, high)
-
-
-def table_of_days(days: Ints) -> Cells:
-    dates = days.astype("M8[D]")
-    months = dates.astype("M8[M]")
-    number = months.astype(np.int64) + 12 * 1970
-    day = (dates - months).astype(np.int64)
-    table = np.empty(len(days), "S4,S6")
-    table["f0"], table["f1"] = FOURS[number // 12], MONTH_DAYS[number % 12 * 31 + day]
-    texts: Cells = table.view("S10")
-    return texts
-
-
-def table_of_times(times: Ints) -> Cells:
-    """As T08:30:00, of seconds of a day."""
-    texts = np.datetime_as_string(times.astype("M8[s]")).astype("S19")
-    return np.frombuffer(texts.tobytes(), np.uint8).reshape(-1, 19)[:, 10:].copy().view("S9").ravel()
-
-
 def texts_of(seconds: Ints) -> List[str]:
-    return printing.texts_of(printed(np.asarray(seconds, np.int64)))
+    """The points as a script has them."""
+    codes, found = pd.factorize(np.asarray(seconds, np.int64))
+    texts = np.datetime_as_string(found.astype("M8[s]")).tolist()
+    points: List[str] = of_objects([text.replace("T00:00:00", "") for text in texts])[codes].tolist()
+    return points
 
 
 def text_of(second: int) -> str:

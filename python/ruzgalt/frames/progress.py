@@ -3,9 +3,10 @@ from __future__ import annotations
 
 import os
 import sys
-from typing import Any, Optional
+from contextlib import nullcontext
+from typing import Any, ContextManager, Optional
 
-from ruzgalt.commands.progress import Line, Progress
+from ruzgalt.progress import Line, Progress
 
 
 def is_terminal() -> bool:
@@ -16,12 +17,23 @@ def is_terminal() -> bool:
         return False
 
 
+def is_shown(is_wanted: Optional[bool]) -> bool:
+    """Whether a line is shown, as progress= says."""
+    return is_terminal() if is_wanted is None else is_wanted and sys.stderr is not None
+
+
+def of_call(call: str, is_wanted: Optional[bool]) -> ContextManager[Any]:
+    """Shows how far a call is, if that is wanted; a short call makes no thread if not."""
+    if is_shown(is_wanted):
+        return OfCall(call, True)
+    return nullcontext()
+
+
 class OfCall(Progress):
     """Of a call: the seconds since it began, or of so many partitions how many are done."""
 
     def __init__(self, call: str, is_wanted: Optional[bool], total: Optional[int] = None) -> None:
-        is_shown = is_terminal() if is_wanted is None else is_wanted and sys.stderr is not None
-        super().__init__(f"ruzgalt.{call}", is_shown)
+        super().__init__(f"ruzgalt.{call}", is_shown(is_wanted))
         self.total, self.count = total, None if total is None else 0
 
     @property

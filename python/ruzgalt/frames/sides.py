@@ -1,4 +1,4 @@
-"""Rows of a frame on their way to the program: periods as seconds, and the columns that it is to see."""
+"""Rows of a frame on their way to the library: periods as seconds, and the columns that are compared or added up."""
 from __future__ import annotations
 
 from dataclasses import dataclass, field, replace
@@ -65,11 +65,6 @@ class Side:
         times = [Values(None, "int", one) for one in (self.start, self.end)]
         found: Hashes = values.hashes([*times, *self.columns])
         return found
-
-    @cached_property
-    def width(self) -> int:
-        """At most so many bytes a row has in a script."""
-        return (44 if self.has_times else 26) + sum(1 + values.widest(column) for column in self.columns)
 
 
 def together(sides: Sequence[Side]) -> Side:

@@ -1,7 +1,7 @@
 """The time in which rows of a group hold, and none, and several: coalesce, gaps and overlaps of frames.
 
-They are composed of what the program answers: the first is an aggregate, the second an anti-join of the time that is
-looked at, and the third a join of a frame with itself.
+They are composed of what the library answers: the first is an aggregate, the second an anti-join of the time that is
+asked about, and the third a join of a frame with itself.
 """
 from __future__ import annotations
 
@@ -55,7 +55,7 @@ def coalesce(frame: Frame, by: Names = None, *, period: PeriodNames = PERIOD, op
     points_as : str, optional
         ns, us, ms, s, D, S, date or datetime: the answer's points, where not as they came in.
     workers : int, default 4
-        Threads of the program, 1 to 64.
+        Calls of the library at once, 1 to 64. Rows of different values, or groups, are dealt to them.
     parts : int, optional
         Of Dask, how many partitions the answer has, where not as many as the frame.
     progress : bool, optional
@@ -73,7 +73,7 @@ def coalesce(frame: Frame, by: Names = None, *, period: PeriodNames = PERIOD, op
     Refused
         If the frame or an option can't be taken, or a value would be lost or changed.
     Stopped
-        If the program ended without all answers.
+        If the library is missing, or memory runs out.
 
     Warns
     -----
@@ -127,7 +127,7 @@ def gaps(frame: Frame, by: Names = None, *, within: Any = None, period: PeriodNa
     points_as : str, optional
         ns, us, ms, s, D, S, date or datetime: the answer's points, where not as they came in.
     workers : int, default 4
-        Threads of the program, 1 to 64.
+        Calls of the library at once, 1 to 64. Rows of different values, or groups, are dealt to them.
     parts : int, optional
         Of Dask, how many partitions the answer has, where not as many as the frame.
     progress : bool, optional
@@ -146,7 +146,7 @@ def gaps(frame: Frame, by: Names = None, *, within: Any = None, period: PeriodNa
     Refused
         If the frame or an option can't be taken, or a value would be lost or changed.
     Stopped
-        If the program ended without all answers.
+        If the library is missing, or memory runs out.
 
     Warns
     -----
@@ -257,7 +257,7 @@ def overlaps(frame: Frame, by: Names = None, *, keep_periods: bool = False, labe
     points_as : str, optional
         ns, us, ms, s, D, S, date or datetime: the answer's points, where not as they came in.
     workers : int, default 4
-        Threads of the program, 1 to 64.
+        Calls of the library at once, 1 to 64. Rows of different values, or groups, are dealt to them.
     parts : int, optional
         Of Dask, how many partitions the answer has, where not as many as the frame.
     progress : bool, optional
@@ -275,7 +275,7 @@ def overlaps(frame: Frame, by: Names = None, *, keep_periods: bool = False, labe
     Refused
         If the frame or an option can't be taken, or a value would be lost or changed.
     Stopped
-        If the program ended without all answers.
+        If the library is missing, or memory runs out.
 
     Warns
     -----

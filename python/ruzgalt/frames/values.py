@@ -1,4 +1,4 @@
-"""Columns of a frame as columns of the store: their kinds, and the bytes of their fields.
+"""Columns of a frame as columns of the store: their kinds, and their fields in a script.
 
     integers, also Int64 without NA          int
     bool, boolean without NA                 int, 0 and 1
@@ -18,14 +18,11 @@ from typing import Any, Dict, List, Optional, Sequence, Tuple
 import numpy as np
 import pandas as pd
 
-from ruzgalt.frames import arrow, printing
+from ruzgalt.frames import arrow
 from ruzgalt.frames.arrays import Cells, Ints, Marks, of_objects
 from ruzgalt.frames.errors import Refused, refuse
-from ruzgalt.frames.printing import Printed
 from ruzgalt.script import forms
 
-# Texts up to so many bytes are written by numpy, from a table of fixed width.
-NARROW = 64
 # A text that has one of these stands in quotes in a script.
 QUOTED = ',"\r\n'
 LEAST, GREATEST = -(2**63), 2**63 - 1
@@ -43,25 +40,9 @@ class Texts:
     cells: Sequence[str] = ()
 
     @cached_property
-    def fields(self) -> List[bytes]:
-        """As they are in a script."""
-        whole = "".join(self.cells)
-        if any(mark in whole for mark in QUOTED):
-            return [quoted(text).encode() for text in self.cells]
-        return [text.encode() for text in self.cells]
-
-    @cached_property
-    def width(self) -> int:
-        """At most so many bytes a field has."""
-        return max(map(len, self.fields), default=0)
-
-    @cached_property
-    def table(self) -> Optional[Cells]:
-        """The fields in one width, with zero bytes after shorter ones; None where they are wide or have any."""
-        fields = self.fields or [b""]
-        if self.width > NARROW or b"\0" in b"".join(fields):
-            return None
-        return np.array(fields, f"S{max(self.width, 1)}")
+    def fields(self) -> Sequence[str]:
+        """The texts as they are in a script."""
+        return list(map(quoted, self.cells)) if any(mark in "".join(self.cells) for mark in QUOTED) else self.cells
 
     @cached_property
     def hashes(self) -> Any:
@@ -87,7 +68,7 @@ class Values:
         return replace(self, codes=self.codes[places])
 
     def restored(self, cells: Cells) -> Any:
-        """What the program answered of this column, in the dtype that it came from, or a wider one that has all."""
+        """Numbers of an answer in the dtype that the column came from, or in a wider one that holds all of them."""
         if self.digits is not None:
             return unscaled(cells, self)
         if isinstance(self.dtype, pd.CategoricalDtype):
@@ -197,10 +178,11 @@ def ints_of(column: Any) -> Ints:
 def texts_of(column: Any) -> Values:
     """Each text that differs is looked at once."""
     cells = np.asarray(column, object)
-    if pd.api.types.infer_dtype(cells, skipna=False) not in ("string", "empty"):
+    try:
+        whole = "".join(cells)
+    except TypeError:
         wrong = np.fromiter((not isinstance(cell, str) for cell in cells), bool, len(cells))
         refuse(wrong, column, "WrongKind", no_text(cells[int(wrong.argmax())], column.name))
-    whole = "".join(cells)
     if not forms.is_utf8(whole):
         # Before pandas.factorize, which takes halves of surrogate pairs for other texts.
         wrong = np.fromiter((not forms.is_utf8(cell) for cell in cells), bool, len(cells))
@@ -316,26 +298,11 @@ def refuse_unheld(cells: Cells, column: Values, what: str) -> None:
         raise Refused("BadNumber", f"{what} too large for the {bits} bits of a float: use Decimals", column.name)
 
 
-def printed(values: Values) -> Optional[Printed]:
-    """The fields, where numpy can write them."""
-    if values.kind == "int":
-        return printing.of_numbers(values.codes)
-    return None if values.texts.table is None else Printed(values.texts.table, values.codes)
-
-
 def fields_of(values: Values) -> List[str]:
-    """The fields as texts."""
+    """The column's fields of a script."""
     if values.kind == "int":
         return list(map(str, values.codes.tolist()))
-    table = [field.decode() for field in values.texts.fields]
-    return [table[code] for code in values.codes.tolist()]
-
-
-def widest(values: Values) -> int:
-    """At most so many bytes a field has."""
-    if values.kind == "int":
-        return max(len(str(values.codes.min(initial=0))), len(str(values.codes.max(initial=0))))
-    return values.texts.width
+    return [values.texts.fields[code] for code in values.codes.tolist()]
 
 
 def hashes(columns: Sequence[Values]) -> Any:

@@ -5,7 +5,7 @@ ends where the next one starts, so that the last one of the year 9999 ends after
 """
 from datetime import date
 from functools import lru_cache
-from typing import Iterator, Protocol, Tuple
+from typing import Protocol
 
 DAY = 86_400
 MONTHS = {"month": 1, "quarter": 3, "year": 12}
@@ -24,7 +24,7 @@ class Calendar(Protocol):
 
 
 class Days:
-    """Pieces of so many days."""
+    """Pieces of `length` days."""
 
     def __init__(self, length: int) -> None:
         self.length = length * DAY
@@ -37,7 +37,7 @@ class Days:
 
 
 class Months:
-    """Pieces of so many months, of which the first of each year begins in January."""
+    """Pieces of `length` months. The first one of a year begins in January."""
 
     def __init__(self, length: int) -> None:
         self.length = length
@@ -68,9 +68,3 @@ def calendar(each: str) -> Calendar:
     if each in DAYS:
         return Days(DAYS[each])
     return Months(MONTHS[each])
-
-
-def touched(start: int, end: int, pieces: Calendar) -> Iterator[Tuple[int, int]]:
-    """The starts and ends of the pieces that a period touches."""
-    for number in range(pieces.number_of(start), pieces.number_of(end - 1) + 1):
-        yield pieces.start_of(number), pieces.start_of(number + 1)

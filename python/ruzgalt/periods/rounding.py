@@ -8,7 +8,7 @@ from typing import Callable, Dict, List, Sequence, Tuple
 
 Fraction = Tuple[int, int]
 HALF_UP = "half-up"
-# Whether what is left over of a number, without its sign, counts one more: by twice the remainder and the denominator,
+# Whether the remainder of a number, without its sign, counts one more: by twice the remainder and the denominator,
 # whether the number is odd without it, and whether the sign is a minus.
 COUNTS_UP: Dict[str, Callable[[int, int, bool, bool], bool]] = {
     HALF_UP: lambda twice, whole, is_odd, is_below: twice >= whole,
@@ -23,10 +23,10 @@ ROUNDINGS = tuple(COUNTS_UP)
 
 
 def rounded(numerator: int, denominator: int, how: str = HALF_UP) -> int:
-    """The whole number of a fraction, by a word of ROUNDINGS, which are those of Python's decimal.
+    """Returns the whole number of a fraction, by a rule of ROUNDINGS, which have the meaning of Python's decimal.
 
     A half counts away from zero by half-up, towards zero by half-down, and to the even number by half-even; up is away
-    from zero and down towards it, ceiling is to the greater number and floor to the lesser one.
+    from zero and down towards it, ceiling takes the greater number and floor the lesser one.
     """
     found, rest = divmod(abs(numerator), denominator)
     found += COUNTS_UP[how](2 * rest, denominator, found % 2 == 1, numerator < 0)
@@ -36,8 +36,8 @@ def rounded(numerator: int, denominator: int, how: str = HALF_UP) -> int:
 def parted(shares: Sequence[Fraction]) -> List[int]:
     """Whole numbers that add up to the sum of these fractions, which is rounded once, half up.
 
-    Each is the next lesser whole number, or where the remainder is among the largest, one more: as many are as the sum
-    needs, of equal remainders the first. So each is less than one away from its fraction, and a whole number stays.
+    Each is the next lesser whole number, or one more if its remainder is among the largest: the sum says how many
+    are, and of equal remainders the first. So each is less than one away from its fraction, and a whole number stays.
     """
     whole = lcm(*(denominator for _, denominator in shares))
     numerators = [numerator * (whole // denominator) for numerator, denominator in shares]

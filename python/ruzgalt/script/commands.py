@@ -9,7 +9,7 @@ from ruzgalt.script.records import Record
 
 @dataclass(frozen=True)
 class Command:
-    """A command that has one answer: its first record, those of its block, and whether the block has its end."""
+    """A command that has one answer: its first record, its block's records, and whether the block has its end."""
 
     record: Record
     block: Sequence[Record]
@@ -30,8 +30,8 @@ class Command:
         return self.record.line
 
     @property
-    def place(self) -> str:
-        return self.record.place
+    def where(self) -> str:
+        return self.record.where
 
     @property
     def text(self) -> str:
@@ -39,7 +39,7 @@ class Command:
 
     @property
     def as_of(self) -> Optional[str]:
-        """The number in its suffix `asof,N`, where it has one."""
+        """Returns the number in its suffix `asof,N`, if it has one."""
         fields = self.record.fields
         has_suffix = self.form.has_suffix and len(fields) > 2 and fields[-2] == "asof"
         return fields[-1] if has_suffix else None
@@ -50,7 +50,7 @@ class Command:
         return list(self.record.fields[:-2] if self.as_of is not None else self.record.fields)
 
     def record_of(self, number: int) -> Optional[Record]:
-        """The record of that number, where it is one of this command's."""
+        """Returns the record of that number, if it belongs to this command."""
         place = number - self.record.number
         if place == 0:
             return self.record
@@ -58,7 +58,7 @@ class Command:
 
     @property
     def rows(self) -> Sequence[Record]:
-        """The records of its block without the `end`, where that is there."""
+        """Returns the records of its block without the `end`."""
         return self.block[:-1] if self.is_ended else self.block
 
 

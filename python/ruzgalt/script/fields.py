@@ -1,4 +1,4 @@
-"""What each field of a record is to be, so that the one is found for which a record was refused."""
+"""The role of each field of a record, which shows the field for which a record was refused."""
 from dataclasses import dataclass
 from typing import Dict, Iterator, List, Optional, Sequence
 
@@ -10,9 +10,9 @@ from ruzgalt.script.schemas import Column, Kind, Schema
 
 @dataclass(frozen=True)
 class Field:
-    """A field's place from 0 on, its text, what it is to be, and its table and column where these are known."""
+    """A field's index from 0 on, its text, its role, and its table and column if these are known."""
 
-    place: int
+    index: int
     text: str
     role: Role
     table: Optional[Schema] = None
@@ -51,13 +51,13 @@ def of_row(texts: Sequence[str], table: Optional[Schema]) -> Iterator[Field]:
 
 def of_query(texts: Sequence[str], tables: Tables) -> Iterator[Field]:
     """The table, and after it points, or numbers."""
-    for place, role in enumerate([Role.TABLE, *COMMANDS.get(texts[0], NONE).behind], 1):
+    for place, role in enumerate([Role.TABLE, *COMMANDS.get(texts[0], NONE).more], 1):
         if place < len(texts):
             yield Field(place, texts[place], role, tables.get(texts[place]))
 
 
 def of_table(texts: Sequence[str], _: Tables) -> Iterator[Field]:
-    """The name, those of the columns, and those of the key, which are to be among the columns."""
+    """Yields the table's name, its columns' names, and its key's."""
     keys = [place for place in range(2, len(texts), 2) if texts[place] == "key"]
     end = keys[0] if keys else len(texts)
     columns = tuple(Column(name, Kind.TEXT) for name in texts[2:end:2])
@@ -79,18 +79,18 @@ def of_change(texts: Sequence[str], tables: Tables) -> Iterator[Field]:
 
 
 def where_place(texts: Sequence[str]) -> int:
-    """Where the word `where` stands in an update or a delete: at the place of a column, with pairs after it."""
+    """Returns the index of the word `where` in an update or a delete: at a column's position, with pairs after it."""
     places = range(5, len(texts) - 1, 2) if texts[0] == "update" else range(4, min(5, len(texts)))
     return next((place for place in places if texts[place] == "where"), len(texts))
 
 
 def set_places(texts: Sequence[str]) -> range:
-    """The places of the columns that an update sets."""
+    """Returns the indices of the columns that an update sets."""
     return range(5, where_place(texts) - 1, 2) if texts[0] == "update" else range(0)
 
 
 def where_places(texts: Sequence[str]) -> range:
-    """The places of the columns whose values a row is to have."""
+    """Returns the indices of the columns after `where`."""
     return range(where_place(texts) + 1, len(texts) - 1, 2)
 
 

@@ -1,8 +1,8 @@
-"""The forms of what stands in a field: points, numbers and names, as docs/LANGUAGE.md defines them."""
+"""The forms of fields: points, numbers and names, as docs/LANGUAGE.md defines them."""
 import re
 from datetime import datetime, timedelta
 from functools import lru_cache
-from typing import Optional, Sequence
+from typing import NamedTuple, Optional, Sequence
 
 POINT = re.compile(r"(\d{4})-(\d\d)-(\d\d)(?:T(\d\d):(\d\d):(\d\d))?", re.ASCII)
 INTEGER = re.compile(r"0|-?[1-9]\d*", re.ASCII)
@@ -17,6 +17,10 @@ TEXT_LIMIT = 4096
 # No number of a column has more characters; a sum of 1,000,000 of them has six more.
 LONGEST_INTEGER, LONGEST_SUM = 20, 26
 BEGINNING = datetime(1, 1, 1)
+# An end from then on stands for none that is known.
+NO_END = "9999-12-31"
+# Spreadsheets part thousands by these too: a space, a no-break space, and a narrow one; Swiss ones by apostrophes.
+SPACES, APOSTROPHES = " \u00a0\u202f", "'\u2019"
 
 
 def read_point(text: str) -> Optional[datetime]:
@@ -31,7 +35,7 @@ def read_point(text: str) -> Optional[datetime]:
 
 
 def print_point(point: datetime) -> str:
-    """The shortest text of a point: that of a midnight is its date. Texts are in the order of time."""
+    """Returns the shortest text of a point: a midnight's is its date. Texts are in the order of time."""
     text = point.isoformat()
     return text[:10] if text.endswith("T00:00:00") else text
 
@@ -45,7 +49,7 @@ def printed(text: str) -> str:
 
 @lru_cache(1 << 4)
 def next_second(point: str) -> str:
-    """The end of the period of that second alone, in which a row holds, so that one comes after it."""
+    """Returns the next second, which exists since a row holds at this one."""
     return print_point(at_second(seconds(point) + 1))
 
 
@@ -92,10 +96,58 @@ def is_utf8(text: str) -> bool:
 
 
 def in_lines(texts: Sequence[str]) -> str:
-    """The texts, a line each, to be looked at together; nothing where one has a line end itself."""
+    """Returns the texts joined as lines, or an empty text if one has a line end itself."""
     lines = "\n".join([*texts, ""])
     return lines if lines.count("\n") == len(texts) else ""
 
 
 def is_short(text: str) -> bool:
     return len(text.encode("utf-8", "surrogateescape")) <= TEXT_LIMIT
+
+
+def shifted(text: str, days: int) -> str:
+    """Returns the day `days` later; an empty text if the point isn't a midnight, or no such day exists."""
+    try:
+        return str((datetime.fromisoformat(text) + timedelta(days=days)).date()) if len(text) == 10 else ""
+    except (OverflowError, ValueError):
+        return ""
+
+
+def is_month_end(text: str) -> bool:
+    """Whether the point is the midnight of a last day of a month."""
+    return shifted(text, 1).endswith("-01")
+
+
+def is_far_off(text: str) -> bool:
+    """Whether a point is one that is seldom meant. The first day and the last year stand for what isn't known.
+
+    1900-01-01 is what databases make of no date.
+    """
+    return not ("1900-01-01" < text < "2099" or text[:4] == "9999" or text == "0001-01-01")
+
+
+def form_of(mark: str) -> "re.Pattern[str]":
+    """The sign, the whole digits and the decimals. Thousands don't begin with 0, unlike `0.500`."""
+    parting = "[" + re.escape(",.".replace(mark, "")) + SPACES + APOSTROPHES + "]"
+    thousands = rf"[1-9]\d{{0,2}}(?P<parting>{parting})\d{{3}}(?:(?P=parting)\d{{3}})*"
+    return re.compile(rf"(?P<sign>-?)(?P<whole>{thousands}|\d+)(?:{re.escape(mark)}(?P<decimals>\d+))?", re.ASCII)
+
+
+NUMBER_FORMS = {mark: form_of(mark) for mark in ".,"}
+PARTING = re.compile(f"[.,{SPACES}{APOSTROPHES}]")
+
+
+class Number(NamedTuple):
+    """The digits of a number before its mark, and after it."""
+
+    sign: str
+    whole: str
+    decimals: str
+
+    def __str__(self) -> str:
+        return f"{self.sign}{self.whole}" + (f".{self.decimals}" if self.decimals else "")
+
+
+def number_in(text: str, mark: str) -> Optional[Number]:
+    found = NUMBER_FORMS[mark].fullmatch(text.strip(SPACES))
+    return Number(found["sign"], PARTING.sub("", found["whole"]), found["decimals"] or "") if found else None

@@ -1,4 +1,4 @@
-"""The commands of the language, by their words: the one table of what a command is made of and what it is answered.
+"""The table of the language's commands, by their words: the fields of each, and its answer.
 docs/LANGUAGE.md defines them.
 
 A new command is a line in COMMANDS if the fields after its word, and its answer, are such as others have. All other
@@ -10,7 +10,7 @@ from typing import Dict, Tuple
 
 
 class Role(Enum):
-    """What a field is to be."""
+    """The role of a field."""
 
     TABLE = auto()
     COLUMN = auto()
@@ -22,11 +22,11 @@ class Role(Enum):
 
 
 class Fields(Enum):
-    """What stands after a command's word."""
+    """The fields after a command's word."""
 
     NOTHING = auto()
     SCHEMA = auto()
-    # A table, and after it what Command.behind says.
+    # A table, and the fields of Form.more.
     TABLE = auto()
     # A table, a portion, and pairs of a column and a value.
     PORTION = auto()
@@ -36,7 +36,7 @@ class Fields(Enum):
 
 
 class Answered(Enum):
-    """What a command is answered, where it isn't refused."""
+    """The kind of a command's answer, unless it is refused."""
 
     NOTHING = auto()
     COMMIT = auto()
@@ -52,16 +52,16 @@ class Answered(Enum):
 
 @dataclass(frozen=True)
 class Form:
-    """A command as it is shown to a person, its answer, and what it is made of.
+    """A command as it is shown to a person, its answer, and its fields.
 
-    behind  the fields after the table, if there is no word before them
+    more    the fields directly after the table
     part    the word of each record of its block, which ends by `end`
     """
 
     text: str
     answered: Answered
     fields: Fields = Fields.TABLE
-    behind: Tuple[Role, ...] = ()
+    more: Tuple[Role, ...] = ()
     part: str = ""
 
     @property
@@ -71,7 +71,7 @@ class Form:
 
     @property
     def tables(self) -> int:
-        """How many tables stand after its word."""
+        """Returns how many tables follow its word."""
         return {Fields.NOTHING: 0, Fields.TABLES: 2}.get(self.fields, 1)
 
     @property
@@ -93,9 +93,9 @@ COMMANDS: Dict[str, Form] = {
     ),
     "rows": Form("rows,T[,asof,N]", Answered.ROWS),
     "delete": Form("delete,T,FROM,TO[,where,COLUMN,VALUE..]", Answered.COMMIT, Fields.PORTION),
-    "at": Form("at,T,POINT[,asof,N]", Answered.ROWS, behind=(Role.POINT,)),
-    "between": Form("between,T,M,N", Answered.VERSIONS, behind=SPAN),
-    "fromto": Form("fromto,T,M,N", Answered.VERSIONS, behind=SPAN),
+    "at": Form("at,T,POINT[,asof,N]", Answered.ROWS, more=(Role.POINT,)),
+    "between": Form("between,T,M,N", Answered.VERSIONS, more=SPAN),
+    "fromto": Form("fromto,T,M,N", Answered.VERSIONS, more=SPAN),
     "join": Form(f"join,{SIDES}", Answered.PAIRS, Fields.TABLES),
     "anti": Form(f"anti,{SIDES}", Answered.ROWS, Fields.TABLES),
     "dip": Form("dip,T[,asof,N]", Answered.DIVISION),
@@ -104,16 +104,16 @@ COMMANDS: Dict[str, Form] = {
         Answered.STEPS, Fields.AGGREGATE,
     ),
     "check": Form(
-        "check,T,PARTS,INSTANT[,asof,N]", Answered.VERDICT, behind=(Role.COUNT, Role.POINT), part="part",
+        "check,T,PARTS,INSTANT[,asof,N]", Answered.VERDICT, more=(Role.COUNT, Role.POINT), part="part",
     ),
     "together": Form("together", Answered.TOGETHER, Fields.NOTHING),
 }
-# Of a word that is none of these.
+# The form of an unknown word.
 NONE = Form("", Answered.NOTHING)
 
 
 def words_of(*fields: Fields) -> Tuple[str, ...]:
-    """The commands after whose words this stands."""
+    """Returns the commands with these fields."""
     return tuple(word for word, form in COMMANDS.items() if form.fields in fields)
 
 

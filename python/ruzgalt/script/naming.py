@@ -1,8 +1,8 @@
-"""What the columns of an answer are called, so that each has a name of its own, and those of a store.
+"""Names of columns: of an answer, each with a name of its own, and of a store.
 
-An answer has words of its own, as `row_id`, which stay as they are. In an answer of one table a column whose name is
-taken has `_` after it; in one of two a name that several have gets its side's suffix, and what is twice then is
-refused by whoever asks here. In a store a column has a name of the language, which is like its own.
+An answer's own words, such as `row_id`, stay as they are. In an answer of one table a column whose name is taken has
+`_` after it. In an answer of two tables a name that both have gets its side's suffix; the caller refuses names that
+still are equal. In a store a column has a name of the language that is like its own.
 """
 import re
 import unicodedata
@@ -14,7 +14,7 @@ from ruzgalt.script.forms import LONGEST_NAME, is_name
 
 
 def apart(names: Sequence[Any]) -> List[Any]:
-    """The names; one that stood before has `_` after it, so often that no other has it."""
+    """Returns the names; a repeated one has `_` after it, until it is unique."""
     given, taken = set(names), set()  # type: Set[Any], Set[Any]
     made = []
     for name in names:
@@ -32,7 +32,7 @@ def marked(name: Any, taken: Set[Any]) -> str:
 
 
 def with_suffixes(names: Sequence[Any], suffixes: Sequence[Optional[str]]) -> List[Any]:
-    """The names; each of those that stand several times has its suffix after it, where there is one."""
+    """Returns the names; each repeated one has its suffix after it, if it has one."""
     counts = Counter(names)
     return [f"{name}{suffix}" if suffix and counts[name] > 1 else name for name, suffix in zip(names, suffixes)]
 
@@ -64,5 +64,5 @@ def free(beginning: str, taken: Set[str]) -> str:
 
 
 def twice(names: Sequence[Any]) -> List[Any]:
-    """The names that stand several times, by where they first do."""
+    """Returns the repeated names, in the order of their first positions."""
     return [name for name, count in Counter(names).items() if count > 1]

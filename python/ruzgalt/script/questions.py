@@ -1,4 +1,4 @@
-"""Questions that are put after a script, each of which is to be a command of its own."""
+"""Questions that are put after a script. Each must be a command of its own."""
 from itertools import accumulate
 from typing import Iterator, List, Mapping, Optional, Sequence, Tuple
 
@@ -9,12 +9,14 @@ from ruzgalt.script.forms import POINT
 from ruzgalt.script.reader import Reader, Source, count_lines
 from ruzgalt.script.records import Record, short
 
+EMPTY = "the script is empty: it has no command"
+
 
 def named(word: str) -> Tuple[str, str]:
     """The name of a question, or nothing, and the question.
 
-    A name stands before a `=` that stands before the first comma, since no first word of a command has such a sign. It
-    has what can be seen, and blanks between.
+    A name is the text before a `=` that comes before the first comma: no command's word has that sign. It consists of
+    visible characters, and blanks between them.
     """
     name, mark, question = word.partition("=")
     if not mark or "," in name:
@@ -25,12 +27,12 @@ def named(word: str) -> Tuple[str, str]:
 
 
 def points_of(question: str) -> List[str]:
-    """The points as of which it is asked: those in place of a commit's number, as in asof,2024-03-31."""
+    """Returns the points that it has instead of a commit's number, such as asof,2024-03-31."""
     return [record.fields[-1] for record in dated(source_of(question))]
 
 
 def with_commits(question: str, commits: Mapping[str, int]) -> str:
-    """The question with the commits of its points in their place; without a point it is as it was written."""
+    """Returns the question with the commits of its points; without a point it stays as it was written."""
     source = source_of(question)
     places = {record.number for record in dated(source)}
     made = ([*one.fields[:-1], str(commits[one.fields[-1]])] if one.number in places else one.fields
@@ -39,7 +41,7 @@ def with_commits(question: str, commits: Mapping[str, int]) -> str:
 
 
 def dated(source: Source) -> Iterator[Record]:
-    """The first records of commands as of a point. What else stands in a question may have `asof` as a value."""
+    """Yields the first records of commands as of a point. Other records may have `asof` as a value."""
     return (one.record for one in commands.commands(source) if POINT.fullmatch(one.as_of or ""))
 
 
@@ -48,7 +50,7 @@ def source_of(question: str) -> Source:
 
 
 def line_of(question: str) -> bytes:
-    """The question as it stands after a script."""
+    """Returns the line of a question after a script."""
     return records.encode(question.strip("\r\n")) + b"\n"
 
 
@@ -66,7 +68,7 @@ def put_behind(script: bytes, questions: Sequence[str]) -> Tuple[bytes, Optional
 
 
 def commands_of(text: bytes, questions: Sequence[str], own_lines: Optional[int]) -> List[Command]:
-    """The commands of a script with its questions. Raises Misfit where one would be no command by itself."""
+    """Returns the commands of a script with its questions. Raises Misfit if one isn't a command by itself."""
     source = Source(text, own_lines)
     begun = list(commands.commands(source))
     if own_lines is not None:
@@ -75,7 +77,7 @@ def commands_of(text: bytes, questions: Sequence[str], own_lines: Optional[int])
 
 
 def refuse_taken(source: Source, begun: List[Command], questions: Sequence[str], own_lines: int) -> None:
-    """An open quote or a block without its end takes what stands after it, and another answer would be shown."""
+    """Refuses questions that became part of an open quote or of a block without its end."""
     own = {command.line for command in begun}
     for question, line in zip(questions, lines_of(questions, own_lines)):
         if line not in own:
@@ -84,15 +86,15 @@ def refuse_taken(source: Source, begun: List[Command], questions: Sequence[str],
 
 
 def lines_of(questions: Sequence[str], own_lines: int) -> List[int]:
-    """The line on which each question begins after a script of so many lines."""
+    """Returns the line on which each question begins after a script of `own_lines` lines."""
     counts = (count_lines(line_of(question)) for question in questions)
     return list(accumulate(counts, initial=own_lines + 1))[:-1]
 
 
 def taker_of(found: List[Record], begun: List[Command], line: int) -> str:
-    """Where the block stands that this line is a record of, or else the record whose quote is open."""
+    """Returns the block that has this line as a record, or the record whose quote is open."""
     own = next((record.number for record in found if record.line == line), None)
     if own is None:
-        return f"{[record for record in found if record.line < line][-1].place}, where a quote is open"
+        return f"{[record for record in found if record.line < line][-1].where}, which has an open quote"
     blocks = [one for one in begun if one.record.number < own <= one.record.number + len(one.block)]
-    return f"{blocks[-1].place}, {short(blocks[-1].text)}, as a record of its block"
+    return f"{blocks[-1].where}, {short(blocks[-1].text)}'s block"

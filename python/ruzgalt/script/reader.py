@@ -1,6 +1,6 @@
-"""Reads the records of a text one after another, and keeps of many only where they stand.
+"""Reads the records of a text one after another, and keeps only the positions of long lists.
 
-Bytes that are no UTF-8 stay as they are in texts (`surrogateescape`), so what is read and printed again is the same.
+Bytes that aren't UTF-8 are kept in texts (`surrogateescape`), so printing gives the same bytes again.
 How long a field may be is a matter of the process, by csv.field_size_limit: a tool sets it, and others do for a while.
 """
 import csv
@@ -15,17 +15,17 @@ from typing import Callable, Iterator, List, NamedTuple, Optional, Sequence, Tup
 from ruzgalt.errors import Misfit
 from ruzgalt.script.records import Record
 
-# No script has as many characters.
+# More characters than any script has.
 LONGEST_FIELD = 1 << 27
 LIMITING = RLock()
 END = ["end"]
-# Records of one form are looked at by so many at once.
+# How many records of one form are processed at once.
 PIECE = 1 << 13
-# Of so many rows at most what may not be meant is looked for row by row.
+# The most rows that are searched for possible mistakes row by row.
 LOOKED_AT = 100_000
 LIST_END = re.compile(rb"\nend,(\d{1,9})\n")
 BYTE_ORDER_MARK = b"\xef\xbb\xbf"
-# Python 3.9's csv takes no zero byte, so one is put in its place that no decoded text has.
+# Python 3.9's csv takes no zero byte, so a character replaces it that no decoded text has.
 ZERO, STAND_IN = "\0", "\ud800"
 
 
@@ -41,22 +41,22 @@ def long_fields() -> Iterator[None]:
 
 
 class Place(NamedTuple):
-    """Where a record begins, or empty lines before it: in which line, and with which number."""
+    """The position of a record, or of empty lines before it: its line, and its number."""
 
     line: int
     number: int
 
 
 class Source:
-    """The bytes of a script or of answers. Records after so many lines of its own are asked."""
+    """The bytes of a script or of answers. Records after the first `own_lines` lines are questions of --ask."""
 
-    # So many bytes are counted at once, where a line is looked for.
+    # How many bytes are counted at once to find a line.
     STRIDE = 1 << 16
 
     def __init__(self, data: bytes, own_lines: Optional[int] = None) -> None:
         self.data, self.own_lines = data, own_lines
         self.has_zero = b"\0" in data
-        # Lines end with LF, or with CR and LF; if also with CR alone, each of their places is kept.
+        # Lines end with LF, or with CR and LF; if some end with only CR, the positions of all ends are kept.
         has_others = data.count(b"\r") != data.count(b"\r\n")
         self.ends = [found.end() for found in re.finditer(b"\r\n|\r|\n", data)] if has_others else None
         self.counts: List[int] = []
@@ -97,7 +97,7 @@ class Skipped(NamedTuple):
 
 
 class Reader:
-    """The records of a source from a place on. Empty lines give none, and have no number."""
+    """The records of a source from a position on. Empty lines aren't records."""
 
     def __init__(self, source: Source, place: Optional[Place] = None) -> None:
         self.source = source
@@ -163,7 +163,7 @@ class Reader:
         return Skipped(count, is_ended)
 
     def after_list(self, first: Record) -> "Reader":
-        """Returns a reader after a list of records as dipq prints it, of which only the first one was read.
+        """Returns a reader after a list of records as dipq prints it, whose first record was read.
 
         In a long list only the `end,N` is searched: it isn't in a field if the number of quotes before it is even.
         """
@@ -210,7 +210,7 @@ class Block(Sequence[Record]):
         self.size = skipped.size
 
     def bytes(self) -> bytes:
-        """The lines on which its records stand, and an `end`."""
+        """Returns the lines of its records, and its `end`."""
         return self.source.bytes_between(self.place.line, self.end)
 
     def __len__(self) -> int:

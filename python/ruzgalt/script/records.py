@@ -1,12 +1,17 @@
 """Records of CSV as dipq reads and prints them, with the lines on which they begin."""
 import csv
+import re
 import unicodedata
 from types import SimpleNamespace
 from typing import Iterable, List, NamedTuple, Sequence
 
 
-# A message shows at most so many characters of a record.
+# The most characters of a record in a message.
 LONGEST = 120
+# Letters, marks and a sign that have no ink, though Python counts them as printable.
+BLANK = re.compile(
+    "[\u034f\u115f\u1160\u17b4\u17b5\u180b-\u180f\u2800\u3164\ufe00-\ufe0f\uffa0\U000e0100-\U000e01ef]"
+)
 
 
 class Record(NamedTuple):
@@ -18,8 +23,8 @@ class Record(NamedTuple):
     is_asked: bool = False
 
     @property
-    def place(self) -> str:
-        """Where it stands, for a person: a question that is put after a script stands in no file."""
+    def where(self) -> str:
+        """Returns its line, for a person; a question that is put after a script isn't in a file."""
         return "--ask" if self.is_asked else f"line {self.line}"
 
     @property
@@ -50,12 +55,16 @@ def short(text: str) -> str:
 
 
 def visible(text: str) -> str:
-    """The text in one line, with the codes of what can't be seen, or is taken for a character of ASCII."""
+    """Returns the text in one line, with codes for characters that can't be seen or look like ASCII."""
     return short("".join(one if is_plain(one) else code_of(one) for one in text))
 
 
 def is_plain(character: str) -> bool:
     return character.isascii() and character.isprintable() or unicodedata.category(character)[0] in "LM"
+
+
+def is_seen(character: str) -> bool:
+    return character.isprintable() and not BLANK.match(character)
 
 
 def code_of(character: str) -> str:
@@ -68,7 +77,7 @@ def code_of(character: str) -> str:
 class Printer:
     """Prints records as dipq does, one at a time, by Python's writer of CSV.
 
-    Its lines end with CR and LF, so that a field stands in quotes for either; they are taken off.
+    Its lines end with CR and LF, so that a field with either is quoted; the ends are taken off.
     """
 
     def __init__(self) -> None:

@@ -6,8 +6,9 @@ from typing import Callable, Dict, Iterable, Iterator, List, Optional, Sequence,
 from ruzgalt.errors import Misfit
 from ruzgalt.script import naming
 from ruzgalt.script.commands import Command
-from ruzgalt.script.forms import is_name, read_point
+from ruzgalt.script.forms import POINTS, is_name, is_printed, is_sum, read_point
 from ruzgalt.script.language import Answered, Role
+from ruzgalt.script.records import visible
 
 MOST_COLUMNS = 16
 
@@ -38,7 +39,7 @@ def refuse_other_kinds(places: str, ones: Iterable[Column], others: Iterable[Col
 
 @dataclass(frozen=True)
 class Schema:
-    """A table of the store: its name, its columns, and the places of those of its key."""
+    """A table of the store: its name, its columns, and the indices of its key's columns."""
 
     name: str
     columns: Tuple[Column, ...]
@@ -55,7 +56,7 @@ class Schema:
         key = ["key", *(self.names[place] for place in self.key)] if self.key else []
         return ["table", self.name, *columns, *key]
 
-    def place(self, name: str) -> int:
+    def index_of(self, name: str) -> int:
         if name not in self.names:
             raise Misfit(f"the table {self.name} has no column {name}; {listed(self.names)}")
         return self.names.index(name)
@@ -77,7 +78,7 @@ def is_schema(fields: Sequence[str]) -> bool:
     except (IndexError, ValueError):
         return False
     is_once = all(len(set(some)) == len(some) for some in (made.names, made.key))
-    # What is read leaves out a column without a kind, and `key` with nothing after it.
+    # Reading leaves out a column without a kind, and `key` with nothing after it.
     is_whole = made.fields == list(fields) and len(made.names) <= MOST_COLUMNS
     has_kinds = all(column.kind is not Kind.POINT for column in made.columns)
     return is_once and is_whole and has_kinds and all(map(is_name, [made.name, *made.names]))
@@ -88,7 +89,7 @@ Value = Union[int, str, None]
 
 @dataclass(frozen=True)
 class Table:
-    """An answer as a table. A field that isn't given, as the end of a version that is open, is None."""
+    """An answer as a table. An empty field, such as the end of an open version, is None."""
 
     columns: List[Column]
     records: Sequence[Sequence[Optional[str]]] = field(default_factory=list)
@@ -108,7 +109,7 @@ class Table:
     def texts(self) -> Iterator[List[str]]:
         return (["" if text is None else text for text in record] for record in self.records)
 
-    def place(self, name: str) -> int:
+    def index_of(self, name: str) -> int:
         if name not in self.names:
             raise Misfit(f"the answer has no column {name}; {listed(self.names)}")
         return self.names.index(name)
@@ -125,10 +126,10 @@ DIVISION = [*ints("part", "row_id"), Column("instant", Kind.POINT)]
 
 
 def header(command: Command, tables: Dict[str, Schema]) -> List[Column]:
-    """The columns of the answer to a query that wasn't refused. Raises KeyError where its table or point is none."""
+    """Returns the columns of the answer to an accepted query. Raises KeyError if its table or point doesn't exist."""
     form, front = command.form, command.front
     named = [tables[name] for name in front[1:1 + form.tables]]
-    if form.behind == (Role.POINT,) and (len(front) != 3 or read_point(front[2]) is None):
+    if form.more == (Role.POINT,) and (len(front) != 3 or read_point(front[2]) is None):
         raise KeyError(command.word)
     return HEADERS[form.answered](front, named)
 
@@ -147,11 +148,11 @@ def of_pairs(_: Sequence[str], tables: Sequence[Schema]) -> List[Column]:
 
 
 def of_steps(front: Sequence[str], tables: Sequence[Schema]) -> List[Column]:
-    """The group's column under its own name, the period, and the value under that of what it is."""
+    """Returns the group's column, the period, and the value's column, named by function and column."""
     table = tables[0]
     named = front[2] if front[2] == "count" else "_".join(front[2:4])
-    group = [table.columns[table.place(front[-1])]] if group_of(front) else []
-    # The period keeps its names, by which it is found, whatever the group's is.
+    group = [table.columns[table.index_of(front[-1])]] if group_of(front) else []
+    # The period keeps its names, by which it is found, whatever the group's name is.
     start, end, *others = unique([*PERIOD, *group, *ints(named)])
     return [*others[:-1], start, end, others[-1]]
 
@@ -164,7 +165,7 @@ HEADERS: Dict[Answered, Header] = {
 
 
 def group_of(front: Sequence[str]) -> Optional[str]:
-    """The column after `by`, where an aggregate has one."""
+    """Returns the column after `by`, if an aggregate has one."""
     return front[-1] if len(front) in (5, 6) and front[-2] == "by" else None
 
 
@@ -177,3 +178,33 @@ def unique(columns: Iterable[Column]) -> List[Column]:
     given = list(columns)
     names = naming.apart([column.name for column in given])
     return [Column(name, column.kind) for name, column in zip(names, given)]
+
+
+# Names of columns, each with a record's value there.
+Where = Sequence[Tuple[str, str]]
+FORMS: Dict[Kind, Callable[[str], bool]] = {Kind.INT: is_sum, Kind.POINT: is_printed}
+# The reasons if a value isn't of its column's kind.
+NO_VALUE = {
+    Kind.INT: "not a whole number in digits only, such as 480050 for cents, or -8",
+    Kind.POINT: f"not a date or time as it is printed, such as {POINTS}; a midnight is printed as its date",
+}
+
+
+def wanted_in(of: Union[Schema, Table], where: Where) -> List[Tuple[int, str]]:
+    """Returns the index of each column with its value.
+
+    Raises Misfit if the column doesn't exist, or can't have such a value: an empty answer would hide that.
+    """
+    found = [(of.index_of(name), value) for name, value in where]
+    for place, value in found:
+        column = of.columns[place]
+        has_form = FORMS.get(column.kind)
+        # The end of a version that is open is empty.
+        if has_form and not has_form(value) and (value or column.name != "sys_to"):
+            raise Misfit(f"--where {column.name}={visible(value)}: {NO_VALUE[column.kind]}")
+    return found
+
+
+def has_values(record: Sequence[str], wanted: Sequence[Tuple[int, str]]) -> bool:
+    """Returns whether a record has all of these values."""
+    return all(record[place] == value for place, value in wanted)

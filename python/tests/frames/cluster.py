@@ -7,7 +7,7 @@ import tempfile
 from pathlib import Path
 
 import ruzgalt
-from processes import children, wait_for
+from processes import wait_for
 
 COMMON = ["--no-dashboard"]
 HERE = Path(__file__).resolve().parent
@@ -60,12 +60,10 @@ class Cluster:
         self.workers.append(self.start("dask_worker", *given, **variables))
 
     def kill(self, process):
-        """Kills a worker at once. What it ran at that time."""
-        found = children(process.pid)
+        """Kills a worker at once."""
         os.kill(process.pid, signal.SIGKILL)
         process.wait()
         self.workers.remove(process)
-        return found
 
     def said(self):
         return "\n".join(log.read_text()[-2000:] for log in sorted(Path(self.folder.name).glob("*.log")))

@@ -4,11 +4,12 @@ import warnings
 
 import numpy as np
 import pandas as pd
-from hypothesis import given
+from hypothesis import given, settings
 from hypothesis import strategies as st
 
 import ruzgalt
-from ruzgalt.frames import classes, points, printing, script, values
+from ruzgalt.frames import classes, points, values
+from ruzgalt.store import script
 from ruzgalt.frames.sides import Side
 
 
@@ -51,6 +52,7 @@ def side_of(kinds, rows):
 
 
 class Classes(unittest.TestCase):
+    @settings(deadline=None)
     @given(SIDES)
     def test_they_are_equal_where_the_values_are(self, case):
         kinds, *rows = case
@@ -61,8 +63,8 @@ class Classes(unittest.TestCase):
         flat = [*keys[0], *keys[1]]
         wanted = [one == other for one in flat for other in flat]
         self.assertEqual([one == other for one in codes for other in codes], wanted)
-        self.assertLessEqual(len(set(map(len, map(str, codes)))), 1)
 
+    @settings(deadline=None)
     @given(SIDES)
     def test_sorted_they_rise_with_the_values(self, case):
         side, keys = side_of(case[0], case[1])
@@ -72,14 +74,10 @@ class Classes(unittest.TestCase):
 
     def test_many_are_numbered_anew(self):
         far = values.Values(None, "int", np.array([0, 10**12, -10**12, 10**12, 5], np.int64))
-        near = values.Values(None, "int", np.array([0, 800_000, 0, 800_001, 0], np.int64))
+        near = values.Values(None, "int", np.array([0, 4_000_000, 0, 4_000_001, 0], np.int64))
         self.assertEqual(classes.together([[far]], sort=True)[0].tolist(), [1, 3, 0, 3, 2])
         numbers, bound = classes.together([[far], [near]] * 3, sort=True)
         self.assertEqual((numbers.tolist(), bound), ([1, 3, 0, 4, 2], 5))
-
-    def test_all_have_as_many_digits(self):
-        for bound, first in ((0, 1), (9, 1), (10, 10), (90, 10), (91, 100), (900_000, 100_000), (900_001, 10**6)):
-            self.assertEqual(classes.first_of(bound), first)
 
     def test_texts_that_look_alike_do_not_meet(self):
         day = pd.to_datetime
@@ -101,6 +99,7 @@ class Classes(unittest.TestCase):
 class Rows(unittest.TestCase):
     """What is written, beside what Python would."""
 
+    @settings(deadline=None)
     @given(st.lists(st.tuples(
         st.integers(points.FIRST, points.NO_END - 1), st.booleans(), st.booleans(),
         st.sampled_from(NUMBERS) | st.integers(0, 30), st.sampled_from(TEXTS[:26]),
@@ -114,14 +113,7 @@ class Rows(unittest.TestCase):
         side = Side(np.array(starts, np.int64), np.array(ends, np.int64), columns)
         found = [points.texts_of(side.start), points.texts_of(side.end), map(str, numbers), map(values.quoted, texts)]
         wanted = "".join(f"row,{','.join(fields)}\n" for fields in zip(*found)).encode()
-        self.assertEqual(b"".join(script.rows_of(side)), wanted)
-
-    def test_rows_go_in_chunks(self):
-        count = 2 * printing.CHUNK + 1
-        for numbers in (np.arange(count), np.full(count, 7), np.arange(count) + 100_000):
-            side = Side(np.zeros(count, np.int64), np.full(count, points.DAY), [values.Values(None, "int", numbers)])
-            wanted = "".join(f"row,1970-01-01,1970-01-02,{number}\n" for number in numbers.tolist())
-            self.assertEqual(b"".join(script.rows_of(side)).decode(), wanted)
+        self.assertEqual(script.rows_of(side), wanted)
 
 
 if __name__ == "__main__":

@@ -105,7 +105,7 @@ class Labels(Case):
 
     def test_a_batch_and_its_last_change_have_labels_of_their_own(self):
         made = store()
-        with self.assertRaisesRegex(ruzgalt.Refused, "'a' is that of the batch and of its last change"):
+        with self.assertRaisesRegex(ruzgalt.Refused, "'a' is that of commit 3"):
             with made.batch(label="a"):
                 made.load("t", frame("c"), label="a")
         with made.batch(label="a", day="2024-03-01"):

@@ -21,7 +21,7 @@ SUBJECTS = dict(api.subjects())
 SECTIONS = ("Parameters", "Returns", "Raises", "Warns", "Examples")
 CALLS = {name: subject for name, subject in SUBJECTS.items() if inspect.isroutine(subject)}
 # Those that mean one thing wherever they are of one kind, but in a store's table, which keeps them.
-OPTIONS = ("period", "right_period", "open_end", "last_day", "workers", "as_of", "function", "column", "by")
+OPTIONS = ("period", "right_period", "open_end", "last_day", "as_of", "function", "column", "by")
 
 
 def parameters(call):

@@ -197,9 +197,9 @@ class Doubts(unittest.TestCase):
         """Those that are looked at are counted, since a time would be of this machine."""
         count = doubts.MOST_TEXTS + 10
         left, right = (pay([f"{mark}{place}" for place in range(count)]) for mark in "pq")
-        with mock.patch.object(doubts, "fold", side_effect=doubts.fold) as folded:
+        with mock.patch.object(doubts, "folds", side_effect=doubts.folds) as folded:
             self.assertEqual(self.reported(lambda: ruzgalt.join(left, right, on="person")), [])
-        self.assertLessEqual(folded.call_count, 4 * doubts.MOST_TEXTS)
+        self.assertLessEqual(sum(len(call.args[0]) for call in folded.call_args_list), 4 * doubts.MOST_TEXTS)
 
 
 if __name__ == "__main__":

@@ -3,18 +3,25 @@ import copy
 import gc
 import os
 import pickle
+import resource
 import signal
+import subprocess
+import sys
+import tempfile
 import unittest
 import warnings
 from concurrent.futures import ThreadPoolExecutor
+from pathlib import Path
 from unittest import mock
 
 import pandas as pd
 
 import ruzgalt
 from processes import children, is_running, wait_for
-from ruzgalt.frames import live
-from test_stores import frame, store
+from ruzgalt import which
+from ruzgalt.frames import worker
+from ruzgalt.store import live, store as stores
+from test_stores import frame, quietly, store
 
 DAYS = pd.to_datetime(["2024-01-01"]), pd.to_datetime(["2024-02-01"])
 
@@ -111,6 +118,97 @@ class Lives(unittest.TestCase):
         self.assertEqual(len(self.made.log()), 12_004)
         self.assertEqual(self.made.dip("u").count, 9_000)
         self.assertTrue(self.made.check("u", self.made.dip("u")))
+
+    def test_a_worker_s_memory_is_the_program_s_limit(self):
+        with mock.patch.object(worker, "memory", return_value=1 << 33):
+            other = copy.copy(self.made)
+            other.rows("t")
+        [program] = [pid for pid in self.own() if resource.prlimit(pid, resource.RLIMIT_AS)[0] == 1 << 33]
+        self.assertTrue(is_running(program))
+
+    def test_it_ends_if_python_is_killed(self):
+        lines = f"import sys, time; sys.path.append({os.path.dirname(__file__)!r}); import test_live as one\n" \
+                "made = one.store(one.frame(), key='k'); print(one.programs()[0], flush=True); time.sleep(60)"
+        with subprocess.Popen([sys.executable, "-c", lines], stdout=subprocess.PIPE) as caller:
+            program = int(caller.stdout.readline())
+            self.assertTrue(is_running(program))
+            caller.kill()
+        self.assertTrue(wait_for(lambda: not is_running(program), 5))
+
+
+class Counts(unittest.TestCase):
+    def test_past_some_commits_counts_are_asked_for_when_they_are_looked_at(self):
+        made = store(frame(cents=[1, 2]), key="k")
+        with mock.patch.object(stores, "COUNTED", 2), mock.patch.object(live.Live, "exchange", autospec=True,
+                                                                        side_effect=live.Live.exchange) as exchange:
+            (one, other), doubts = quietly(lambda: (update(made, 5), update(made, 6, "no one")))
+            self.assertEqual((exchange.call_count, doubts), (2, []))
+            self.assertEqual((other.added, other.closed, repr(one)), (0, 0, "commit 3: 3 added, 1 closed"))
+            self.assertEqual(exchange.call_count, 3)
+            _, doubts = quietly(lambda: in_a_batch(made))
+            self.assertEqual(len(doubts), 1)
+
+
+def in_a_batch(made):
+    with made.batch():
+        update(made, 7, "no one")
+
+
+class Faults(unittest.TestCase):
+    """What is said if there is no program, or it ends badly."""
+
+    def setUp(self):
+        folder = tempfile.TemporaryDirectory(prefix="frames-")
+        self.addCleanup(folder.cleanup)
+        self.folder = Path(folder.name)
+
+    def says(self, wanted, text="", **variables):
+        """That a store says this with a program of this text."""
+        path = self.folder / "dipq-live"
+        path.write_text(f"#!/bin/sh\n{text}\n")
+        path.chmod(0o755)
+        with mock.patch.dict(os.environ, {"DIPQ_LIVE": str(path), **variables}):
+            with self.assertRaises(ruzgalt.Stopped) as caught:
+                ruzgalt.Store.from_script(b"table,t\n")
+        self.assertIn(wanted, str(caught.exception))
+
+    def test_how_it_ended_is_reported(self):
+        for wanted, text in (("SIGKILL", "kill -9 $$"), ("SIGSEGV", "kill -11 $$"),
+                             ("status 3: dipq-live: out of memory", "echo 'dipq-live: out of memory' >&2; exit 3")):
+            with self.subTest(text), self.assertWarnsRegex(ruzgalt.Doubt, f"{wanted}: it was started again"):
+                self.says(wanted, text)
+
+    def test_another_program_is_reported(self):
+        for text in ("echo ok", "echo ok,1", "exit 1"):
+            with self.subTest(text):
+                self.says("DIPQ names a dipq", text)
+
+    def test_a_program_that_answers_nothing_is_reported_by_each_call(self):
+        empty, whole = ruzgalt.Store(), store(frame())
+        script = whole.script()
+        calls = [
+            empty.log, lambda: empty.table("t", frame()), lambda: copy.copy(whole).log(),
+            lambda: copy.copy(whole).picture("rows,t"), lambda: ruzgalt.Store.from_script(script),
+            lambda: whole.page(self.folder / "t.html", ["rows,t"]),
+            lambda: copy.copy(whole).page(self.folder / "t.html"),
+        ]
+        for program in ("/bin/true", "/bin/echo", "/bin/false"):
+            named = mock.patch.dict(os.environ, DIPQ=program, DIPQ_LIVE=program)
+            for place, call in enumerate(calls):
+                with self.subTest(program=program, call=place), named:
+                    with self.assertRaisesRegex(ruzgalt.Stopped, "DIPQ names a dipq"):
+                        call()
+
+    def test_a_program_that_is_not_there_is_reported(self):
+        self.says("/nowhere/dipq-live: No such file", DIPQ_LIVE="/nowhere/dipq-live")
+        with mock.patch.dict(os.environ, DIPQ="/nowhere/dipq"):
+            del os.environ["DIPQ_LIVE"]
+            self.assertEqual(which.live(), "/nowhere/dipq-live")
+
+    def test_a_clone_that_is_not_built_is_reported(self):
+        (self.folder / "crates").mkdir()
+        with mock.patch.object(which, "TOP", self.folder):
+            self.says("isn't built from", "exit 3")
 
 
 if __name__ == "__main__":

@@ -8,7 +8,8 @@ import pandas as pd
 
 import ruzgalt
 from random_frames import period
-from ruzgalt.frames import output, points, printing, values
+from ruzgalt.frames import points, values
+from ruzgalt.store import answers
 from ruzgalt.frames.kinds import Kind, joint_kind
 
 FIRST, LAST = datetime.datetime(1, 1, 1), datetime.datetime(9999, 12, 31, 23, 59, 59)
@@ -64,7 +65,7 @@ class Points(unittest.TestCase):
         self.assertEqual(texts[0], "0001-01-01")
         self.assertEqual(texts[-2:], ["9999-12-31", "9999-12-31T23:59:59"])
         answered = "".join(f"row,{text}\n" for text in texts) + f"end,{len(texts)}\n"
-        got = output.Output(np.frombuffer(answered.encode(), np.uint8)).block("p")
+        got = answers.Output(np.frombuffer(answered.encode(), np.uint8)).block("p")
         self.assertEqual([column.tolist() for column in got], [SECONDS.tolist()])
 
     def test_kinds_of_two_frames(self):
@@ -131,11 +132,6 @@ class Values(unittest.TestCase):
                 found = values.values_of(column)
                 self.assertEqual((found.kind, found.codes.tolist()), ("int", [0, 1, 100]))
                 pd.testing.assert_series_equal(pd.Series(found.restored(found.codes)), column)
-
-    def test_digits_are_those_of_python(self):
-        numbers = np.array([0, 1, 9, 10, -1, -10, 2**63 - 1, -2**63, 10**18, -10**17], np.int64)
-        found = [digits.replace(b"\0", b"").decode() for digits in printing.digits_of(numbers).tolist()]
-        self.assertEqual(found, list(map(str, numbers.tolist())))
 
     def test_decimals_are_exact(self):
         cells = objects(decimal.Decimal("92233720368547758.07"), decimal.Decimal("-0.10"), decimal.Decimal("1E2"))

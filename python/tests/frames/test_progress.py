@@ -13,12 +13,14 @@ from unittest import mock
 import pandas as pd
 
 import ruzgalt
-from ruzgalt.commands.progress import Progress
-from ruzgalt.frames import live, progress, running
+from ruzgalt.frames import progress
+from ruzgalt.store import live
+from ruzgalt.kernel import library
+from ruzgalt.progress import Progress
 
 DAYS = pd.date_range("2024-01-02", periods=40)
 FRAME = pd.DataFrame({"from": DAYS, "to": DAYS + pd.Timedelta(days=9), "k": list("abcd") * 10, "x": range(40)})
-RUN, EXCHANGE = running.run, live.Live.exchange
+SLOW = [(library, "call"), (live.Live, "exchange")]
 
 
 class Watched(unittest.TestCase):
@@ -40,7 +42,7 @@ class Watched(unittest.TestCase):
 
     @contextlib.contextmanager
     def slow(self, is_shown=True):
-        """Runs of the program that take until a line is shown, or some time where none is to be."""
+        """Answers that take until a line is shown, or some time if none must be."""
         def slowed(function):
             def run(*given):
                 begun = time.monotonic()
@@ -49,8 +51,9 @@ class Watched(unittest.TestCase):
                 return function(*given)
             return run
 
-        patched = mock.patch.object(live.Live, "exchange", slowed(EXCHANGE))
-        with mock.patch.object(running, "run", slowed(RUN)), patched:
+        with contextlib.ExitStack() as stack:
+            for owner, name in SLOW:
+                stack.enter_context(mock.patch.object(owner, name, slowed(getattr(owner, name))))
             yield
 
     def forget(self):
@@ -116,7 +119,8 @@ class Calls(Watched):
 
     def test_a_stream_that_nobody_reads_any_more_stops_no_call(self):
         self.said.close()
-        with mock.patch.object(running, "run", lambda *given: time.sleep(0.05) or RUN(*given)):
+        call = library.call
+        with mock.patch.object(library, "call", lambda *given: time.sleep(0.05) or call(*given)):
             self.assertEqual(len(ruzgalt.coalesce(FRAME, progress=True)), 1)
 
     @unittest.skipUnless(importlib.util.find_spec("tqdm"), "tqdm isn't here: apt-get install python3-tqdm")
@@ -169,7 +173,7 @@ class Partitions(Watched):
         with self.slow():
             ruzgalt.coalesce(spread, "k", progress=True).head()
         self.assertEqual((self.said.getvalue()[-1], COMPUTES.begun, Progress.begun), ("\r", {}, []))
-        with mock.patch.object(running, "run", side_effect=ruzgalt.Stopped("the end")):
+        with mock.patch.object(library, "call", side_effect=ruzgalt.Stopped("the end")):
             with self.assertRaises(ruzgalt.Stopped):
                 ruzgalt.coalesce(spread, "k", progress=True).compute(scheduler="sync")
         self.assertEqual((COMPUTES.begun, COMPUTES.going_on, Progress.begun), ({}, 0, []))

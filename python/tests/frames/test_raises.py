@@ -71,11 +71,23 @@ class Raises(unittest.TestCase):
                 store.raise_by("pay", "hours", 999999999, "2024-07-01", dry_run=is_dry)
         self.assertEqual(store.rows("pay")["hours"].tolist(), [1e8])
 
+    def test_a_second_raise_from_one_day_on_is_refused_unless_it_is_meant(self):
+        store = store_of(cents=[100, 200], k=["a", "b"])
+        store.raise_by("pay", "cents", 10, "2024-07-01", label="July")
+        said = "cents was raised from 2024-07-01 on already, by 2 updates, the first from 200 to 220 .commit 3"
+        for words in ({}, {"dry_run": True}, {"label": "again"}):
+            with self.subTest(words), self.assertRaisesRegex(ruzgalt.Refused, said):
+                store.raise_by("pay", "cents", 10, "2024-07-01", **words)
+        self.assertEqual(store.at("pay", "2024-07-01").sort_values("k")["cents"].tolist(), [110, 220])
+        store.raise_by("pay", "cents", 50, "2024-08-01")
+        store.raise_by("pay", "cents", 50, "2024-07-01", "2024-08-01", again=True)
+        self.assertEqual(store.at("pay", "2024-07-01").sort_values("k")["cents"].tolist(), [165, 330])
+
     def test_a_batch_has_raises_too(self):
         store = store_of(cents=[100])
         with store.batch() as changed:
             store.raise_by("pay", "cents", 10, "2024-07-01")
-            store.raise_by("pay", "cents", 10, "2024-07-01")
+            store.raise_by("pay", "cents", 10, "2024-07-01", again=True)
         self.assertEqual((len(changed), store.at("pay", "2024-07-01")["cents"].tolist()), (2, [121]))
 
 

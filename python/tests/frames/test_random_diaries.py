@@ -2,15 +2,16 @@
 import datetime
 import importlib.util
 import os
+import subprocess
 import unittest
 
 import pandas as pd
 
 import ruzgalt
-from ruzgalt import answers
-from ruzgalt.answers import diary
+from ruzgalt import which
+from ruzgalt.script import answers
+from ruzgalt.script import changes as diary
 from ruzgalt.errors import Misfit
-from ruzgalt.frames import running
 
 if not importlib.util.find_spec("hypothesis"):
     raise unittest.SkipTest("hypothesis isn't here: apt-get install python3-hypothesis")
@@ -113,7 +114,8 @@ class Diaries(unittest.TestCase):
     def is_as_for_the_tools(self, script, plain):
         """tools/answers takes the same commits of the diary's table."""
         script += b"rows,diary\n"
-        *_, rows = answers.of(script, running.answer([script], 1).tobytes())
+        ran = subprocess.run([which.program()], input=script, stdout=subprocess.PIPE)
+        *_, rows = answers.of(script, ran.stdout)
         for day in ((FIRST + datetime.timedelta(days=place)).isoformat() for place in range(-1, 11)):
             number = plain.newest(datetime.date.fromisoformat(day))
             if number is None:

@@ -8,7 +8,7 @@ import numpy as np
 import pandas as pd
 
 import ruzgalt
-from ruzgalt.frames import ask
+from ruzgalt.kernel import library
 
 try:
     import dask.dataframe as dd
@@ -90,18 +90,18 @@ class Slices(unittest.TestCase):
         for partitions in (4, 30):
             for function in FUNCTIONS:
                 with self.subTest(partitions=partitions, function=function):
-                    with mock.patch.object(ask.script, "load", side_effect=ask.script.load) as loads:
+                    with mock.patch.object(library, "agg", side_effect=library.agg) as calls:
                         asked(frame, function, partitions, None)
-                    given = sum(len(call.args[1]) for call in loads.call_args_list)
+                    given = sum(len(call.args[1]) for call in calls.call_args_list)
                     self.assertLessEqual(given, 2 * len(frame) + partitions**2)
 
     def test_rows_that_go_on_are_no_work_of_a_slice(self):
         """Those that start as the first ones do, and end as the last ones, are one row of each slice."""
         frame = frame_of([*[(0, DAYS, 1)] * 500, *[(day, day + 1, 1) for day in range(DAYS)]])
-        with mock.patch.object(ask.script, "load", side_effect=ask.script.load) as loads:
+        with mock.patch.object(library, "agg", side_effect=library.agg) as calls:
             got = asked(frame, "count", 5, 6)
         self.assertEqual(got["count"].tolist(), [501])
-        self.assertLessEqual(sum(len(call.args[1]) for call in loads.call_args_list), 2 * DAYS + 5 * 6)
+        self.assertLessEqual(sum(len(call.args[1]) for call in calls.call_args_list), 2 * DAYS + 5 * 6)
 
 
 if __name__ == "__main__":

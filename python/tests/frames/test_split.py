@@ -1,5 +1,4 @@
-"""Rows past the limits: what goes in parts is answered as the whole is, and by how many runs."""
-import itertools
+"""Rows past the limits: what goes in parts is answered as the whole is, and by how many calls of the library."""
 import unittest
 from unittest import mock
 
@@ -7,8 +6,8 @@ import numpy as np
 import pandas as pd
 
 import ruzgalt
-from ruzgalt.frames import running, split
-from ruzgalt.frames.errors import OutOfMemory
+from ruzgalt.frames import split
+from ruzgalt.kernel import library
 
 DAY = np.timedelta64(1, "D")
 
@@ -27,20 +26,8 @@ def days_of(first, last, count):
 
 
 def counted():
-    """The program's runs, as a context."""
-    return mock.patch.object(running, "run", side_effect=running.run)
-
-
-def ended_by(is_ended):
-    """Runs of which memory ends some, by their numbers from 1 on, as a context."""
-    numbers = itertools.count(1)
-
-    def run(*given):
-        if is_ended(next(numbers)):
-            raise OutOfMemory("dipq: SIGKILL")
-        running_run(*given)
-    running_run = running.run
-    return mock.patch.object(running, "run", side_effect=run)
+    """The library's calls, as a context."""
+    return mock.patch.object(library, "call", side_effect=library.call)
 
 
 QUESTIONS = {
@@ -57,14 +44,14 @@ QUESTIONS = {
 
 class Split(unittest.TestCase):
     def answers_as_whole(self, left, right, rows, most):
-        """Of each question the same, with tables of so many rows, and by at most so many runs."""
+        """Each question has the same answer by calls that take that many rows, and by at most `most` calls."""
         for name, asked in QUESTIONS.items():
             with self.subTest(name):
                 whole = asked(left, right)
-                with mock.patch.object(split, "ROWS", rows), counted() as runs:
+                with mock.patch.object(split, "ROWS", rows), counted() as calls:
                     pd.testing.assert_frame_equal(asked(left, right), whole)
-                self.assertGreater(runs.call_count, 1)
-                self.assertLessEqual(runs.call_count, most)
+                self.assertGreater(calls.call_count, 1)
+                self.assertLessEqual(calls.call_count, most)
 
     def test_values_go_into_parts(self):
         self.answers_as_whole(frame(400, 1, values=40), frame(300, 2, values=40), rows=100, most=12)
@@ -84,7 +71,7 @@ class Split(unittest.TestCase):
 
     def test_rows_of_one_period(self):
         same = days_of("2024-01-01", "2024-01-02", 200)
-        self.answers_as_whole(same, same, rows=70, most=12)
+        self.answers_as_whole(same, same, rows=70, most=18)
 
     def test_rows_that_start_apart_and_never_end(self):
         left = frame(200, 9).assign(to=pd.Timestamp("2100-01-01"))
@@ -102,45 +89,16 @@ class Split(unittest.TestCase):
             ruzgalt.agg(great, "sum", "cents")
         self.assertEqual(caught.exception.name, "Full")
 
-    def test_a_run_has_as_many_rows_as_its_script_has_room_for(self):
-        left, right = frame(200, 12, values=20), frame(200, 13, values=20)
-        for name, asked in QUESTIONS.items():
-            with self.subTest(name):
-                whole = asked(left, right)
-                with mock.patch.object(split.script, "ROOM", 4_000), counted() as runs:
-                    pd.testing.assert_frame_equal(asked(left, right), whole)
-                self.assertGreater(runs.call_count, 1)
-
-    def test_wide_texts_take_no_room(self):
-        wide = frame(200, 12, values=20)
-        wide["k"] = ["x" * 4000 + str(value) for value in wide["k"]]
-        with mock.patch.object(split.script, "ROOM", 20_000), counted() as runs:
-            self.assertGreater(len(ruzgalt.join(wide, wide, on="k")), 200)
-        self.assertEqual(runs.call_count, 1)
-
-    def test_runs_that_memory_ends_are_parted_and_tried_again(self):
-        same = days_of("2024-01-01", "2024-03-01", 60)
-        left, right = (pd.concat([same, frame(120, seed, values=3, longest=400)]) for seed in (13, 14))
-        for name, asked in QUESTIONS.items():
-            whole = asked(left, right)
-            for what, is_ended in (("first", lambda run: run == 1), ("some", lambda run: run in (1, 2, 5))):
-                with self.subTest(name, ended=what), mock.patch.object(split, "FEW", 40), ended_by(is_ended) as runs:
-                    pd.testing.assert_frame_equal(asked(left, right), whole)
-                    self.assertGreater(runs.call_count, 2)
-
-    def test_few_rows_are_tried_again_as_they_are(self):
-        left = frame(50, 15)
-        whole = ruzgalt.join(left, left, on="k")
-        with ended_by(lambda run: run <= split.TRIES) as runs:
-            pd.testing.assert_frame_equal(ruzgalt.join(left, left, on="k"), whole)
-        self.assertEqual(runs.call_count, split.TRIES + 1)
-
-    def test_what_memory_ends_again_and_again_is_reported(self):
-        for name, asked in QUESTIONS.items():
-            with self.subTest(name), ended_by(lambda run: True) as runs, self.assertRaises(ruzgalt.Stopped) as caught:
-                asked(frame(3_000, 16), frame(3_000, 17))
-            self.assertEqual(runs.call_count, split.TRIES + 1)
-            self.assertIn("tried 4 times more, with fewer rows: give fewer rows in a call", str(caught.exception))
+    def test_rows_past_the_limit_of_the_library(self):
+        days = np.datetime64("2000-01-01") + np.arange(library.ROWS + 1) // 200 * DAY
+        many = pd.DataFrame({"from": days.astype("M8[ns]"), "to": (days + DAY).astype("M8[ns]"), "k": 1})
+        few = days_of("2000-01-01", "2000-01-03", 2).assign(k=[1, 2])
+        joined = ruzgalt.join(many, few, on="k")
+        self.assertEqual(joined["from"].value_counts(sort=False).tolist(), [200, 200])
+        for right, left in ((few, 400), (few.iloc[:0], 0), (few.assign(k=3), 0)):
+            self.assertEqual(len(ruzgalt.anti(many, right, on="k")), len(many) - left)
+        counts = ruzgalt.agg(many, "count", by="k")["count"]
+        self.assertEqual(counts.tolist(), [200, 1])
 
 
 if __name__ == "__main__":

@@ -306,7 +306,6 @@ class Changes(Case):
             ("no row then", lambda made: made.delete("t", "2025-01-10", None), "no row holds"),
             ("all rows", lambda made: made.update("t", "2024-01-10", None, {"k": "z"}), "all rows of that time: 2"),
             ("all deleted", lambda made: made.delete("t", "2024-01-10", None), "all rows of that time: 2"),
-            ("all by where", lambda made: made.update("t", "2024-01-10", None, {"k": "z"}, {"n": 1}), "matches all"),
             ("a row of none", lambda made: made.update_rows("t", frame(k=["a", "B"], n=[3, 4]), "k"), "row 'y'"),
             ("a month's last day", lambda made: made.update("t", "2024-01-10", "2024-01-31", {"k": "z"}, {"k": "a"}),
              "2024-01-31 isn't in it"),
@@ -537,6 +536,16 @@ class Batches(Case):
         self.assertEqual((caught.exception.name, caught.exception.label), ("KeyOverlap", "x"))
         self.assertEqual((made.script(), len(made.rows("t"))), (before, 2))
 
+    def test_a_refused_change_that_is_caught_within_is_left_out(self):
+        made = store(frame(n=[1, 2]), key=["k"])
+        with made.batch() as changed:
+            made.load("t", frame(k=["c", "d"], n=3))
+            self.refuses(lambda: made.load("t", frame(n=3)), "KeyOverlap")
+            self.refuses(lambda: made.update_rows("t", frame(k="e", n=[1, 2]), ["n"]), "KeyOverlap", "row 'y'")
+            made.load("t", frame(k=["f", "g"], n=3))
+        self.assertEqual(changed, [ruzgalt.Changed(3, 2, 0), ruzgalt.Changed(4, 2, 0)])
+        self.assertEqual(made.rows("t")["k"].tolist(), ["a", "b", "c", "d", "f", "g"])
+
     def test_a_batch_within_a_batch_is_refused(self):
         made = store(frame())
         with self.assertRaises(ruzgalt.Refused), made.batch(), made.batch():
@@ -683,6 +692,11 @@ class Scripts(Case):
         made, doubts = quietly(lambda: ruzgalt.Store.from_script(given))
         self.assertEqual((len(made.rows("shift")), csv.field_size_limit()), (1, before))
         self.assertIn("BadNumber", doubts[0])
+
+    def test_a_script_that_was_cut_off_is_refused(self):
+        rows = b"load,t\nrow,2024-01-01,2024-02-01\n"
+        for end in (rows, b'rows,"t\n', b"together\nrows,t\n", b"together\n" + rows + b"end\n"):
+            self.refuses(lambda: ruzgalt.Store.from_script(b"table,t\n" + end), "Unended", "line 2", "end")
 
     def test_an_empty_script_is_an_empty_store(self):
         for given in (b"", b"\n", b"rows,pay\n"):

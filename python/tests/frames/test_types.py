@@ -69,7 +69,7 @@ class Types(unittest.TestCase):
 
     @unittest.skipUnless(os.environ.get("FRAMES_LONG"), "only in the long form, since it reads all of numpy")
     def test_types_are_right(self):
-        printed = mypy(["-p", "ruzgalt.frames"], [TOP / "python"], self.folder)
+        printed = mypy(["-p", "ruzgalt.frames", "-p", "ruzgalt.store"], [TOP / "python"], self.folder)
         self.assertTrue(printed.startswith("Success"), printed)
 
     def test_a_program_is_refused_where_it_is_wrong(self):

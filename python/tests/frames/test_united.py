@@ -196,7 +196,7 @@ class Pieces(unittest.TestCase):
     def test_an_amount_in_total_is_as_much_in_all_parts(self):
         """Also of a time that is cut, of months and quarters, and of less than nothing."""
         for amount in (1_000, -1_001, 1):
-            rows = frame(("2024-01-10", "2025-03-05", "a", amount), ("2024-02-29", "2024-12-31T06:00", "a", amount))
+            rows = frame(("2024-01-10", "2025-03-05T00", "a", amount), ("2024-02-29", "2024-12-31T06", "a", amount))
             cuts = ["2024-01-01", "2024-05-17", "2024-05-18T01:02:03", "2025-06-01"]
             found = [
                 [ruzgalt.spread(rows, "x", amount="in total", each=each, within=within)["x"].sum() for within in whole]

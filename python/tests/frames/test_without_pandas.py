@@ -33,7 +33,7 @@ class WithoutPandas(unittest.TestCase):
         return ran.stdout.decode(), ran.stderr.decode()
 
     def test_modules_of_the_tools_are_imported(self):
-        lines = "from ruzgalt import answers; from ruzgalt.commands import answers_tool; print('yes')"
+        lines = "from ruzgalt import answers; from ruzgalt.cli import answers as tool; print('yes')"
         self.assertEqual(self.run_lines(lines), ("yes\n", ""))
 
     def test_frames_say_what_is_to_be_installed(self):
@@ -55,7 +55,7 @@ print(host() == before, "join" in dir(ruzgalt), sorted(one for one in sys.module
 import importlib, pathlib
 from ruzgalt import answers
 for file in sorted(pathlib.Path(answers.__file__).parents[1].rglob("*.py")):
-    if file.parent.name not in ("frames", "ruzgalt"):
+    if file.parent.name not in ("frames", "kernel", "ruzgalt", "store"):
         importlib.import_module(f"ruzgalt.{{file.parent.name}}.{{file.stem}}")
 script = b"table,t,name,text\\nload,t\\nrow,2024-01-01,2024-01-02," + 200_000 * b"x" + b"\\nend\\n"
 [_, load] = answers.of(script, b"ok,1\\nerror,3,TooLong\\n")

@@ -1,4 +1,4 @@
-"""Workers of Dask that lack something: memory, the program, the package."""
+"""Workers of Dask that lack something: the library, memory for it, the package."""
 import os
 import socket
 import tempfile
@@ -9,7 +9,6 @@ import numpy as np
 import pandas as pd
 
 import ruzgalt
-from ruzgalt import which
 
 try:
     import dask.dataframe as dd
@@ -20,6 +19,15 @@ except ImportError:
 from cluster import Cluster  # noqa: E402
 
 ROWS = 20_000
+# A worker whose library has no memory.
+SMALL = """
+from ruzgalt.kernel import library
+
+class Refusing:
+    ruzgalt_join = staticmethod(lambda *given: library.NO_MEMORY)
+
+library.loaded = Refusing
+"""
 
 
 def frame(seed):
@@ -51,12 +59,6 @@ class Workers(unittest.TestCase):
         self.cluster.add_worker(*words, **variables)
         self.addCleanup(self.cluster.kill, self.cluster.workers[-1])
 
-    def program(self, text):
-        path = self.folder / "dipq"
-        path.write_text(f"#!/bin/sh\n{text}\n")
-        path.chmod(0o755)
-        return str(path)
-
     def asked(self, parts):
         """Of one worker the answer of a join."""
         left, right = (dd.from_pandas(frame(seed), npartitions=2) for seed in (1, 2))
@@ -64,28 +66,19 @@ class Workers(unittest.TestCase):
             client.wait_for_workers(1, timeout=120)
             return ruzgalt.join(left, right, on="k", parts=parts).compute()
 
-    def test_a_program_has_the_worker_s_memory_and_fewer_rows_where_that_is_refused(self):
-        limits = self.folder / "limits"
-        command = f'ulimit -v >>{limits}; ulimit -v 30000; exec {which.program()} "$@"'
-        self.worker("--memory-limit", "1GB", "--nthreads", "2", DIPQ=self.program(command))
-        wanted = in_order(ruzgalt.join(frame(1), frame(2), on="k"))
-        pd.testing.assert_frame_equal(in_order(self.asked(parts=1)), wanted)
-        runs = limits.read_text().split()
-        self.assertEqual(set(runs), {str(500_000_000 // 1024)})
-        self.assertGreater(len(runs), 2)
-
-    def test_a_worker_without_the_program_is_named(self):
-        self.worker("--name", "bare", DIPQ="/nowhere/dipq")
+    def test_a_worker_without_the_library_is_named(self):
+        self.worker("--name", "bare", RUZGALT_LIBRARY="/nowhere/libruzgalt.so")
         with self.assertRaises(ruzgalt.Stopped) as caught:
             self.asked(parts=2)
-        place = f"/nowhere/dipq on worker bare at tcp:.* of {socket.gethostname()}: no such program"
-        self.assertRegex(str(caught.exception), place)
+        place = f"; on worker bare at tcp:.* of {socket.gethostname()}"
+        self.assertRegex(str(caught.exception), f"/nowhere/libruzgalt.so is missing.*{place}")
 
-    def test_a_worker_whose_program_memory_ends_again_and_again_is_named(self):
-        self.worker("--name", "small", DIPQ=self.program("kill -9 $$"))
+    def test_a_worker_with_too_little_memory_is_named(self):
+        (self.folder / "small.py").write_text(SMALL)
+        self.worker("--name", "small", "--preload", str(self.folder / "small.py"))
         with self.assertRaises(ruzgalt.Stopped) as caught:
             self.asked(parts=2)
-        self.assertRegex(str(caught.exception), "on worker small at tcp:.*: SIGKILL; tried 4 times more, .*parts=")
+        self.assertRegex(str(caught.exception), "give fewer rows in a call, of Dask .*parts=; on worker small at tcp:")
 
     def test_a_worker_without_the_package_is_named(self):
         (self.folder / "ruzgalt.py").write_text("raise ModuleNotFoundError(\"No module named 'ruzgalt'\")\n")

@@ -8,7 +8,8 @@ import pandas as pd
 
 import test_random_frames
 import test_random_stores
-from ruzgalt.frames import classes, instants, kinds, output, points, split, values
+from ruzgalt.frames import classes, instants, kinds, points, split, values
+from ruzgalt.store import answers
 from ruzgalt.script import naming
 
 # So many seeds are tried until a wrong body is noticed.
@@ -33,11 +34,11 @@ def factorized(cells):
 
 
 def quoted(data, start, stop):
-    return output.of_objects([data[low:high].tobytes().decode() for low, high in zip(start, stop)])
+    return answers.of_objects([data[low:high].tobytes().decode() for low, high in zip(start, stop)])
 
 
 def closed(data, start, stop):
-    return np.maximum(output.commits(data, start, stop), 0)
+    return np.maximum(answers.commits(data, start, stop), 0)
 
 
 def unclipped(side, low, high):
@@ -81,10 +82,10 @@ WRONG = [
     ("each row in a class of its own", classes, "together", apart, FRAMES),
     ("texts numbered side by side", classes, "numbered", by_side, FRAMES),
     ("the first of several columns alone", classes, "crossed", first_alone, FRAMES),
-    ("quotes that stay", output, "READERS", {**output.READERS, "t": quoted}, STORES),
+    ("quotes that stay", answers, "READERS", {**answers.READERS, "t": quoted}, STORES),
     ("names of tables that stay", naming, "apart", list, STORES),
     ("ends of changes as they are given", instants, "portion", unmoved, STORES),
-    ("open versions as closed ones", output, "READERS", {**output.READERS, "c": closed}, STORES),
+    ("open versions as closed ones", answers, "READERS", {**answers.READERS, "c": closed}, STORES),
 ]
 
 

@@ -1,0 +1,298 @@
+"""The words of tools/csv-to-load."""
+import codecs
+import os
+import sys
+from argparse import ArgumentParser, ArgumentTypeError, Namespace
+from pathlib import Path
+from typing import Iterator, List, Optional, Sequence, Tuple
+
+from ruzgalt.cli import streams
+from ruzgalt.cli.words import Words, decimals as digits_of, filled
+from ruzgalt.errors import Misfit
+from ruzgalt.load import dates, making
+from ruzgalt.load.columns import mark_of
+from ruzgalt.load.making import Load
+from ruzgalt.load.sheets import Records, Sheet, composed
+from ruzgalt.load.table import fit, rename, schema_of, take_names_of_file
+from ruzgalt.load.workbooks import Workbook, is_workbook
+from ruzgalt.progress import Progress
+from ruzgalt.script import records
+from ruzgalt.script.forms import NAME_HAS, NO_END, is_name, read_point
+from ruzgalt.script.records import visible
+from ruzgalt.script.schemas import Schema
+from ruzgalt.which import LOAD, LOAD_SAYS
+
+ABOUT = """Turns a CSV file with a header into a load, or into updates or deletes. FROM, TO and the COLUMNs are names of
+the file's header, in the order of a row's fields; other columns of the file are left out. The file is UTF-8; its fields
+are separated by commas, semicolons or tabs, whichever its header has most of. Or it is an Excel workbook (.xlsx), if
+Python's openpyxl is installed. Values are taken as they are, unless an option says otherwise. Possible mistakes are
+loaded, and reported on standard error. If something is wrong, the tool prints one record that the store refuses
+instead of the load, so that a script with it has a refused command."""
+# Printed instead of a load.
+FAILED = b"csv-to-load failed\n"
+# A division has no periods, and its parts and ids are taken as they are.
+UNUSED_BY_CHECK = (
+    "update", "empty", "delete", "record", "print_table", "german", "dates", "decimals", "decimal_mark", "bare",
+    "last_day", "open", "no_end", "plain_spaces", "drop_equal",
+)
+
+
+def encoding(word: str) -> str:
+    try:
+        return codecs.lookup(word).name
+    except LookupError:
+        raise ArgumentTypeError(f"{word}: not an encoding, such as cp1252, cp850 or utf-16") from None
+
+
+def count(word: str) -> int:
+    if not word.isdecimal() or len(word) > 9:
+        raise ArgumentTypeError(f"{word}: not a number of lines, such as 2")
+    return int(word)
+
+
+def words() -> ArgumentParser:
+    example = f"{LOAD} pay Start End person=Name cents=Pay --decimals cents=2 --last-day pay.csv"
+    first = "record", "german", "dates", "decimals", "last_day", "open"
+    parser = Words(example, first, prog=LOAD, description=ABOUT)
+    parser.add_argument("table", metavar="TABLE", help="the table of the store")
+    parser.add_argument("start", metavar="FROM", help="the file's column with the start of a row")
+    parser.add_argument("end", metavar="TO", help="the file's column with the end of a row")
+    parser.add_argument(
+        "column", nargs="*", metavar="[NAME=]COLUMN",
+        help="the file's columns with values, in the order of the table's; grade=Neu takes the file's Neu as grade",
+    )
+    parser.add_argument(
+        "--file", type=filled, metavar="FILE", help="the file; without it, it is the last word, or standard input",
+    )
+    parser.add_argument(
+        "--encoding", type=encoding, metavar="NAME", help="the file's encoding, such as cp1252, if it isn't UTF-8",
+    )
+    parser.add_argument("--skip", type=count, default=0, metavar="N", help="leaves out N lines before the header")
+    parser.add_argument(
+        "--sheet", metavar="NAME", help="the sheet of an Excel workbook (.xlsx) that has several",
+    )
+    parser.add_argument(
+        "--check", metavar="INSTANT",
+        help="prints a check of a division: FROM is the column of a row's part, TO of its id",
+    )
+    words_of_table(parser)
+    words_of_values(parser)
+    parser.add_argument(
+        "--drop-equal", action="store_true",
+        help="leaves out rows that are equal to an earlier one in all of the file's fields",
+    )
+    return parser
+
+
+def words_of_table(parser: ArgumentParser) -> None:
+    parser.add_argument(
+        "--table", dest="record", metavar="RECORD",
+        help="the table's record, such as table,pay,person,text, or a script that has it: what doesn't fit it is "
+        "refused, and its columns are the COLUMNs if none is given",
+    )
+    parser.add_argument(
+        "--print-table", action="store_true",
+        help="prints that record before the load; updates and deletes are of a table that is there",
+    )
+    parser.add_argument(
+        "--update", action="append", default=[], metavar="COLUMN",
+        help="prints updates of the rows with this column's value instead of a load: FROM and TO are the portion, "
+        "other columns are set",
+    )
+    parser.add_argument(
+        "--empty", action="append", default=[], metavar="COLUMN",
+        help="an empty cell of this column sets the empty text in updates, which is refused otherwise",
+    )
+    parser.add_argument(
+        "--delete", action="store_true",
+        help="prints deletes of the rows that have the COLUMNs' values instead of a load: FROM and TO are the "
+        "portion; with --table, the COLUMNs are the table's key if none is given",
+    )
+
+
+def words_of_values(parser: ArgumentParser) -> None:
+    parser.add_argument("--german", action="store_true", help="reads dates as 31.12.2024, and decimals as 1.234,50")
+    parser.add_argument(
+        "--dates", choices=dates.names_of_forms(), metavar="FORM",
+        help=f"the last day of 2024 in the form of the file's dates: {', '.join(dates.names_of_forms())}; "
+        f"{dates.EXCEL} is Excel's number of a day",
+    )
+    parser.add_argument(
+        "--decimals", type=digits_of, action="append", default=[], metavar="COLUMN=DIGITS",
+        help="numbers with at most DIGITS decimals become whole: with euros=2, 4800.5 becomes 480050 cents",
+    )
+    parser.add_argument(
+        "--decimal-mark", choices=(".", ","),
+        help="the decimal mark of numbers such as 7,500, which could be read either way",
+    )
+    parser.add_argument(
+        "--bare", choices=("whole", "decimals"), default="",
+        help="what a number without a mark is if others of its column have a decimal mark: by whole 500 is 500.00, and "
+        "by decimals 5.00",
+    )
+    parser.add_argument("--last-day", action="store_true", help="TO is the last day of a row, not the day after it")
+    parser.add_argument("--open", action="store_true", help=f"an empty TO is {NO_END}")
+    parser.add_argument(
+        "--no-end", action="append", default=[], metavar="VALUE",
+        help=f"a TO of this value, such as NULL, is {NO_END}",
+    )
+    parser.add_argument("--plain-spaces", action="store_true", help="no-break spaces become spaces")
+
+
+def refuse_words(options: Namespace) -> None:
+    """Refuses names that aren't COLUMNs, or that are given twice."""
+    columns: List[str] = options.column
+    refuse_names("decimals", [name for name, _ in options.decimals], columns)
+    refuse_names("update", options.update, columns)
+    if options.empty and not options.update:
+        raise Misfit("--empty needs --update: a load takes empty texts as they are")
+    refuse_names("empty", options.empty, [name for name in columns if name not in options.update], " that are set:")
+    twice = [name for name in columns if columns.count(name) > 1]
+    if twice:
+        raise Misfit(f"{twice[0]} is given twice, but a column of the file fills one of the table's")
+    if options.delete and options.update:
+        raise Misfit("--delete can't be given with --update")
+    if options.delete and not columns and not options.record:
+        raise Misfit("--delete needs a COLUMN or --table: without one, each delete would be of all rows of its time")
+    if options.update and len(options.update) == len(columns):
+        raise Misfit("--update: no column is left to set")
+    if options.bare and not options.decimals:
+        raise Misfit("--bare needs --decimals: values of other columns are taken as they are")
+    if options.print_table and not options.record:
+        raise Misfit("--print-table needs --table")
+    if options.print_table and (options.update or options.delete):
+        word = "update" if options.update else "delete"
+        reason = "a table that is only made there has no rows to change"
+        raise Misfit(f"--print-table can't be given with --{word}: {reason}")
+
+
+def refuse_names(word: str, names: Sequence[str], columns: Sequence[str], which: str = "") -> None:
+    """Refuses names that aren't one of the columns, or that are given twice."""
+    for name in names:
+        if name not in columns:
+            raise Misfit(f"--{word} {name}: not one of the columns{which} {', '.join(columns)}")
+        if names.count(name) > 1:
+            raise Misfit(f"--{word} {name}: given twice")
+
+
+def given(options: Namespace) -> bytes:
+    """Returns the bytes of the file: the one of --file, the last word if it is a file's name, or standard input."""
+    if options.file is None and options.column and os.path.isfile(options.column[-1]):
+        options.file = options.column.pop()
+    if options.file:
+        return Path(options.file).read_bytes()
+    if sys.stdin is not None and sys.stdin.isatty():
+        streams.report(f"{LOAD_SAYS}: reads the CSV file from this terminal; a file's name may be the last word")
+    return streams.given()
+
+
+def opened(options: Namespace) -> Records:
+    """The file: a sheet of a workbook, or CSV."""
+    data = given(options)
+    if is_workbook(data):
+        return Workbook(data, options.sheet, mark_of(options), options.skip)
+    if options.sheet is not None:
+        raise Misfit(f"--sheet {visible(options.sheet)}: the file isn't an Excel workbook, so it has no sheets")
+    if options.decimal_mark and not options.decimals:
+        # In a workbook the mark is needed for texts with numbers too.
+        reason = "values of other columns are taken as they are"
+        raise Misfit(f"--decimal-mark needs --decimals: {reason}")
+    return Sheet(data, options.encoding, options.skip)
+
+
+def load_of(options: Namespace) -> Tuple[Load, Optional[Schema], List[str]]:
+    """Returns the load, the table if it is given, and notes on how the file fits it."""
+    sheet = opened(options)
+    rename(options, sheet.header)
+    schema = fitted = schema_of(options)
+    notes: List[str] = []
+    if schema:
+        fitted, left_out = fit(options, schema, sheet.header)
+        names = ", ".join(left_out)
+        notes = [f"the file has no column {names}, so updates leave it as it is"] if left_out else []
+    else:
+        take_names_of_file(options, {name: column for column, name in options.renamed.items()})
+    refuse_words(options)
+    return Load(sheet, options, fitted), schema, notes
+
+
+def claimed(options: Namespace) -> Tuple[bytes, List[str]]:
+    """Returns the check of the file's division, and notes on it."""
+    if options.check != "-" and read_point(options.check) is None:
+        raise Misfit(f"--check {options.check}: not a date or time, such as 2024-01-05, or - for a table without rows")
+    unused = [word for word in UNUSED_BY_CHECK if getattr(options, word)]
+    if unused:
+        word = unused[0].replace("record", "table").replace("_", "-")
+        raise Misfit(f"--check can't be given with --{word}")
+    sheet = opened(options)
+    if options.column:
+        raise Misfit(f"--check can't be given with a COLUMN, here {options.column[0]}")
+    check, notes = making.check_of(sheet, options.table, options.start, options.end, options.check)
+    return records.encode(check), notes
+
+
+def compose(options: Namespace) -> None:
+    """Gives the names the header's form of Unicode: an accented letter may be two characters elsewhere."""
+    options.start, options.end = composed(options.start), composed(options.end)
+    for names in (options.column, options.update, options.empty):
+        names[:] = map(composed, names)
+    options.decimals = [(composed(name), digits) for name, digits in options.decimals]
+
+
+def made(options: Namespace) -> Tuple[List[bytes], List[str], List[str], int]:
+    """Returns the output by pieces, the faults, the notes, and the number of faults."""
+    compose(options)
+    if not is_name(options.table):
+        raise Misfit(f"{visible(options.table)}: not a table's name, which has {NAME_HAS}")
+    if options.check is not None:
+        check, notes = claimed(options)
+        return [check], [], notes, 0
+    load, schema, notes = load_of(options)
+    head = records.encode(records.to_text([schema.fields])) if schema and options.print_table else b""
+    opening = records.encode(records.to_text([["load", options.table]])) if load.is_load else b""
+    end = b"end\n" if load.is_load else b""
+    try:
+        pieces = list(made_of(load))
+    except Misfit as error:
+        load.add_fault(str(error))
+        pieces = []
+    notes = [] if load.count_of_faults else [*notes, *load.noted()]
+    return [head, opening, *pieces, end], load.faults, notes, load.count_of_faults
+
+
+def made_of(load: Load) -> Iterator[bytes]:
+    """The load by pieces, while a terminal is shown how far it is."""
+    with Progress(LOAD_SAYS) as advance:
+        for piece in load.made():
+            yield piece
+            advance(load.rows)
+
+
+def report(notes: List[str], count: int) -> None:
+    more = [f"and {count - len(notes)} more"] if count > len(notes) else []
+    for one in [*notes, *more]:
+        streams.report(f"{LOAD_SAYS}: {one}")
+
+
+def main(arguments: Sequence[str]) -> int:
+    return streams.run(LOAD_SAYS, lambda: run(arguments))
+
+
+def run(arguments: Sequence[str]) -> int:
+    pieces: List[bytes] = []
+    try:
+        options = words().parse_intermixed_args(arguments)
+        with Progress(LOAD_SAYS):
+            pieces, faults, notes, count = made(options)
+    except SystemExit as ended:
+        streams.write([FAILED] if ended.code else [])
+        raise
+    except Misfit as error:
+        faults, notes, count = [str(error)], [], 1
+    except OSError as error:
+        faults, notes, count = [streams.reason(error)], [], 1
+    except MemoryError:
+        faults, notes, count = ["out of memory: make two files of it, and two scripts of these"], [], 1
+    report(faults or notes, count)
+    streams.show_records([FAILED] if count else pieces)
+    return 1 if count else 0

@@ -1,0 +1,365 @@
+"""The options of `months`, `coalesce`, `gaps` and `overlaps` of tools/answers, which the package's frames compute."""
+import warnings
+from argparse import ArgumentParser, Namespace
+from contextlib import contextmanager
+from datetime import datetime, timedelta
+from importlib import import_module
+from typing import Any, Iterator, List, NamedTuple, Optional, Sequence, Tuple
+
+from ruzgalt.cli import given
+from ruzgalt.cli.given import Found, last, read, refuse_names, warn
+from ruzgalt.cli.words import filled, words_of_where
+from ruzgalt.errors import Misfit
+from ruzgalt.periods.pieces import EACH
+from ruzgalt.report import picks
+from ruzgalt.report.shown import Amounts
+from ruzgalt.script import schemas
+from ruzgalt.script.answers import Answer
+from ruzgalt.script.changes import IDS
+from ruzgalt.script.forms import POINTS, print_point, read_point
+from ruzgalt.script.language import Answered
+from ruzgalt.script.records import short
+from ruzgalt.script.schemas import PERIOD, Column, Kind, Table, refuse_other_kinds, unique
+
+START, END = (column.name for column in PERIOD)
+ROW_ID, IDS_OF_PAIR = Column("row_id", Kind.INT), ("row_id", "other_row_id")
+FIRST, LAST = datetime(1, 1, 1), datetime(9999, 12, 31, 23, 59, 59)
+# An end from then on stands for none that is known.
+NO_END = datetime(9999, 1, 1)
+DAY = timedelta(1)
+NEEDED = "this command needs pandas: `apt-get install python3-pandas`, or `pip install pandas`"
+OF_MONTHS = """An amount --per month counts in each whole month of its record, and in a part of a month that part of
+it. The sums of a group are whole numbers that add up to its exact sum, rounded once, half up: the largest remainders
+count one more. An amount --in-total is divided by days over the whole period of its record: up to a day the
+record has that part of the amount, rounded half up, so that its months add up to its amount. With --less the sums are
+differences: for each group and each month that a record of one of the two answers touches, the answer's sum less
+the other's. It needs pandas."""
+WHICH_AMOUNT = """say what an amount is: --per month if a record has it in each month, such as a pay (or each day, week,
+quarter or year), or --in-total if a record has it once for its whole period, such as a premium"""
+OF_COALESCE = """The periods are as long as possible. Without a COLUMN all records are one group. It needs pandas."""
+NEEDS = "It needs pandas."
+
+
+def words_of_groups(parser: ArgumentParser, nargs: str = "+") -> None:
+    parser.add_argument("column", nargs=nargs, metavar="COLUMN", help="a column whose equal values make a group")
+    parser.add_argument("--of", action="append", default=[], metavar="PICK", help="the answer, if it isn't the last")
+    given.words_of_tables(parser)
+
+
+def words_of_coalesce(parser: ArgumentParser) -> None:
+    words_of_groups(parser, "*")
+
+
+def do_coalesce(options: Namespace) -> None:
+    show_periods(options, "coalesce")
+
+
+def do_gaps(options: Namespace) -> None:
+    show_periods(options, "gaps")
+
+
+def show_periods(options: Namespace, call: str) -> None:
+    """Prints the periods that a call finds for each group of equal values."""
+    [answer] = last(read(options), options.of, 1)
+    columns = columns_of(answer, options.column)
+    with calling() as package:
+        found = getattr(package, call)(frame_of(answer, columns), by_of(columns), period=(START, END))
+    show_frame(options, found, [*PERIOD, *columns])
+
+
+def do_overlaps(options: Namespace) -> None:
+    """Prints each pair of rows of equal values that hold at one time."""
+    [answer] = last(read(options), options.of, 1)
+    columns = columns_of(answer, options.column)
+    if answer.command.word != "rows":
+        raise Misfit(f"{answer.where}: {short(answer.command.text)}: not a list of rows: ask by `rows`")
+    if ROW_ID in columns:
+        raise Misfit(f"{ROW_ID.name}: no two rows have one id: give a column of the table")
+    with calling() as package:
+        found = package.overlaps(frame_of(answer, [*columns, ROW_ID]), by_of(columns), period=(START, END))
+    found = found.rename(columns=dict(zip(("row_id_left", "row_id_right"), IDS_OF_PAIR)))
+    pairs = [Column(name, Kind.INT) for name in IDS_OF_PAIR]
+    show_frame(options, found.sort_values(by_of(columns), kind="stable"), [*pairs, *PERIOD, *columns])
+
+
+def by_of(columns: Sequence[Column]) -> Optional[List[str]]:
+    return [column.name for column in columns] or None
+
+
+def columns_of(answer: Answer, names: Sequence[str]) -> List[Column]:
+    """Returns these columns of an answer whose records are periods of one commit. Raises Misfit for any other."""
+    which = f"{answer.where}: {short(answer.command.text)}"
+    if answer.command.word == "at":
+        raise Misfit(f"{which}: an `at` is of one point only: ask by `rows`")
+    if answer.command.form.answered is Answered.VERSIONS:
+        raise Misfit(f"{which}: its records are versions of several commits: ask by `rows` as of one commit")
+    if answer.command.form.answered not in IDS:
+        raise Misfit(f"{which}: its records aren't periods: ask by `rows`, `join`, `anti` or `agg`")
+    places = [answer.table.index_of(name) for name in dict.fromkeys(names)]
+    for name in names:
+        if name in (START, END):
+            raise Misfit(f"{name}: a start or an end, which make no groups: give another column")
+    return [answer.table.columns[place] for place in places]
+
+
+def imported(name: str) -> Any:
+    """Returns a module that needs pandas. Raises Misfit if pandas isn't installed."""
+    try:
+        return import_module(name)
+    except ModuleNotFoundError as missing:
+        if missing.name not in ("numpy", "pandas"):
+            raise
+        raise Misfit(NEEDED) from None
+
+
+@contextmanager
+def calling() -> Iterator[Any]:
+    """Yields the package for a call. Raises Misfit if it refuses. Possible mistakes are reported by `list`."""
+    package = imported("ruzgalt.frames")
+    with warnings.catch_warnings():
+        warnings.simplefilter("ignore", package.Doubt)
+        try:
+            yield package
+        except (package.Refused, package.Stopped) as refused:
+            raise Misfit(str(refused)) from None
+
+
+def frame_of(answer: Answer, columns: Sequence[Column], where: schemas.Where = ()) -> Any:
+    """Returns a frame of the records that have some values: their periods and these columns, each by its own name."""
+    pandas = imported("pandas")
+    wanted = schemas.wanted_in(answer.table, where)
+    records = [record for record in answer.table.texts() if schemas.has_values(record, wanted)]
+    made = {}
+    for column, named in zip([*PERIOD, *columns], unique([*PERIOD, *columns])):
+        place = answer.table.index_of(column.name)
+        convert: Any = {Kind.POINT: read_point, Kind.INT: int}.get(column.kind, str)
+        dtype = "int64" if column.kind is Kind.INT else object
+        try:
+            made[named.name] = pandas.Series([convert(record[place]) for record in records], dtype=dtype)
+        except OverflowError:
+            raise Misfit(f"{column.name}: a number of it has more than 64 bits, too many to be computed with") from None
+    return pandas.DataFrame(made)
+
+
+def show_frame(options: Namespace, frame: Any, columns: Sequence[Column]) -> None:
+    """Prints these columns of a frame."""
+    cells = zip(*([printed_as(column, one) for one in frame[column.name].tolist()] for column in columns))
+    given.show(options, Table(unique(columns), list(cells)))
+
+
+def printed_as(column: Column, cell: Any) -> str:
+    return print_point(cell) if column.kind is Kind.POINT else str(cell)
+
+
+class Wish(NamedTuple):
+    """The time that counts, from its start on and before its end; None if the option wasn't given."""
+
+    start: Optional[datetime]
+    end: Optional[datetime]
+
+    @property
+    def limits(self) -> Tuple[datetime, datetime]:
+        return self.start or FIRST, self.end or LAST
+
+    @property
+    def within(self) -> Optional[Tuple[datetime, datetime]]:
+        return self.limits if self.start or self.end else None
+
+
+def words_of_months(parser: ArgumentParser) -> None:
+    parser.add_argument("pick", type=filled, nargs="?", metavar="PICK", help="the answer, if it isn't the last")
+    parser.add_argument("--sum", required=True, metavar="COLUMN", help="the column of the amounts")
+    parser.add_argument("--per", choices=EACH, help="a record has its amount in each of these pieces")
+    parser.add_argument("--in-total", action="store_true", help="a record has its amount once, for its whole period")
+    parser.add_argument(
+        "--by", action="append", default=[], metavar="COLUMN", help="sums for each of its values; may be repeated",
+    )
+    parser.add_argument("--each", choices=EACH, default="month", help="the pieces; weeks begin on Mondays")
+    parser.add_argument("--from", dest="start", metavar="POINT", help="counts from there on")
+    parser.add_argument(
+        "--to", dest="end", metavar="POINT",
+        help="counts up to there, or with --last-day including that day; needed if an end isn't known",
+    )
+    words_of_where(parser)
+    parser.add_argument(
+        "--less", metavar="ANSWER",
+        help="subtracts the sums of this answer: a PICK, or a question such as rows,T,asof,3",
+    )
+    parser.add_argument(
+        "--no-zeros", action="store_true",
+        help="leaves out sums that are exactly 0, such as differences of equal amounts",
+    )
+    given.words_of_tables(parser)
+
+
+def do_months(options: Namespace) -> None:
+    if bool(options.per) == options.in_total:
+        raise Misfit(f"--sum {options.sum}: {' '.join(WHICH_AMOUNT.split())}")
+    wish = wish_of(options)
+    found, answer, less = summed(options)
+    sides = [answer, *([less] if less else [])]
+    columns = [amounts_of(one, options) for one in sides]
+    if less:
+        refuse_other_kinds(f"{answer.where} and {less.where}", *columns)
+    named = unique([*PERIOD, *columns[0]])
+    frames = [side_of(one, own, options, wish) for one, own in zip(sides, columns)]
+    for other in frames[1:]:
+        other.columns = frames[0].columns
+        other[named[-1].name] = negative(other[named[-1].name])
+    sums = spread(frames, named, options, wish)
+    table = Table(named, [one.record for one in sums if one.exact or not options.no_zeros])
+    options.decimals = decimals_with(options, named[-1].name)
+    given.show(options, table)
+    rounded = sum(one.is_rounded for one in sums)
+    warn_of_sums(options, sides, found.answers, sum(map(len, frames)), (rounded, len(table.records)))
+    given.warn_of_mistakes(found, given.MISTAKES)
+
+
+def warn_of_sums(options: Namespace, taken: Sequence[Answer], found: Sequence[Answer], count: int,
+                 rounded: Tuple[int, int]) -> None:
+    """Warns of cut rows whose amounts count twice, of --where that no record meets, and of rounded sums."""
+    for change in cuts(found, taken) if options.in_total else ():
+        cut = "if it has cut a row, each part of the row has the whole amount"
+        warn(f"{change.where}: {short(change.command.text)}: {cut}, and so the amount counts twice")
+    if options.where and not count:
+        warn("no record has the values of --where")
+    if rounded[0]:
+        exact = "difference" if options.less else "sum"
+        whose = (
+            f"the sums of each group add up to its exact {exact}"
+            if options.by else f"all add up to the exact {exact}"
+        )
+        how = f"{whose}, rounded once, half up: the largest remainders count up"
+        how = "the sums of a record add up to its amount" if options.in_total else how
+        warn(f"{rounded[0]:,} of {rounded[1]:,} {exact}s were rounded, and {how}")
+
+
+def negative(amounts: Any) -> Any:
+    """Returns amounts with the other sign. Raises Misfit for the least number, which has no positive one."""
+    if (amounts == -(1 << 63)).any():
+        raise Misfit(f"--less: {-(1 << 63)} can't be subtracted: it would need more than 64 bits")
+    return -amounts
+
+
+class Sum(NamedTuple):
+    """A record of a group and a piece, and its exact sum."""
+
+    record: List[str]
+    exact: Any
+
+    @property
+    def is_rounded(self) -> bool:
+        return bool(self.exact != int(self.record[-1]))
+
+
+def spread(frames: Sequence[Any], columns: Sequence[Column], options: Namespace, wish: Wish) -> List[Sum]:
+    """Returns the sums of each group and piece. A piece that isn't counted whole has the time that counts."""
+    *_, amount = columns
+    how = {
+        "amount": f"per {options.per}" if options.per else "in total", "each": options.each[0].upper(),
+        "by": by_of(columns[2:-1]), "within": wish.within, "period": (START, END),
+    }
+    with calling() as package:
+        frame = imported("pandas").concat(frames, ignore_index=True)
+        whole, exact = (package.spread(frame, amount.name, exact=is_exact, **how) for is_exact in (False, True))
+    for name, cut in ((START, max), (END, min)):
+        limit = wish.limits[name == END]
+        whole[name] = [cut(point, limit) for point in whole[name].tolist()]
+    records = zip(*([printed_as(column, one) for one in whole[column.name].tolist()] for column in columns))
+    return [Sum(list(record), one) for record, one in zip(records, exact[amount.name].tolist())]
+
+
+def side_of(answer: Answer, columns: Sequence[Column], options: Namespace, wish: Wish) -> Any:
+    """Returns a frame of the records that count. Raises Misfit if their start or end isn't known, but is needed."""
+    frame = frame_of(answer, columns, options.where)
+    refuse_unknown(frame[END] >= NO_END, frame, "end", wish.end, "--to, the time until which", options)
+    refuse_unknown(frame[START] == FIRST, frame, "start", wish.start, "--from, the time when", options)
+    return frame
+
+
+def refuse_unknown(unknown: Any, frame: Any, what: str, limit: Any, option: str, options: Namespace) -> None:
+    """Refuses a record whose start or end isn't known, if no option says where counting starts or ends."""
+    if not unknown.any() or not (options.in_total or limit is None):
+        return
+    record = frame[unknown].iloc[0].tolist()
+    why = f"{short(','.join([*map(print_point, record[:2]), *map(str, record[2:])]))}: no {what} is known"
+    if options.in_total:
+        remedy = "leave the record out by --where, or use --per if it has the amount in each month"
+        raise Misfit(f"{why}, so an amount in total can't be divided: {remedy}")
+    raise Misfit(f"{why}: give {option} it counts")
+
+
+def amounts_of(answer: Answer, options: Namespace) -> List[Column]:
+    """Returns the columns of the groups, and the column of the amounts."""
+    groups = columns_of(answer, options.by)
+    if options.in_total and answer.command.word != "rows":
+        why = "its records are parts of rows, and each part has the whole amount"
+        raise Misfit(f"{answer.where}: {short(answer.command.text)}: {why}; with --in-total ask by `rows`")
+    [amount] = columns_of(answer, [options.sum])
+    if amount.name in IDS[answer.command.form.answered]:
+        raise Misfit(f"--sum {amount.name}: a column of ids, whose sums mean nothing; give a column of amounts")
+    if amount.kind is not Kind.INT:
+        raise Misfit(f"--sum {amount.name}: a column of texts, and only numbers can be summed")
+    return [*groups, amount]
+
+
+def wish_of(options: Namespace) -> Wish:
+    """Returns the time that counts. Raises Misfit if it isn't a time, or is empty."""
+    for word, point in (("from", options.start), ("to", options.end)):
+        if point is not None and read_point(point) is None:
+            raise Misfit(f"--{word} {short(point)}: not a date or time, such as {POINTS}")
+    if options.end and options.last_day and len(options.end) != 10:
+        raise Misfit(f"--to {options.end}: with --last-day it is the last day that counts, so give it without a time")
+    start, end = (read_point(point) if point else None for point in (options.start, options.end))
+    if end and options.last_day:
+        end = min(end, LAST - DAY) + DAY
+    if start and end and start >= end:
+        order = "is after" if options.last_day else "isn't before"
+        raise Misfit(f"--from {options.start} {order} --to {options.end}")
+    return Wish(start, end)
+
+
+def decimals_with(options: Namespace, name: str) -> List[Tuple[str, int]]:
+    """Returns the decimals of columns. The column of sums, of this name, has the amounts' unless it has others.
+
+    It has another name than the amounts if --by has taken their name.
+    """
+    given: List[Tuple[str, int]] = options.decimals
+    digits = Amounts(given).of(options.sum)
+    return given if digits is None or Amounts(given).of(name) is not None else [*given, (name, digits)]
+
+
+def cuts(found: Sequence[Answer], answers: Sequence[Answer]) -> List[Answer]:
+    """Returns the first change that may have cut rows of one of these answers: an update or a delete of its table."""
+    known = {answer.command.front[1]: answer.commit for answer in answers}
+    return [
+        one for one in found if one.command.word in ("update", "delete") and not one.refusal
+        and one.commits <= known.get(one.command.front[1], 0)
+    ][:1]
+
+
+def summed(options: Namespace) -> Tuple[Found, Answer, Optional[Answer]]:
+    """Returns all answers, the one whose amounts are summed, and the one whose sums are subtracted, if one is given.
+
+    The first of these two is picked or asked, or otherwise the last that is more than an `ok` and isn't the second.
+    """
+    words = [options.pick] if options.pick else []
+    if options.less is None:
+        found = read(options)
+        return found, last(found, words, 1)[0], None
+    # No pick has a comma, and each question of records does.
+    is_question = "," in options.less
+    if is_question:
+        refuse_names("--less", [options.less])
+    else:
+        picks.refuse_names([options.less])
+    options.ask = [*([options.less] if is_question else []), *options.ask]
+    found = read(options)
+    less = found.asked[0] if is_question else picks.picked(found.answers, options.less, found.names).answer
+    others = [one for one in found.answers if one is not less and picks.is_asked(one)]
+    if options.pick and picks.find(found.answers, options.pick.partition("=")[0]) is less:
+        raise Misfit(f"--less {options.less}: that is the answer whose amounts are summed; give another")
+    if not words and all(one is less for one in found.asked):
+        words = [str(one.number) for one in others[-1:]]
+    both = last(found, [*words, str(less.number)], 2)
+    return found, next(one for one in both if one is not less), less

@@ -1,0 +1,5 @@
+"""The library libruzgalt over arrays of numpy: what frames ask, and a caller with arrays of its own may.
+
+    library     the functions of ruzgalt.h, a call each
+    threads     the same by several calls at once
+"""

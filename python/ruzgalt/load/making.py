@@ -1,0 +1,381 @@
+"""A load, or updates or deletes, made of a CSV file with a header, piece by piece; and a check of a division."""
+import re
+from argparse import Namespace
+from itertools import compress, repeat
+from operator import ge
+from os.path import isfile
+from typing import Dict, Iterable, Iterator, List, Optional, Sequence, Set, Tuple, cast
+
+from ruzgalt.errors import Misfit
+from ruzgalt.lint.rows import Ends, Notes, Overwrites, Repeats, Totals, Twins
+from ruzgalt.lint.texts import LookAlikes
+from ruzgalt.load.columns import Column, End, Start, Text, form_of, mark_of
+from ruzgalt.load.dates import as_good_swapped, without_half
+from ruzgalt.load.numbers import Doubtful, Marks, Scale, readings
+from ruzgalt.load.sheets import Piece, Records
+from ruzgalt.load.table import name_for, refuse_twins
+from ruzgalt.script import records
+from ruzgalt.script.forms import SPACES, is_count, is_name, read_point, shifted
+from ruzgalt.script.records import short, to_text, visible
+from ruzgalt.script.schemas import PERIOD, Schema
+from ruzgalt.which import ANSWERS
+
+# What a script and a table can have; from nine tenths on that is reported.
+MOST_BYTES, MOST_ROWS = 67_108_864, 1_000_000
+FAULTS = 20
+# The names of a column that has the last day of each row, and not the day after it.
+LAST_DAY_NAME = re.compile(r"last[ _-]?day|letzte[rn]?[ _-]tag|inclusive|inklusive|einschlie(?:ß|ss)lich|einschl\.")
+
+
+class Equals:
+    """Leaves out rows that equal an earlier one in all of the file's fields, if that is wanted."""
+
+    def __init__(self, is_dropping: bool) -> None:
+        self.is_dropping = is_dropping
+        self.met: Set[str] = set()
+        self.count, self.first = 0, 0
+
+    def without(self, piece: Piece) -> Piece:
+        """The piece without those rows."""
+        if not self.is_dropping:
+            return piece
+        kept = [self.is_new(line, record) for line, record in zip(*piece)]
+        return Piece(list(compress(piece.lines, kept)), list(compress(piece.records, kept)))
+
+    def is_new(self, line: int, record: Sequence[str]) -> bool:
+        # A file has no zero byte.
+        row = "\0".join(record)
+        is_met = row in self.met
+        if is_met:
+            self.first = self.first if self.count else line
+            self.count += 1
+        self.met.add(row)
+        return not is_met
+
+    def notes(self) -> Iterator[str]:
+        if self.count:
+            which = "rows were" if self.count > 1 else "row was"
+            where = f"the first at line {self.first}" if self.count > 1 else f"line {self.first}"
+            what = f"{self.count:,} {which} left out, equal to an earlier one in all of the file's fields"
+            yield f"--drop-equal: {what} ({where})"
+        elif self.is_dropping:
+            yield "--drop-equal: no row is equal to an earlier one in all of the file's fields"
+
+
+class Load:
+    """The records made of a sheet's rows, with the faults of rows and the notes on columns."""
+
+    def __init__(self, sheet: Records, options: Namespace, schema: Optional[Schema]) -> None:
+        self.sheet, self.options, self.schema = sheet, options, schema
+        self.names = [options.start, options.end, *options.column]
+        refuse_header(sheet, self.names, schema.names if schema else [])
+        refuse_other_ends(options.end, options.last_day)
+        self.places = [sheet.header.index(name) for name in self.names]
+        self.marks = Marks(mark_of(options), bool(options.decimal_mark))
+        self.keys = self.key_places()
+        self.columns = [Start(options.start, options), End(options.end, options), *self.value_columns()]
+        self.stored = self.names_in_store()
+        self.faults: List[str] = []
+        self.count_of_faults = self.rows = self.bytes = 0
+        # The line of each number that could be read in two ways.
+        self.doubtful: Dict[Doubtful, int] = {}
+        self.notes, self.twins, self.repeats = Notes(), Twins(self.made_word), Repeats()
+        self.left_out: Optional[str] = None
+        self.equals = Equals(options.drop_equal)
+        self.nameless = [place for place, name in enumerate(sheet.header) if not name.strip()]
+        key = ", ".join(options.column[place] for place in self.keys) or "table"
+        others = [place for place in range(len(options.column)) if place not in self.keys]
+        self.totals = Totals({2 + place: options.column[place] for place in others or self.keys})
+        self.ends, self.overwrites = Ends(options.end, key, options.last_day), Overwrites(key)
+
+    @property
+    def is_load(self) -> bool:
+        """Whether the file's rows are loaded, and change no rows that are there."""
+        return not (self.options.update or self.options.delete)
+
+    @property
+    def made_word(self) -> str:
+        """The first word of the record that a row of the file becomes."""
+        return "row" if self.is_load else "delete" if self.options.delete else "update"
+
+    def key_places(self) -> List[int]:
+        """Returns the columns that identify a fact: the table's key, or otherwise the first column.
+
+        For updates and deletes they are the columns that select the changed rows.
+        """
+        if self.options.delete:
+            return list(range(len(self.options.column)))
+        if self.options.update:
+            return [self.options.column.index(name) for name in self.options.update]
+        if self.schema and self.schema.key:
+            return list(self.schema.key)
+        return [0] if self.options.column else []
+
+    def value_columns(self) -> Iterator[Column]:
+        digits = dict(self.options.decimals)
+        for place, name in enumerate(self.options.column):
+            kind = self.schema.columns[place].kind if self.schema else None
+            if name in digits:
+                yield Column(name, Scale(name, digits[name], self.marks, self.options.bare))
+            else:
+                yield Text(name, self.options, kind, place in self.keys)
+
+    def made(self) -> Iterator[bytes]:
+        """Returns the records made of the rows, by pieces. After a fault, the rest is read for its faults only."""
+        for piece in self.sheet.pieces():
+            yield self.made_of(self.equals.without(self.whole(piece)))
+        self.refuse_doubtful()
+
+    def made_of(self, piece: Piece) -> bytes:
+        """The records made of a piece; none where something is at fault in it, or was before."""
+        fields: List[Sequence[str]] = list(zip(*piece.records)) or [()] * len(self.sheet.header)
+        values = [fields[place] for place in self.places]
+        found = [column.made(one) for column, one in zip(self.columns, values)]
+        self.look_at(piece.lines, values, found)
+        self.look_at_nameless(piece.lines, fields)
+        self.rows += len(piece.records)
+        if self.count_of_faults:
+            return b""
+        columns = cast(List[Sequence[str]], found)
+        texts = self.records_of(columns)
+        self.twins.add(piece.lines, texts)
+        self.repeats.add(piece.lines, columns)
+        self.totals.add(piece.lines, columns)
+        made = records.encode("\n".join([*texts, ""]))
+        self.bytes += len(made)
+        return made
+
+    def look_at_nameless(self, lines: Sequence[int], fields: List[Sequence[str]]) -> None:
+        """Notes the first value in a column without a name: it may be after a mark of thousands, without quotes."""
+        for place in self.nameless:
+            found = next((row for row, text in enumerate(fields[place]) if text.strip()), None)
+            if found is not None and self.left_out is None:
+                text = visible(fields[place][found])
+                self.left_out = f"line {lines[found]}: '{text}' is left out: its column, {place + 1}, has no name"
+
+    def whole(self, piece: Piece) -> Piece:
+        """Returns the records that have the header's number of fields."""
+        width = len(self.sheet.header)
+        if {width}.issuperset(map(len, piece.records)):
+            return piece
+        lines: List[int] = []
+        records: List[List[str]] = []
+        for line, record in zip(*piece):
+            if len(record) != width:
+                quoted = "put a field with a separator in it in double quotes"
+                self.add_fault(f"line {line}: {len(record)} fields, and the header has {width}; {quoted}")
+            else:
+                lines.append(line)
+                records.append(record)
+        return Piece(lines, records)
+
+    def look_at(
+        self, lines: Sequence[int], values: List[Sequence[str]], found: List[Sequence[Optional[str]]],
+    ) -> None:
+        # A column without faults has none in this piece.
+        looked = [made for column, made in zip(self.columns, found) if column.faults]
+        faulty = {row for made in looked for row, one in enumerate(made) if one is None}
+        for row in sorted(faulty):
+            for column, texts, made in zip(self.columns, values, found):
+                if made[row] is None:
+                    what = f"{column.name} is '{visible(texts[row])}': {column.faults[texts[row]]}"
+                    self.add_fault(f"line {lines[row]}: {what}")
+        for column, texts in zip(self.columns, values):
+            self.notes.count(column.name, column.doubts, lines, texts)
+        for one in filter(None, [self.marks.either, *(scale.unmarked for scale in self.scales())]):
+            if one not in self.doubtful:
+                self.doubtful[one] = lines[values[self.names.index(one.name)].index(one.text)]
+        if not faulty:
+            # None is at fault, so each is a text.
+            starts, ends, *others = cast(List[Sequence[str]], found)
+            self.refuse_empty_periods(lines, starts, ends)
+            keys = self.keys_of(others) or [""] * len(lines)
+            self.ends.add(lines, keys, starts, ends)
+            if self.options.update:
+                self.overwrites.add(lines, keys, starts, ends)
+
+    def refuse_empty_periods(self, lines: Sequence[int], starts: Sequence[str], ends: Sequence[str]) -> None:
+        # The texts of points are in the order of time.
+        if not any(map(ge, starts, ends)):
+            return
+        for line, start, end in zip(lines, starts, ends):
+            if start >= end:
+                self.add_fault(f"line {line}: {self.options.start}, {start}, {self.empty_period(start, end)}")
+
+    def empty_period(self, start: str, end: str) -> str:
+        """Why it has no point, with the end as the file has it."""
+        last = shifted(end, -1) if self.options.last_day else ""
+        if last:
+            return f"is after {self.options.end}, {last}"
+        more = "; if that is the last day, use --last-day" if start == end and len(end) == 10 else ""
+        return f"isn't before {self.options.end}, {end}{more}"
+
+    def keys_of(self, values: Sequence[Sequence[str]]) -> Sequence[object]:
+        if len(self.keys) == 1:
+            return values[self.keys[0]]
+        return list(zip(*(values[place] for place in self.keys)))
+
+    def scales(self) -> List[Scale]:
+        return [column.convert for column in self.columns if isinstance(column.convert, Scale)]
+
+    def refuse_doubtful(self) -> None:
+        """Refuses numbers that could be read in two ways, which only all rows together show."""
+        either = self.marks.either
+        if either and not self.marks.is_settled:
+            why = "its mark may separate thousands or decimals, and no other number of the file shows which"
+            what = f"{either.name} is '{visible(either.text)}': {why}: {readings(either.bare, '.,')}"
+            self.add_fault(f"line {self.doubtful[either]}: {what}")
+        for scale in self.scales():
+            if scale.unmarked and scale.mixed():
+                self.add_fault(f"line {self.doubtful[scale.unmarked]}: {scale.mixed()}")
+
+    def add_fault(self, what: str) -> None:
+        self.count_of_faults += 1
+        if len(self.faults) < FAULTS:
+            self.faults.append(what)
+
+    def names_in_store(self) -> List[str]:
+        """Returns the names of the table's columns. Without a table they are the file's, if changes need names."""
+        if self.schema:
+            return self.schema.names
+        names = [name_for(self.options, column) for column in self.options.column]
+        wrong = [name for name in names if not is_name(name)]
+        if wrong and not self.is_load:
+            remedy = f"give the table's by NAME={visible(wrong[0])} or --table"
+            raise Misfit(f"{visible(wrong[0])} can't be the name of a table's column: {remedy}")
+        if not self.is_load:
+            refuse_twins(self.options, names)
+        return names
+
+    def records_of(self, columns: List[Sequence[str]]) -> List[str]:
+        """Returns the records of a load, or a change for each row. Fields that need quotes have them already."""
+        made = zip(repeat(self.made_word), *columns) if self.is_load else map(self.change_of, zip(*columns))
+        return list(map(",".join, made))
+
+    def change_of(self, row: Sequence[str]) -> Sequence[str]:
+        """The update or the delete, within the row's period, of the rows that have its values of the key."""
+        start, end, *values = row
+        pairs = list(zip(self.stored, values))
+        changed = [text for place, pair in enumerate(pairs) if place not in self.keys for text in pair]
+        known = [text for place in self.keys for text in pairs[place]]
+        portion, where = [self.options.table, start, end], ["where", *known] if known else []
+        return [self.made_word, *portion, *(["set", *changed] if changed else []), *where]
+
+    def noted(self) -> Iterator[str]:
+        """Yields possible mistakes."""
+        if not self.rows:
+            yield f"no row follows the header, so {'the load has none' if self.is_load else 'nothing is changed'}"
+        yield from [*self.notes.notes(), *self.ends.notes(), *self.twins.notes(), *self.notes_of_scales()]
+        if self.left_out:
+            yield self.left_out
+        if self.is_load and self.options.column and not (self.schema and self.schema.key):
+            yield from self.repeats.notes()
+        yield from self.totals.notes() if self.is_load else ()
+        yield from [*self.notes_of_points(), *self.notes_of_words(), *self.equals.notes()]
+        yield from self.sheet.notes(self.places[:2], self.places[2:])
+        if not self.is_load:
+            yield from [*self.ends.equal_starts(self.options.delete), *self.overwrites.notes()]
+        if self.rows > MOST_ROWS * 9 // 10 or self.bytes > MOST_BYTES * 9 // 10:
+            limits = f"a script can have {MOST_BYTES:,} bytes, a table {MOST_ROWS:,} versions of rows"
+            room = f"{self.rows:,} rows in {self.bytes:,} bytes leave little room for later changes"
+            yield f"{room}: {limits}; make two scripts of two files, each with all rows of its keys"
+
+    def notes_of_words(self) -> Iterator[str]:
+        """Reports an option for ends that no row has."""
+        end = cast(End, self.columns[1])
+        for text in sorted(end.no_ends - end.met) if self.rows else []:
+            word, what = (f"--no-end '{visible(text)}'", f"'{visible(text)}'") if text else ("--open", "empty")
+            yield f"{word}: no row's {self.options.end} is {what}"
+
+    def notes_of_points(self) -> Iterator[str]:
+        """Reports dates that could have day and month the other way round, and times if only some have AM or PM."""
+        texts = [text.strip(SPACES) for column in self.columns[:2] for text in column]
+        found = as_good_swapped(texts, form_of(self.options) or "")
+        if found:
+            months = f"in {found.wanted} months, not in {found.found}"
+            both = f"in {found.found} months either way" if found.wanted == found.found else months
+            example = f"'{found.text}', of {found.dates}, is read as {found.read}, and would be {found.otherwise}"
+            question = f"--dates {found.other} reads all dates too, then {both}: which is meant? ({example})"
+            yield f"{self.options.start} and {self.options.end}: {question}"
+        plain = without_half(texts)
+        if plain:
+            halves = f"'{visible(plain)}' has neither AM nor PM, which others have, and is read by 24 hours"
+            yield f"{self.options.start} and {self.options.end}: {halves}"
+
+    def notes_of_scales(self) -> Iterator[str]:
+        for scale in self.scales():
+            if scale.currency:
+                yield f"{scale.name}: {scale.currency} was left out of its numbers, which are of one currency"
+            if scale.digits > 2 and 0 < scale.longest < scale.digits:
+                count = f"its numbers have at most {scale.longest} decimals, and --decimals gives {scale.digits}"
+                yield f"{scale.name}: {count}; --decimals {scale.name}={scale.longest} takes them as they are"
+
+
+def refuse_header(sheet: Records, names: List[str], of_table: Sequence[str]) -> None:
+    """Refuses a file whose header lacks a name, or has one twice."""
+    header = sheet.header
+    if not header:
+        raise Misfit("the file has no header, just empty lines")
+    unknown = [name for name in names if name not in header]
+    if unknown:
+        shown = ", ".join(f"'{visible(name)}'" for name in header)
+        mark = next((mark for mark in "|:^~ " if mark in header[0]), "") if len(header) == 1 < len(names) else ""
+        remedy = f"; `(echo 'sep={mark}'; cat FILE)` makes '{mark}' the separator of its fields" if mark else ""
+        file = next((name for name in unknown if isfile(name)), None)
+        remedy = f"; {visible(file)} is a file: give it as the last word, by --file or by `<`" if file else remedy
+        line = 0 if file else sheet.line_with(names)
+        remedy = f"; the header seems to be line {line}: use --skip {line - 1}" if line else remedy
+        word = next((word for word in names[:2] if word in unknown and "=" in word), None)
+        remedy = f"; FROM and TO are columns too, and {visible(word)} isn't: did you forget one?" if word else remedy
+        # Without COLUMNs the names come from the table, or its key.
+        same = next((name for name in unknown if name in of_table), None)
+        remedy = f"; {same}=COLUMN names the one for the table's {same}" if same and not remedy else remedy
+        raise Misfit(f"not in the header: {', '.join(map(visible, unknown))}; it has {shown}{remedy}")
+    if any(read_point(name) for name in names[:2]):
+        raise Misfit(f"the first line must have the columns' names, but it has a date: {visible(','.join(header))}")
+    twice = [name for name in names if header.count(name) > 1]
+    if twice:
+        raise Misfit(f"two columns of the header have the name {visible(twice[0])}")
+
+
+def refuse_other_ends(name: str, are_last_days: bool) -> None:
+    """Refuses a column of ends if its name says that they are meant otherwise."""
+    if not are_last_days and LAST_DAY_NAME.search(name.lower()):
+        raise Misfit(f"{visible(name)}: its name says that it is the last day of a row; use --last-day")
+    if are_last_days and name == PERIOD[1].name:
+        remedy = "leave out --last-day, or rename the column if it has last days"
+        raise Misfit(f"{name}: {ANSWERS} prints the day after a row's last day there; {remedy}")
+
+
+def check_of(sheet: Records, table: str, part: str, row_id: str, instant: str) -> Tuple[str, List[str]]:
+    """The `check` of the parts, by their first rows: a row for each row of the table, with its part and its id.
+
+    It comes with notes on the parts' names.
+    """
+    refuse_header(sheet, [part, row_id], [])
+    places = sheet.header.index(part), sheet.header.index(row_id)
+    parts: Dict[str, List[str]] = {}
+    for piece in sheet.pieces():
+        for line, record in zip(*piece):
+            if len(record) != len(sheet.header) or not is_count(record[places[1]].strip()):
+                raise Misfit(f"line {line}: {visible(','.join(record))}: not a row with a part and an id")
+            parts.setdefault(record[places[0]].strip(), []).append(record[places[1]].strip())
+    opening = ["check", table, str(len(parts)), instant]
+    return to_text([opening, *(["part", *ids] for ids in parts.values()), ["end"]]), list(notes(part, parts))
+
+
+def notes(column: str, parts: Dict[str, List[str]]) -> Iterator[str]:
+    """Yields possible mistakes in the parts' names."""
+    if "" in parts:
+        ids = short(", ".join(parts[""]))
+        yield f"{visible(column)} is empty in {len(parts['']):,} rows, which are one part: {ids}"
+    yield from alike(column, parts)
+
+
+def alike(column: str, parts: Iterable[str]) -> Iterator[str]:
+    looks = LookAlikes()
+    for name in parts:
+        other = looks.other(name)
+        if other is not None:
+            which = f"looks like '{visible(other)}', but is another part"
+            yield f"{visible(column)} is '{visible(name)}': it {which}"

@@ -1,0 +1,145 @@
+"""The table into which a file is loaded, from a record or a script, and the file's columns for it."""
+from argparse import Namespace
+from pathlib import Path
+from typing import Dict, List, Optional, Sequence, Tuple
+
+from ruzgalt.errors import Misfit
+from ruzgalt.script import commands, records
+from ruzgalt.script.forms import is_name
+from ruzgalt.script.reader import Source
+from ruzgalt.script.records import visible
+from ruzgalt.script.schemas import MOST_COLUMNS, Schema, is_schema, listed
+
+
+def schema_of(options: Namespace) -> Optional[Schema]:
+    """The table that is given by its record, or by a script that has it."""
+    if options.record is None:
+        return None
+    is_file = not options.record.startswith("table,")
+    data = Path(options.record).read_bytes() if is_file else options.record.encode("utf-8", "surrogateescape")
+    tables = [one.record.fields for one in commands.commands(Source(data)) if one.word == "table"]
+    found = next((fields for fields in tables if fields[1:2] == [options.table]), None)
+    if found is None:
+        raise Misfit(f"--table: there is no `table` record of {options.table} in it")
+    if not is_schema(found):
+        form = f"table,T,COLUMN,KIND..[,key,COLUMN..], with {MOST_COLUMNS} columns at most, each once"
+        raise Misfit(f"--table: {records.to_record(found)}: not of the form {form}")
+    return Schema.read(found)
+
+
+def rename(options: Namespace, header: Sequence[str]) -> None:
+    """Parts each COLUMN that is NAME=COLUMN into the table's name and the header's.
+
+    A word that is in the header as it is, is a name, whatever signs it has.
+    """
+    options.renamed = {}
+    for place, word in enumerate(options.column):
+        name, mark, column = word.partition("=")
+        if mark and word not in header:
+            if not is_name(name):
+                raise Misfit(f"{visible(word)}: {visible(name)} can't be the name of a table's column")
+            if name in options.renamed.values():
+                raise Misfit(f"{visible(word)}: the table's column {name} is given twice")
+            options.column[place] = column
+            options.renamed[column] = name
+
+
+def fit(options: Namespace, schema: Schema, header: Sequence[str]) -> Tuple[Schema, List[str]]:
+    """Returns the table's columns in the order of the COLUMNs, and the columns that the file lacks in updates.
+
+    Fills in the COLUMNs: if none is given, the table's, or for deletes its key's; for a load also the columns without
+    a new name. Refuses columns that aren't the table's, as far as names show it.
+    """
+    refuse_twins(options, schema.names)
+    left_out: List[str] = []
+    if options.renamed and not (options.update or options.delete):
+        options.column = in_order(options, schema, header)
+    elif not options.column:
+        pairs = [(name, name_in(header, name)) for name in (key_of(schema) if options.delete else schema.names)]
+        left_out = [name for name, found in pairs if options.update and found not in header]
+        options.column = [found for name, found in pairs if name not in left_out]
+    names = [name_for(options, name) for name in options.column]
+    fitted = some_of(schema, names) if options.update or options.delete else schema
+    if fitted is schema:
+        refuse_others(names, schema)
+    take_names_of_file(options, dict(zip(fitted.names, options.column)))
+    return fitted, left_out
+
+
+def take_names_of_file(options: Namespace, of_file: Dict[str, str]) -> None:
+    """Replaces the table's names by the file's in all options that have names of columns."""
+    for names in (options.update, options.empty):
+        names[:] = [name_of(name, of_file) for name in names]
+    options.decimals = [(name_of(name, of_file), digits) for name, digits in options.decimals]
+
+
+def refuse_twins(options: Namespace, known: Sequence[str]) -> None:
+    """Refuses two COLUMNs for one of the table's, as far as its names are known: the values of one would be lost."""
+    names = [plain(name_for(options, column)) for column in options.column]
+    for place, name in enumerate(names):
+        if name in known and name in names[:place]:
+            raise Misfit(f"{visible(options.column[place])}: the table's column {name} is given twice")
+
+
+def key_of(schema: Schema) -> List[str]:
+    """Returns the key's columns, which select the deleted rows if no COLUMN is given."""
+    if schema.columns and not schema.key:
+        raise Misfit(f"--delete: {schema.name} has no key, so give the COLUMNs that select the rows")
+    return [schema.names[place] for place in schema.key]
+
+
+def in_order(options: Namespace, schema: Schema, header: Sequence[str]) -> List[str]:
+    """The file's columns in the order of the table's: the COLUMNs by their names there, and the others by their own."""
+    of_table = {plain(name_for(options, name)): name for name in options.column}
+    for name, column in of_table.items():
+        if name not in schema.names:
+            raise Misfit(f"{visible(column)}: {schema.name} has no column {visible(name)}; {listed(schema.names)}")
+    return [of_table[name] if name in of_table else name_in(header, name) for name in schema.names]
+
+
+def name_for(options: Namespace, column: str) -> str:
+    """Returns the table's name for a column of the file if one is given, or otherwise the file's."""
+    name: str = options.renamed.get(column, column)
+    return name
+
+
+def plain(name: str) -> str:
+    return name.strip().lower()
+
+
+def name_in(header: Sequence[str], name: str) -> str:
+    """Returns the header's name that equals one of the table's except for capitals and spaces around it."""
+    alike = [one for one in header if plain(one) == name]
+    if len(alike) > 1 and name not in header:
+        both = " and ".join(f"'{visible(one)}'" for one in alike)
+        raise Misfit(f"{name} is in the header as {both}: give the one that is meant as a COLUMN")
+    return name if name in header or not alike else alike[0]
+
+
+def name_of(name: str, of_file: Dict[str, str]) -> str:
+    """The name that the file has for a column, which may be given by the table's."""
+    return name if name in of_file.values() else of_file.get(plain(name), name)
+
+
+def some_of(schema: Schema, columns: Sequence[str]) -> Schema:
+    """The table's columns that these are by their names, for changes, whose records have names; the table itself where
+    all of its columns are given, and one has another name.
+    """
+    unknown = [name for name in columns if plain(name) not in schema.names]
+    if unknown and len(columns) >= len(schema.names):
+        return schema
+    if unknown:
+        known = f"{schema.name} has no such column, and only some of its columns are given; {listed(schema.names)}"
+        raise Misfit(f"{visible(unknown[0])}: {known}")
+    places = [schema.index_of(plain(name)) for name in columns]
+    kept = [places.index(place) for place in schema.key if place in places]
+    return Schema(schema.name, tuple(schema.columns[place] for place in places), tuple(kept))
+
+
+def refuse_others(columns: Sequence[str], schema: Schema) -> None:
+    if len(columns) != len(schema.names):
+        wanted = f"{schema.name} has {len(schema.names)}: {', '.join(schema.names)}"
+        raise Misfit(f"{len(columns)} columns are given, but {wanted}")
+    for place, name in enumerate(columns):
+        if plain(name) in schema.names and schema.names[place] != plain(name):
+            raise Misfit(f"{visible(name)} is given as column {place + 1}, which is {schema.names[place]} in the table")

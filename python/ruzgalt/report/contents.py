@@ -1,0 +1,505 @@
+"""The data of the page: its sources, findings, commits, questions and tables."""
+import json
+import re
+import xml.etree.ElementTree
+from collections import defaultdict
+from itertools import islice
+from typing import Any, DefaultDict, Dict, Iterable, Iterator, List, NamedTuple, Optional, Sequence, Tuple, TypeVar
+from xml.etree.ElementTree import Element
+
+from ruzgalt import which
+from ruzgalt.errors import Misfit
+from ruzgalt.lint import scripts
+from ruzgalt.lint.texts import fold
+from ruzgalt.report import figures, picks, svg
+from ruzgalt.report.shown import Amounts, Look
+from ruzgalt.script import answers, changes, overlaps, refusals, schemas
+from ruzgalt.script.answers import Answer
+from ruzgalt.script.changes import IDS, Held, compared
+from ruzgalt.script.fields import where_places
+from ruzgalt.script.language import CHANGES
+from ruzgalt.script.questions import EMPTY
+from ruzgalt.script.records import short, to_record, visible
+from ruzgalt.script.run import Past, versions_of
+from ruzgalt.script.schemas import Schema, Table
+
+# The position of the first value in a version.
+VALUES = 5
+
+
+class Marked(NamedTuple):
+    """A file by its name, without its folder, and by what marks its bytes."""
+
+    name: str
+    size: int
+    sha256: str
+
+
+class Sources(NamedTuple):
+    """The sources of a page. Its answers are the script's and the named questions'."""
+
+    script: Marked
+    # The script as a word of a shell, and the command that makes the page again in the folder of the files.
+    word: str
+    command: str
+    answers: List[Answer]
+    # What answered: the command, and the program that it runs if that is another file.
+    files: List[Marked]
+    # The version of an installed program. Empty if the program is built in a clone.
+    version: str
+    # The file of answers, if there is one.
+    kept: Optional[Marked]
+    past: Past
+    # The names of questions that have one, by their answers' numbers.
+    names: Dict[int, str]
+    # The title and the note at the top, and how amounts and ends are shown.
+    title: str = ""
+    note: str = ""
+    look: Look = Look()
+
+    @property
+    def tables(self) -> Dict[str, Schema]:
+        return self.past.tables
+
+    @property
+    def versions(self) -> Dict[str, Table]:
+        """The answer to `between` of each table, with all its versions."""
+        return {name: answer.table for name, answer in zip(self.tables, self.past.ask(*map(versions_of, self.tables)))}
+
+
+# How many findings of each kind are listed, and how many changes of nothing are explained by the rows.
+LISTED, LOOKED_AT = 1_000, 100
+
+
+class Finding(NamedTuple):
+    """Where it is, the command, the refusal's name (or nothing), the reason, and more lines about it."""
+
+    place: str
+    command: str
+    name: str
+    reason: str
+    more: List[str]
+
+
+class Findings(NamedTuple):
+    refused: List[Finding]
+    idle: List[Finding]
+    doubtful: List[Finding]
+    # How many of each kind there are, listed or not.
+    counts: Tuple[int, int, int]
+
+    @property
+    def left_out(self) -> int:
+        """How many aren't listed."""
+        return sum(self.counts) - len(self.refused) - len(self.idle) - len(self.doubtful)
+
+
+def findings_of(sources: Sources) -> Findings:
+    """All findings, each kind by the order of the script."""
+    refused, doubtful = refused_in(sources), doubtful_in(sources)
+    changes = [answer for answer in sources.answers if is_idle(answer, sources)]
+    idle = [finding(one, "", why_idle(one, sources)) for one in changes[:LOOKED_AT]]
+    idle.extend(finding(one, "", "no row that it matches holds in that time") for one in changes[LOOKED_AT:])
+    of_each = len(refused), len(idle), len(doubtful)
+    return Findings(refused[:LISTED], idle[:LISTED], doubtful[:LISTED], of_each)
+
+
+def finding(answer: Answer, name: str, reason: str, more: Sequence[str] = ()) -> Finding:
+    return Finding(answer.where, short(answer.command.text), name, reason, list(more))
+
+
+def refused_in(sources: Sources) -> List[Finding]:
+    """Returns the refused commands; for a refused key with its rows."""
+    refused = [answer for answer in sources.answers if answer.refusal]
+    rows = overlaps.explained(sources.past, refused[:LOOKED_AT])
+    return [
+        finding(one, one.refused.name, refusals.reason(one), rows.get(one.number, []))
+        ._replace(place=one.refused.record.where) for one in refused
+    ]
+
+
+def doubtful_in(sources: Sources) -> List[Finding]:
+    """Returns possible mistakes, except changes of nothing."""
+    found = scripts.of(sources.answers, sources.past)
+    return [finding(mark.answer, "", mark.note) for mark in found if mark.kind != scripts.OF_NOTHING]
+
+
+def is_idle(answer: Answer, sources: Sources) -> bool:
+    """Whether it is a change of rows that was accepted, and made and closed no version."""
+    is_change = not answer.refusal and answer.command.word in CHANGES and answer.command.word != "table"
+    return is_change and sources.past.counts[answer.commits] == (0, 0)
+
+
+def why_idle(answer: Answer, sources: Sources) -> str:
+    if answer.command.word == "load":
+        return "the load has no rows"
+    texts = answer.command.record.fields
+    schema = answer.schema
+    wanted = [(schema.index_of(texts[place]), texts[place + 1]) for place in where_places(texts)]
+    rows = sources.past.versions(texts[1]).at(answer.commits - 1)
+    for place, value in wanted:
+        values = {row.values[place] for row in rows}
+        if value not in values:
+            return f"no row has {shown_value(value)} as {schema.names[place]} then{alike(value, sorted(values))}"
+    held = [row for row in rows if schemas.has_values(row.values, wanted)]
+    if not held:
+        return "no row has all of these values" if wanted else f"{texts[1]} had no row then"
+    times = sorted(f"{row.start} to {row.end}" for row in held)
+    more = f", and {len(times) - 3} more" if len(times) > 3 else ""
+    return f"the rows that it matches hold at other times: {', '.join(times[:3])}{more}"
+
+
+def alike(value: str, others: Sequence[str]) -> str:
+    if not value:
+        return ""
+    folded = fold(value)
+    found = next((other for other in others if other and fold(other) == folded), None)
+    return f", but {shown_value(found)}, which looks alike" if found else ""
+
+
+def shown_value(value: str) -> str:
+    return visible(to_record([value]))
+
+
+Span = Tuple[str, str]
+
+
+def marks(then: Answer, now: Answer) -> Optional[List[str]]:
+    """Returns a sign for each record of both answers: 1 if the other has fewer such records at some time, otherwise 0.
+
+    So a row that was cut in two, and says the same, has 0. Nothing where such answers aren't compared by their times.
+    """
+    if then.command.form.answered not in IDS:
+        return None
+    sides = [compared(answer)[1] for answer in (then, now)]
+    found = list(changes.changes(*sides))
+    return [marked(held, [one[1:] for one in found if one[0] == sign]) for held, sign in zip(sides, "-+")]
+
+
+def marked(held: Sequence[Held], more: Iterable[Sequence[str]]) -> str:
+    """Marks the surplus records at each time, the last ones of equal records."""
+    lacking: DefaultDict[Tuple[str, ...], List[Span]] = defaultdict(list)
+    for start, end, *values in more:
+        lacking[tuple(values)].append((start, end))
+    others: DefaultDict[Tuple[str, ...], List[Held]] = defaultdict(list)
+    for one in held:
+        others[one[2]].append(one)
+    left = {values: Left(spans, others[values]) for values, spans in lacking.items()}
+    signs = ["1" if values in left and left[values].take(start, end) else "0" for start, end, values in reversed(held)]
+    return "".join(reversed(signs))
+
+
+class Left:
+    """How many records of some values are still to be marked, at each time between two of their starts and ends."""
+
+    def __init__(self, spans: Sequence[Span], held: Sequence[Held]) -> None:
+        periods = [*spans, *((start, end) for start, end, _ in held)]
+        ends = {point for period in periods for point in period}
+        self.places = {point: place for place, point in enumerate(sorted(ends))}
+        self.counts = [0] * len(self.places)
+        for span in spans:
+            for place in self.range(*span):
+                self.counts[place] += 1
+
+    def range(self, start: str, end: str) -> range:
+        return range(self.places[start], self.places[end])
+
+    def take(self, start: str, end: str) -> bool:
+        """Returns whether a record of this time must be marked, and counts it."""
+        wanted = [place for place in self.range(start, end) if self.counts[place]]
+        for place in wanted:
+            self.counts[place] -= 1
+        return bool(wanted)
+
+
+# With more records only the table is shown; and the width of a picture in pixels.
+MOST, WIDTH = 400, 640
+# What a drawing is made of. All else is left out, so none can have a script or ask a network.
+ELEMENTS = {
+    "svg", "g", "defs", "pattern", "clipPath", "title", "desc", "text", "tspan", "line", "rect", "path", "circle",
+    "polygon", "polyline",
+}
+ATTRIBUTES = re.compile(
+    r"id|x|y|x1|y1|x2|y2|dx|dy|cx|cy|r|rx|ry|d|points|width|height|viewBox|transform|opacity|clip-path|text-anchor"
+    r"|dominant-baseline|pattern(?:Units|Transform|ContentUnits)|fill(?:-opacity)?|font-(?:family|size|style|weight)"
+    r"|stroke(?:-(?:width|dasharray|opacity|linecap|linejoin))?"
+)
+ELSEWHERE = re.compile(r"url\((?!#)|:")
+
+
+class Drawing(NamedTuple):
+    """An element tree, or the reason for having no picture."""
+
+    tree: Optional[List[Any]]
+    why: str = ""
+
+
+def drawing_of(answer: Answer, amounts: Amounts, past: Past) -> Drawing:
+    if not figures.is_drawn(answer):
+        return Drawing(None)
+    count = len(answer.table.records)
+    if count == 0:
+        return Drawing(None)
+    if count > MOST:
+        why = f"No picture: {count:,} records are more than {MOST}. `{which.ANSWERS} picture` draws some of them."
+        return Drawing(None, why)
+    try:
+        wish = figures.Wish(amounts=amounts.known_to(answer.table))
+        text = svg.draw(figures.of(answer, wish, past.versions), WIDTH)
+    except Misfit:
+        return Drawing(None, "No picture of several facts in one: each has its own under Tables over time.")
+    prefix = f"p{answer.number}-"
+    return Drawing(tree_of(xml.etree.ElementTree.fromstring(text), prefix))
+
+
+def tree_of(element: Element, prefix: str) -> List[Any]:
+    """The name of the element, its attributes, and its texts and elements. Ids have a prefix of their picture."""
+    inner: List[Any] = [element.text] if element.text and element.text.strip() else []
+    for child in element:
+        if name_of(child) in ELEMENTS:
+            inner.append(tree_of(child, prefix))
+        if child.tail and child.tail.strip():
+            inner.append(child.tail)
+    return [name_of(element), attributes_of(element, prefix), *inner]
+
+
+def name_of(element: Element) -> str:
+    return element.tag.rpartition("}")[2]
+
+
+def attributes_of(element: Element, prefix: str) -> Dict[str, str]:
+    kept = {}
+    for name, value in element.attrib.items():
+        if ATTRIBUTES.fullmatch(name) and not ELSEWHERE.search(value):
+            kept[name] = prefix + value if name == "id" else value.replace("url(#", f"url(#{prefix}")
+    return kept
+
+
+# How many records of a table are shown, and the most questions, pictures, commits and parts of a check.
+SHOWN, QUESTIONS, PICTURES, COMMITS, PARTS = 1_000, 1_000, 200, 50_000, 1_000
+NO_ROOM = Drawing(None, f"No picture: the page has {PICTURES} before it.")
+# The most characters of answers' records in the page, and of versions; a table has all its versions or none.
+ROOM = 14_000_000
+# How many records of all questions are shown at first; if they have more, each question has its share.
+AT_ONCE = 30_000
+
+Data = Dict[str, Any]
+
+
+class Contents(NamedTuple):
+    """The data of a page: small things as they are, and lists of records as JSON, each under its name."""
+
+    data: Data
+    lists: List[Tuple[str, str]]
+
+
+class Room:
+    """How many characters of records the page may still have."""
+
+    def __init__(self, left: int) -> None:
+        self.left = left
+
+    def take(self, records: str) -> bool:
+        fits = len(records) <= self.left
+        self.left -= len(records) if fits else 0
+        return fits
+
+
+def of(sources: Sources, diary: Optional[str]) -> Contents:
+    """The contents. With a diary the commits have its days."""
+    parts = Parts(sources)
+    asked = list(filter(picks.is_asked, sources.answers))
+    kept = parts.first(asked, QUESTIONS, "questions")
+    days = days_of(sources, diary)
+    commits = list(commits_of(sources, days))
+    found = findings_of(sources)
+    doubtful = [*doubts_of(sources, diary, days), *found.doubtful]
+    sources.look.refuse_strangers(*(answer.table for answer in kept), *sources.versions.values())
+    data = {
+        "title": sources.title, "note": sources.note, "isGerman": sources.look.amounts.is_german,
+        "hasLastDays": sources.look.has_last_days,
+        "script": as_object(sources.script), "scriptWord": sources.word, "command": sources.command,
+        "files": [as_object(file) for file in sources.files],
+        "version": sources.version, "kept": as_object(sources.kept) if sources.kept else None,
+        "tool": which.ANSWERS, "isInstalled": which.IS_INSTALLED, "answers": len(sources.answers),
+        "refused": as_objects(found.refused), "idle": as_objects(found.idle), "doubtful": as_objects(doubtful),
+        "counts": counts_of(found, len(doubtful) - len(found.doubtful), len(asked)),
+        "diary": diary, "newest": len(commits), "commits": parts.first(commits, COMMITS, "commits"),
+        "shown": SHOWN, "questions": list(parts.questions(kept)),
+        "pairs": [[then.number, now.number] for then, now in pairs_of(kept)],
+        "said": {then.number: marks(then, now) for then, now in pairs_of(kept)},
+        "tables": list(parts.tables()),
+    }
+    if found.left_out:
+        parts.left_out.append(f"{found.left_out:,} findings: `{which.ANSWERS} refusals` lists all")
+    return Contents({**data, "leftOut": parts.left_out}, parts.lists)
+
+
+def counts_of(found: Findings, others: int, questions: int) -> Dict[str, int]:
+    """Returns the number of findings and questions, since the page may not have all. `others` counts as doubtful.
+    """
+    refused, idle, doubtful = found.counts
+    return {"refused": refused, "idle": idle, "doubtful": doubtful + others, "questions": questions}
+
+
+Thing = TypeVar("Thing")
+
+
+class Parts:
+    """Lists of records that the page has, and notes on records for which it has no capacity."""
+
+    def __init__(self, sources: Sources) -> None:
+        self.sources = sources
+        self.lists: List[Tuple[str, str]] = []
+        self.left_out: List[str] = []
+
+    def first(self, things: List[Thing], most: int, what: str) -> List[Thing]:
+        """So many of them at most."""
+        if len(things) > most:
+            self.left_out.append(f"{len(things) - most:,} {what} after the first {most:,}")
+        return things[:most]
+
+    def questions(self, kept: Sequence[Answer]) -> Iterator[Data]:
+        room, shown, drawn = Room(ROOM), shown_at_once(kept), 0
+        for answer in kept:
+            has_all = self.add_records(answer, room, shown)
+            is_past = drawn == PICTURES and figures.is_drawn(answer)
+            drawing = NO_ROOM if is_past else drawing_of(answer, self.sources.look.amounts, self.sources.past)
+            drawn += drawing.tree is not None
+            yield {
+                "number": answer.number, "place": answer.where, "command": short(answer.command.text),
+                "word": answer.command.word, "commit": answer.commit,
+                "columns": columns_of(answer.table, self.sources.look),
+                "count": len(answer.table.records), "hasAll": has_all, "shown": shown,
+                "name": self.sources.names.get(answer.number, ""),
+                "sentence": sentence_of(answer), "parts": parts_of(answer),
+                "picture": drawing.tree, "noPicture": drawing.why,
+            }
+
+    def add_records(self, answer: Answer, room: Room, shown: int) -> bool:
+        """Takes the answer's records, or only the first ones. Returns whether all are taken."""
+        count, text = len(answer.table.records), as_json(answer.table)
+        has_all = room.take(text) or count <= shown
+        if not has_all:
+            text = as_json(answer.table, shown)
+            rest = f"{count - shown:,} of {count:,} records"
+            self.left_out.append(f"of {answer.where}, {short(answer.command.text)}: {rest}")
+        self.lists.append((f"records-{answer.number}", text))
+        return has_all
+
+    def tables(self) -> Iterator[Data]:
+        room = Room(ROOM)
+        for number, (name, table) in enumerate(self.sources.versions.items()):
+            text, count = as_json(table), len(table.records)
+            is_there = room.take(text)
+            if is_there:
+                self.lists.append((f"versions-{number}", text))
+            else:
+                self.left_out.append(f"the {count:,} versions of {name}, and so what held on each day")
+            yield {
+                "name": name, "columns": columns_of(table, self.sources.look),
+                "key": key_places(self.sources.tables[name]),
+                "count": count, "isThere": is_there, "number": number,
+            }
+
+
+def as_object(file: Marked) -> Data:
+    return file._asdict()
+
+
+def as_objects(found: Sequence[Finding]) -> List[Data]:
+    return [one._asdict() for one in found]
+
+
+def days_of(sources: Sources, diary: Optional[str]) -> changes.Days:
+    """The days of the diary, as its rows have them at the script's end."""
+    if diary is None:
+        return []
+    changes.refuse_missing(sources.answers, diary)
+    return changes.days_in(sources.past.versions(diary))
+
+
+def doubts_of(sources: Sources, diary: Optional[str], days: changes.Days) -> Iterator[Finding]:
+    """Yields possible mistakes in the script and its diary as a whole."""
+    if not sources.answers:
+        yield Finding("line 1", "", "", EMPTY, [])
+    newest = max((answer.commits for answer in sources.answers), default=0)
+    for reason in changes.strange_commits(days, newest):
+        yield Finding(f"--diary {diary}", "", "", reason, [])
+
+
+def commits_of(sources: Sources, days: Sequence[Tuple[str, int]]) -> Iterator[List[str]]:
+    """Yields for each commit its number, its day, the place and text of its command, and its counts."""
+    day_of_commit = changes.entered_on(list(days), range(1, sources.past.newest + 1))
+    for answer in sources.answers:
+        command = answer.command
+        if not answer.refusal and command.word in CHANGES:
+            number = answer.commits
+            more = f" ({len(command.rows):,} rows)" if command.word == "load" else ""
+            yield [
+                str(number), day_of_commit[number] or "", answer.where, short(command.text) + more,
+                *map(str, sources.past.counts[number]),
+            ]
+
+
+def shown_at_once(kept: Sequence[Answer]) -> int:
+    """How many records are shown of each answer before one asks for more."""
+    most = sum(min(len(answer.table.records), SHOWN) for answer in kept)
+    return SHOWN if most <= AT_ONCE else min(SHOWN, AT_ONCE // len(kept))
+
+
+def as_json(table: Table, most: Optional[int] = None) -> str:
+    return json.dumps(list(islice(table.texts(), most)), separators=(",", ":"))
+
+
+def columns_of(table: Table, look: Look) -> List[List[Any]]:
+    """The name of each column, its kind, and how its fields are shown where that isn't as they are."""
+    found: List[List[Any]] = []
+    for own, column in zip(table.columns, look.columns(table)):
+        how = look.look_of(own)
+        shown = [] if how.digits is None else [{"digits": how.digits}]
+        found.append([column.name, column.kind.value, *shown, *([{"end": own.name}] if how.is_end else [])])
+    return found
+
+
+def sentence_of(answer: Answer) -> str:
+    """What a division or a verdict says, in a sentence."""
+    if answer.command.word == "dip":
+        return sentence_of_division(answer.table)
+    if answer.command.word == "check":
+        return answers.sentence_of(answer)
+    return ""
+
+
+def parts_of(answer: Answer) -> List[List[str]]:
+    """The first parts that a check asks about, each with its rows."""
+    if answer.command.word != "check":
+        return []
+    return [[str(place), ", ".join(part.fields[1:])] for place, part in enumerate(islice(answer.command.rows, PARTS))]
+
+
+def sentence_of_division(table: Table) -> str:
+    records = list(table.texts())
+    if not records:
+        return "No rows, so no parts."
+    parts, instant = int(records[-1][0]) + 1, records[-1][2]
+    return f"{len(records):,} rows in {parts:,} parts. There can't be fewer: {parts:,} rows hold at {instant}."
+
+
+def pairs_of(kept: Sequence[Answer]) -> Iterator[Tuple[Answer, Answer]]:
+    """Two answers to one question: as of a commit, and the newest of a later one without a suffix."""
+    now = {question_of(one): one for one in kept if one.command.as_of is None}
+    for answer in kept:
+        newest = now.get(question_of(answer))
+        if answer.command.as_of is not None and newest is not None and newest.commit > answer.commit:
+            yield answer, newest
+
+
+def question_of(answer: Answer) -> Tuple[Tuple[str, ...], ...]:
+    """Returns the question without its commit: the command, and the parts of a check."""
+    return (tuple(answer.command.front), *(tuple(record.fields) for record in answer.command.rows))
+
+
+def key_places(schema: Schema) -> List[int]:
+    """Returns the indices of the key's values in a version, where columns may have other names."""
+    return [VALUES + place for place in schema.key]

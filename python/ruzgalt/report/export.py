@@ -1,0 +1,234 @@
+"""Answers as CSV, for a spreadsheet too, as JSON, and as a table and a load of another script."""
+import csv
+import io
+import json
+import re
+from itertools import islice
+from pathlib import Path
+from typing import Any, Callable, Dict, Iterator, List, NamedTuple, Optional, Sequence, Tuple
+
+from ruzgalt import files
+from ruzgalt.errors import Misfit
+from ruzgalt.report.picks import Pick
+from ruzgalt.script.answers import Answer, Listed
+from ruzgalt.script.changes import IDS
+from ruzgalt.script.forms import NAME_HAS, is_integer, is_name
+from ruzgalt.script.reader import BYTE_ORDER_MARK, PIECE
+from ruzgalt.script.records import Printer, encode, is_seen, short, to_record, to_text, visible
+from ruzgalt.script.schemas import MOST_COLUMNS, PERIOD, Column, Kind, Schema, Table
+
+Pieces = Iterator[bytes]
+
+
+def to_csv(table: Table) -> Pieces:
+    """The table with a header, by pieces."""
+    yield encode(to_text([table.names]))
+    if isinstance(table.records, Listed) and table.records.has_lines:
+        yield from table.records.lines()
+        return
+    printer, texts = Printer(), table.texts()
+    piece = list(islice(texts, PIECE))
+    while piece:
+        yield encode(printer.text(piece))
+        piece = list(islice(texts, PIECE))
+
+
+def to_folder(picks: Sequence[Pick], folder: Path, is_replacing: bool, printed: Callable[[Table], Pieces]) -> None:
+    """Writes a file NAME.csv for each answer.
+
+    None is written if one of them exists and isn't replaced.
+    """
+    places = [folder / f"{pick.name}.csv" for pick in picks]
+    for pick, file in zip(picks, places):
+        if "/" in pick.name or pick.name.startswith(".") or not all(map(is_seen, pick.name)):
+            raise Misfit(f"{visible(pick.name)}: not a file's name")
+        if file.exists() and not is_replacing:
+            raise Misfit(f"{file} already exists, so no file was written: --replace replaces it")
+    folder.mkdir(parents=True, exist_ok=True)
+    with files.whole(places, is_replacing) as paths:
+        for pick, path in zip(picks, paths):
+            with path.open("wb") as written:
+                written.writelines(printed(pick.answer.table))
+
+
+def to_json(picks: Sequence[Pick]) -> str:
+    return json.dumps([as_object(pick) for pick in picks], indent=1, ensure_ascii=False) + "\n"
+
+
+def as_object(pick: Pick) -> Dict[str, Any]:
+    answer = pick.answer
+    names = answer.table.names
+    return {
+        "name": pick.name,
+        "number": answer.number,
+        "line": answer.line,
+        "record": answer.command.record.number,
+        "command": list(answer.command.record.fields),
+        "columns": [{"name": column.name, "kind": column.kind.value} for column in answer.table.columns],
+        "records": [dict(zip(names, values)) for values in answer.table.values()],
+    }
+
+
+def listing(answers: Sequence[Answer]) -> str:
+    """Returns a record for each answer: its number, line, record, result and command."""
+    header = ["number", "line", "record", "answer", "records", "command"]
+    return to_text([header, *map(listed, answers)])
+
+
+def listed(answer: Answer) -> List[str]:
+    command = answer.command
+    what, count = command.word, str(len(answer.table.records))
+    if answer.refusal:
+        what, count = answer.refusal.name, ""
+    elif answer.table.names == ["commit"]:
+        # A block makes no commit: it says which one its queries read.
+        is_block = command.word == "together"
+        what, count = f"{'together' if is_block else 'commit'} {answer.table.records[0][0]}", ""
+    elif command.word == "check":
+        what = " ".join(field for field in answer.table.records[0] if field is not None)
+    return [str(answer.number), str(command.line), str(command.record.number), what, count, command.text]
+
+
+FORMULA = re.compile("(?![+-]\\Z)(?:[=+@\t\r\n\uff1d\uff0b\uff0d\uff20]|-(?!\\d+(?:[.,]\\d+)?\\Z))", re.ASCII)
+# The bytes of records have one of these if a field may begin so: a rare sign, or a minus after the end of a field that
+# isn't a number's. In quotes a number may continue after its comma, so any minus counts.
+SIGNS = (b"=", b"+", b"@", b"\t", b"\r", b"\xef\xbc")
+MINUSES = (b",-", b'"-', b"\n-")
+MAY_RUN = re.compile(rb"[,\n](?:\"?(?:[=+@\t\r]|\xef\xbc[\x8b\x8d\x9d\xa0])|\"-|-(?!\d+[,\n]))")
+GUARD = "'"
+
+
+class Run(NamedTuple):
+    """How many fields of a table a spreadsheet would run, and the first of them."""
+
+    fields: int
+    first: str
+
+
+def run_in(table: Table) -> Optional[Run]:
+    """What a spreadsheet would run of a table. Numbers and points never begin so."""
+    places = text_places(table)
+    if not places or not may_run(table):
+        return None
+    texts = (record[place] or "" for record in table.records for place in places)
+    found = list(filter(FORMULA.match, texts))
+    return Run(len(found), found[0]) if found else None
+
+
+def may_run(table: Table) -> bool:
+    """Returns whether some field may be a formula, from the bytes if each record is a line of the answers."""
+    records = table.records
+    if not isinstance(records, Listed) or not records.has_lines:
+        return True
+    pieces = (b"\n" + piece for piece in records.lines())
+    return any(any(sign in piece for sign in (*SIGNS, *MINUSES)) and MAY_RUN.search(piece) for piece in pieces)
+
+
+def text_places(table: Table) -> List[int]:
+    return [place for place, column in enumerate(table.columns) if column.kind is Kind.TEXT]
+
+
+def to_spreadsheet(table: Table, is_german: bool) -> Iterator[bytes]:
+    """The table with a header, by pieces; with semicolons where it is for a German spreadsheet."""
+    yield BYTE_ORDER_MARK
+    places = text_places(table)
+    records = (guarded(record, places) for record in table.texts())
+    piece: List[Sequence[str]] = [table.names]
+    while piece:
+        yield encode(printed(piece, ";" if is_german else ","))
+        piece = list(islice(records, PIECE))
+
+
+def guarded(record: List[str], places: Sequence[int]) -> List[str]:
+    for place in places:
+        if FORMULA.match(record[place]):
+            record[place] = GUARD + record[place]
+    return record
+
+
+def printed(records: Sequence[Sequence[str]], mark: str) -> str:
+    text = io.StringIO()
+    csv.writer(text, delimiter=mark, lineterminator="\r\n").writerows(records)
+    return text.getvalue()
+
+
+class Wish(NamedTuple):
+    """The table's name; the columns that it has, each with its name there; its key; whether it has ids."""
+
+    table: str
+    columns: Sequence[Tuple[str, str]] = ()
+    key: Sequence[str] = ()
+    has_ids: bool = False
+
+
+def pieces(answer: Answer, wish: Wish) -> Iterator[bytes]:
+    """The records of the table and of its load, in the order of the answer's."""
+    places, schema = schema_of(answer, wish)
+    start = answer.table.index_of(PERIOD[0].name)
+    numbers = [place for place, column in zip(places, schema.columns) if column.kind is Kind.INT]
+    yield encode(f"{to_record(schema.fields)}\nload,{schema.name}\n")
+    printer, records = Printer(), answer.table.texts()
+    piece = list(islice(records, PIECE))
+    while piece:
+        refuse_long_numbers(answer, piece, numbers)
+        rows = (["row", *record[start:start + 2], *(record[place] for place in places)] for record in piece)
+        yield encode(printer.text(rows))
+        piece = list(islice(records, PIECE))
+    yield b"end\n"
+
+
+def schema_of(answer: Answer, wish: Wish) -> Tuple[List[int], Schema]:
+    """Returns the indices of the columns that are taken, and the table that they make."""
+    refuse_others(answer)
+    if not is_name(wish.table):
+        raise Misfit(f"--table {visible(wish.table)}: not a table's name, which has {NAME_HAS}")
+    named = wish.columns or [(name, name) for name in own_names(answer, wish.has_ids)]
+    places = [answer.table.index_of(name) for name, _ in named]
+    names = [name for _, name in named]
+    refuse_names(names)
+    for name in wish.key:
+        if name not in names:
+            raise Misfit(f"--key {short(name)}: not one of the table's columns {', '.join(names)}")
+        if wish.key.count(name) > 1:
+            raise Misfit(f"--key {name}: given twice")
+    columns = (Column(name, kind_of(answer, place)) for name, place in zip(names, places))
+    return places, Schema(wish.table, tuple(columns), tuple(map(names.index, wish.key)))
+
+
+def refuse_others(answer: Answer) -> None:
+    """Refuses an answer whose records have no period, or are of several commits."""
+    if answer.command.form.answered not in IDS:
+        which = f"{answer.where}: {short(answer.command.text)}"
+        raise Misfit(f"{which}: its records aren't rows of one commit: ask by `rows`, `at`, `join`, `anti` or `agg`")
+
+
+def own_names(answer: Answer, has_ids: bool) -> List[str]:
+    """Returns the columns besides the period, without the script's ids."""
+    left_out = {column.name for column in PERIOD} | set(() if has_ids else IDS[answer.command.form.answered])
+    return [name for name in answer.table.names if name not in left_out]
+
+
+def refuse_names(names: Sequence[str]) -> None:
+    """Refuses names that a table's columns can't have."""
+    for name in names:
+        if not is_name(name):
+            why = f"not a column's name, which has {NAME_HAS}"
+            raise Misfit(f"{visible(name)}: {why}; --column {visible(name)}=NAME renames it")
+        if names.count(name) > 1:
+            raise Misfit(f"{name} would be the name of two columns: --column COLUMN=NAME renames one")
+    if len(names) > MOST_COLUMNS:
+        raise Misfit(f"{len(names)} columns, but a table has {MOST_COLUMNS} at most: choose some by --column")
+
+
+def kind_of(answer: Answer, place: int) -> Kind:
+    """A column's kind in a table: a point is a text there."""
+    return Kind.INT if answer.table.columns[place].kind is Kind.INT else Kind.TEXT
+
+
+def refuse_long_numbers(answer: Answer, records: Sequence[Sequence[str]], places: Sequence[int]) -> None:
+    """Refuses a sum that no column of a table can have."""
+    for record in records:
+        for place in places:
+            if not is_integer(record[place]):
+                what = f"{answer.table.names[place]} is {record[place]}, which has more than 64 bits"
+                raise Misfit(f"{short(to_record(record))}: {what}, too many for a table")

@@ -1,0 +1,519 @@
+"""What a picture shows of an answer: bars in lanes, or steps, over an axis of time."""
+import re
+import unicodedata
+from bisect import bisect_left
+from collections import defaultdict
+from dataclasses import dataclass, field, replace
+from datetime import datetime
+from itertools import accumulate
+from typing import Callable, Dict, Iterable, List, Optional, Sequence, Tuple, Union
+
+from ruzgalt.errors import Misfit
+from ruzgalt.report.shown import Amounts
+from ruzgalt.script import schemas
+from ruzgalt.script.answers import Answer
+from ruzgalt.script.forms import POINTS, at_second, printed, read_point, seconds
+from ruzgalt.script.language import Answered
+from ruzgalt.script.records import code_of, short, visible
+from ruzgalt.script.run import Versions
+from ruzgalt.script.schemas import PERIOD, Kind, Table, group_of, ints, listed, unique
+
+DAY = 86_400
+# A row that ends in the last year, or starts on the first day that there is, has no end, or no start, that is known.
+LAST_YEAR = seconds("9999-01-01")
+STEPS = [
+    1, 2, 5, 10, 15, 30, 60, 120, 300, 600, 900, 1_800, 3_600, 7_200, 10_800, 21_600, 43_200,
+    DAY, 2 * DAY, 7 * DAY, 14 * DAY,
+]
+MONTHS = [1, 2, 3, 6, 12, 24, 60, 120, 240, 600, 1_200, 6_000, 12_000, 60_000, 120_000]
+
+
+@dataclass(frozen=True)
+class Span:
+    """The seconds that are shown, from the first on and before the second."""
+
+    start: int
+    end: int
+
+    def place(self, second: int, width: int) -> int:
+        """Returns the position of a second within `width`; the edge for one that isn't shown."""
+        inside = min(max(second, self.start), self.end)
+        return (inside - self.start) * width // (self.end - self.start)
+
+    def shows(self, start: int, end: int) -> bool:
+        return start < self.end and self.start < end
+
+
+def is_open(second: int) -> bool:
+    return second >= LAST_YEAR or second == 0
+
+
+def span_of(periods: Iterable[Tuple[int, int]], start: Optional[int] = None, end: Optional[int] = None) -> Span:
+    """The time from the first to the last known point, and somewhat more on a side that is open, or as it is given."""
+    points = [point for period in periods for point in period]
+    known = [point for point in points if not is_open(point)] or points or [0]
+    first = min(known) if start is None else start
+    last = max(known) if end is None else end
+    more = max(last - first, 0) // 6 or DAY
+    if start is None and (0 in points or last <= first):
+        first = max(min(first, last) - more, 0)
+    if end is None and (last <= first or any(point >= LAST_YEAR for point in points)):
+        last = min(max(first, last) + more, seconds("9999-12-31T23:59:59"))
+    return Span(first, max(last, first + 1))
+
+
+def ticks(span: Span, most: int) -> List[Tuple[int, str]]:
+    """Returns at most `most` points at equal steps with their texts. The first text has a date."""
+    length = span.end - span.start
+    for step in STEPS:
+        if length // step <= most:
+            first = -(-span.start // step) * step
+            return [(second, text_of(second, step, second == first)) for second in range(first, span.end + 1, step)]
+    months = next((step for step in MONTHS if length // (30 * DAY * step) <= most), MONTHS[-1])
+    return list(month_ticks(span, months))
+
+
+def month_ticks(span: Span, step: int) -> Iterable[Tuple[int, str]]:
+    first = at_second(span.start)
+    month = (first.year * 12 + first.month - 1) // step * step
+    while month < 12 * 10_000:
+        if month >= 12:
+            second = seconds(datetime(month // 12, month % 12 + 1, 1).isoformat())
+            if second > span.end:
+                return
+            if second >= span.start:
+                yield second, f"{month // 12:04}" + ("" if step % 12 == 0 else f"-{month % 12 + 1:02}")
+        month += step
+
+
+def text_of(second: int, step: int, is_first: bool) -> str:
+    """The time of day, and at a midnight the date; at the first point both."""
+    text = at_second(second).isoformat()
+    if second % DAY == 0:
+        return text[:10]
+    return text[0 if is_first else 11:19 if step < 60 else 16]
+
+
+NUMBER = re.compile(r"-?\d[\d.,]*", re.ASCII)
+
+
+def cell_width(character: str) -> int:
+    """Returns the width of a character, in letters of ASCII."""
+    if unicodedata.combining(character) or not character.isprintable():
+        return 0
+    return 2 if unicodedata.east_asian_width(character) in "WF" else 1
+
+
+def in_line(text: str) -> str:
+    """Returns the text with codes for characters without ink, such as a line end, so that no two texts look alike."""
+    return "".join(one if one.isprintable() else code_of(one) for one in text)
+
+
+def width_of(text: str) -> int:
+    return sum(map(cell_width, text))
+
+
+def beginning(text: str, width: int) -> str:
+    """Returns the longest beginning of the text that has at most this width."""
+    widths = accumulate(map(cell_width, text))
+    return text[:sum(one <= width for one in widths)]
+
+
+def shortened(text: str, width: int, gap: str) -> str:
+    """Returns the text, or its beginning, the gap and its end, since many names differ only at their ends."""
+    if width_of(text) <= width:
+        return text
+    front = (width - len(gap)) // 2
+    end = text[max(len(text) - width, 0):]
+    while end and width_of(end) > width - len(gap) - front:
+        end = end[1:]
+    return f"{beginning(text, front)}{gap}{end}"
+
+
+def front_of(text: str, width: int, gap: str) -> str:
+    """Returns the text, or its beginning and the gap; nothing of a number, since its beginning is another one."""
+    if width_of(text) <= width:
+        return text
+    is_cut = width > len(gap) + 2 and not NUMBER.fullmatch(text)
+    return beginning(text, width - len(gap)) + gap if is_cut else ""
+
+
+@dataclass(frozen=True)
+class Bar:
+    """A period in a lane, or in several below each other. Bars of one shade are alike."""
+
+    lane: int
+    start: int
+    end: int
+    label: str
+    record: str
+    shade: int = 0
+    lanes: int = 1
+
+
+@dataclass(frozen=True)
+class Bars:
+    """Lanes of bars that don't overlap. A lane without a name belongs to the one above."""
+
+    title: str
+    span: Span
+    lanes: List[str]
+    bars: List[Bar]
+    instant: Optional[str] = None
+
+    @property
+    def shown(self) -> List[Bar]:
+        return [bar for bar in self.bars if self.span.shows(bar.start, bar.end)]
+
+    def name_of(self, lane: int) -> str:
+        """The name that a lane has, or the one above it to which it belongs."""
+        return next((name for name in reversed(self.lanes[:lane + 1]) if name), "")
+
+
+# A period and the value in it.
+Step = Tuple[int, int, int]
+
+
+@dataclass(frozen=True)
+class Steps:
+    """A value over time: periods, by their start, with the value in each."""
+
+    title: str
+    span: Span
+    steps: List[Step]
+    name: str
+    amounts: Amounts = field(default_factory=Amounts)
+
+    @property
+    def values(self) -> List[int]:
+        return [value for _, _, value in self.steps]
+
+    def printed(self, value: int) -> str:
+        return self.amounts.parted(value, self.amounts.of(self.name) or 0)
+
+    def scale(self, levels: Sequence[int]) -> List[str]:
+        """The texts of these levels."""
+        return list(self.amounts.levels(self.name, levels))
+
+
+@dataclass(frozen=True)
+class Groups:
+    """Steps of several groups below each other, on one scale, each with the group's name."""
+
+    title: str
+    groups: List[Tuple[str, Steps]]
+
+    @property
+    def span(self) -> Span:
+        return self.groups[0][1].span
+
+    @property
+    def values(self) -> List[int]:
+        return [value for _, steps in self.groups for value in steps.values]
+
+
+Picture = Union[Bars, Steps, Groups]
+# Shown instead of an empty picture.
+NOTHING = "nothing to draw: no chosen record holds in the time that is shown"
+
+
+def is_empty(picture: Picture) -> bool:
+    if isinstance(picture, Bars):
+        return not picture.bars
+    return not (picture.groups if isinstance(picture, Groups) else picture.steps)
+
+
+def counted(count: int, what: str) -> str:
+    return f"{count:,} {what}" + ("" if count == 1 else "s")
+
+
+Record = Dict[str, str]
+
+
+@dataclass(frozen=True)
+class Wish:
+    """The columns of lanes and labels, the rows and the time that are shown, numbers' forms, the script's name."""
+
+    by: Optional[str] = None
+    label: Optional[str] = None
+    where: schemas.Where = ()
+    start: Optional[str] = None
+    end: Optional[str] = None
+    amounts: Amounts = field(default_factory=Amounts)
+    script: str = ""
+
+    def limits(self) -> Tuple[Optional[int], Optional[int]]:
+        """The seconds of the first point that is shown, and of the end."""
+        for point in (self.start, self.end):
+            if point is not None and read_point(point) is None:
+                raise Misfit(f"{point}: not a date or time, such as {POINTS}")
+        start, end = (None if point is None else seconds(point) for point in (self.start, self.end))
+        if start is not None and end is not None and end <= start:
+            raise Misfit(f"{self.start} isn't before {self.end}")
+        return start, end
+
+    def span(self, periods: Iterable[Tuple[int, int]]) -> Span:
+        return span_of(periods, *self.limits())
+
+    def title(self, answer: Answer, shown: str) -> str:
+        """Returns the title: script, command, content, selected records, and decimals of numbers."""
+        script = f"{self.script}: " if self.script else ""
+        where = " and ".join(f"{name} is {visible(value) or 'empty'}" for name, value in self.where)
+        title = f"{script}{' '.join(answer.command.text.split())}: {shown}" + (f", where {where}" if where else "")
+        return title + "".join(f"; {name} with {digits} decimals" for name, digits in self.amounts.digits if digits)
+
+    def wants(self, record: Record) -> bool:
+        start, end = printed(self.start or ""), printed(self.end or "")
+        is_shown = start < record["valid_to"] and (not end or record["valid_from"] < end)
+        return is_shown and all(record[name] == value for name, value in self.where)
+
+    def wanted(self, table: Table) -> List[Record]:
+        """Returns the selected records, as fields by their names."""
+        schemas.wanted_in(table, self.where)
+        records = (dict(zip(table.names, record)) for record in table.texts())
+        return [record for record in records if self.wants(record)]
+
+    def labelled(self, table: Table, record: Record, names: Sequence[str]) -> str:
+        """Returns the record's values in these columns, numbers with their decimals."""
+        missing = [name for name in names if name not in record]
+        if missing:
+            raise Misfit(f"column {missing[0]} doesn't exist; {listed(list(record))}")
+        numbers = [column.name for column in table.columns if column.kind is Kind.INT]
+        texts = (self.amounts.printed(name, record[name]) if name in numbers else record[name] for name in names)
+        return " ".join(map(in_line, texts))
+
+
+def bar_of(record: Record, lane: int, label: str) -> Bar:
+    return Bar(lane, seconds(record["valid_from"]), seconds(record["valid_to"]), label, fields_of(record))
+
+
+def fields_of(record: Record) -> str:
+    """The record as the answer has it."""
+    return ", ".join(f"{name}: {in_line(value)}" for name, value in record.items() if value)
+
+
+def square(answer: Answer, wish: Wish) -> Bars:
+    """Returns bars of versions, each over its period, from the commit that made it to the one that closed it."""
+    word, _, low, high = answer.command.front
+    records = wish.wanted(answer.table)
+    # Past the newest commit what that one shows counts as shown.
+    first = max(int(low), 1)
+    last = max(min(int(high) - (word == "fromto"), answer.commits), first)
+    events = {int(record[name]) for record in records for name in ("sys_from", "sys_to") if record[name]}
+    commits = sorted({first, *(commit for commit in events if first < commit <= last)})
+    labels = labels_of(answer, records, wish)
+    bars = []
+    for record, label in zip(records, labels):
+        made, until = int(record["sys_from"]), int(record["sys_to"] or last + 1)
+        lane, end = bisect_left(commits, made), bisect_left(commits, until)
+        if lane < end:
+            bars.append(replace(bar_of(record, lane, label), lanes=end - lane))
+    refuse_overlaps(answer, bars)
+    lanes = [commit_lane(commit, after) for commit, after in zip(commits, [*commits[1:], last + 1])]
+    if first > answer.commits:
+        lanes = [f"past commit {answer.commits}"]
+    title = wish.title(answer, f"{counted(len(bars), 'version')}, time across and commits down")
+    return Bars(title, wish.span((bar.start, bar.end) for bar in bars), lanes, shaded(bars))
+
+
+def commit_lane(commit: int, after: int) -> str:
+    return f"commit {commit}" if after <= commit + 1 else f"commits {commit}-{after - 1}"
+
+
+def labels_of(answer: Answer, records: List[Record], wish: Wish) -> List[str]:
+    """Returns labels with the values that changed from version to version, or the changed ends, or all values."""
+    if wish.label:
+        return [wish.labelled(answer.table, record, [wish.label]) for record in records]
+    columns = answer.table.names[5:]
+    values = differing(records, columns)
+    ends = [] if values else differing(records, ["valid_from", "valid_to"])
+    if ends:
+        return [" ".join(f"{WORDS[name]} {record[name]}" for name in ends) for record in records]
+    return [wish.labelled(answer.table, record, values or columns or ["valid_from"]) for record in records]
+
+
+WORDS = {"valid_from": "from", "valid_to": "to"}
+
+
+def differing(records: List[Record], names: Sequence[str]) -> List[str]:
+    return [name for name in names if len({record[name] for record in records}) > 1]
+
+
+def shaded(bars: List[Bar]) -> List[Bar]:
+    """Returns the bars, all of one label in one shade."""
+    shades = {label: shade for shade, label in enumerate(dict.fromkeys(bar.label for bar in bars))}
+    return [replace(bar, shade=shades[bar.label]) for bar in bars]
+
+
+def refuse_overlaps(answer: Answer, bars: List[Bar]) -> None:
+    """Refuses versions that hold at one time and one commit: they are several facts."""
+    numbers = range(len(bars))
+    leaving = sorted(numbers, key=lambda number: -(bars[number].lane + bars[number].lanes))
+    # The bars of a lane, by start. None overlaps another one.
+    inside: List[Tuple[int, int]] = []
+    for number in sorted(numbers, key=lambda number: bars[number].lane):
+        bar = bars[number]
+        while bars[leaving[-1]].lane + bars[leaving[-1]].lanes <= bar.lane:
+            inside.remove((bars[leaving[-1]].start, leaving.pop()))
+        index = bisect_left(inside, (bar.start, number))
+        for _, other in inside[max(index - 1, 0):index + 1]:
+            if bars[other].start < bar.end and bar.start < bars[other].end:
+                both = " and ".join(short(bars[one].record) for one in sorted((number, other)))
+                raise Misfit(f"{answer.where}: {both} hold at the same time: choose one fact by --where")
+        inside.insert(index, (bar.start, number))
+
+
+__all__ = ["NOTHING", "Bar", "Bars", "Groups", "Picture", "Steps", "Wish", "is_drawn", "of"]
+
+# Returns the versions of a table of this name.
+VersionsOf = Callable[[str], Versions]
+DRAWN = (Answered.DIVISION, Answered.ROWS, Answered.PAIRS, Answered.STEPS, Answered.VERSIONS)
+
+
+def of(answer: Answer, wish: Wish, versions: VersionsOf) -> Picture:
+    """Returns the picture of an answer, or raises Misfit. Versions are read for a division."""
+    wish.limits()
+    refuse_unused(answer, wish)
+    answered = answer.command.form.answered
+    if answered is Answered.DIVISION:
+        return division(answer, wish, versions)
+    if not is_drawn(answer):
+        drawn = "a division, rows, a join, an aggregate or versions"
+        raise Misfit(f"{answer.where}: {short(answer.command.text)}: no picture can be drawn of it, only of {drawn}")
+    wish.amounts.refuse_strangers(answer.table)
+    if answered is Answered.VERSIONS:
+        return square(answer, wish)
+    if is_of_steps(answer):
+        return steps(answer, wish)
+    return groups(answer, wish) if is_of_groups(answer, wish) else by_value(answer, wish)
+
+
+def is_drawn(answer: Answer) -> bool:
+    """Whether there are pictures of such answers."""
+    return answer.command.form.answered in DRAWN
+
+
+def is_of_steps(answer: Answer) -> bool:
+    return answer.command.form.answered is Answered.STEPS and group_of(answer.command.front) is None
+
+
+def is_of_groups(answer: Answer, wish: Wish) -> bool:
+    """Whether it is a sum for each value of a column. Bars are drawn of it where their lanes or labels are given."""
+    is_sum = answer.command.form.answered is Answered.STEPS and answer.command.front[2] == "sum"
+    return is_sum and not (wish.by or wish.label)
+
+
+def refuse_unused(answer: Answer, wish: Wish) -> None:
+    """What a picture doesn't use would be taken for used."""
+    unused = ["by"] if answer.command.form.answered in (Answered.DIVISION, Answered.VERSIONS) else []
+    if is_of_steps(answer):
+        unused = ["by", "label", "where"]
+    for word in unused:
+        if getattr(wish, word):
+            raise Misfit(f"{answer.where}: {short(answer.command.text)}: its picture can't be drawn with --{word}")
+
+
+def division(answer: Answer, wish: Wish, versions: VersionsOf) -> Bars:
+    """A lane for each part, with the periods of its rows; and the instant."""
+    rows = {str(row.row_id): row for row in versions(answer.command.front[1]).at(answer.commit)}
+    table = Table(unique([*ints("row_id"), *PERIOD, *answer.schema.columns]))
+    schemas.wanted_in(table, wish.where)
+    wish.amounts.refuse_strangers(table)
+    parts, records, instant = [], [], "-"
+    for part, row_id, instant in answer.table.texts():
+        row = rows[row_id]
+        parts.append(int(part))
+        records.append(dict(zip(table.names, [row_id, row.start, row.end, *row.values])))
+    kept = [(part, record) for part, record in zip(parts, records) if wish.wants(record)]
+    labels = [wish.label or "row_id"]
+    bars = [bar_of(record, part, wish.labelled(table, record, labels)) for part, record in kept]
+    lanes = [f"part {part}" for part in range(max(parts, default=-1) + 1)]
+    count = counted(len(records), "row") if len(kept) == len(records) else f"{len(kept):,} of {len(records):,} rows"
+    title = wish.title(answer, f"{count} in {counted(len(lanes), 'part')}, {instant}")
+    return Bars(title, span_for(bars, wish), lanes, bars, instant if read_point(instant) else None)
+
+
+def by_value(answer: Answer, wish: Wish) -> Bars:
+    """A lane for each value of a column; where rows of one value overlap, lanes below each other."""
+    table = answer.table
+    columns = [column for column in table.columns if column.kind is not Kind.POINT]
+    ids = {Answered.PAIRS: 2, Answered.STEPS: 0}.get(answer.command.form.answered, 1)
+    values = [column.name for column in columns[ids:]]
+    by = wish.by or next(iter(values), None)
+    if by is not None:
+        table.index_of(by)
+    labels = [wish.label] if wish.label else (
+        [name for name in values if name != by] or [column.name for column in columns[:ids]]
+    )
+    bars: List[Bar] = []
+    lanes: List[str] = []
+    for value, records in lanes_of(table, by, wish):
+        below = stacked(bar_of(record, 0, label_of(answer, record, labels, wish)) for record in records)
+        bars.extend(replace(bar, lane=len(lanes) + bar.lane) for bar in below)
+        lanes.extend([in_line(value) or "-", *[""] * max(bar.lane for bar in below)])
+    title = wish.title(answer, counted(len(bars), "record") + (f" by {by}" if by else ""))
+    return Bars(title, span_for(bars, wish), lanes, shaded(bars))
+
+
+def lanes_of(table: Table, by: Optional[str], wish: Wish) -> Iterable[Tuple[str, List[Record]]]:
+    """Yields the records of each value of the column, numbers by size."""
+    by_lane: Dict[str, List[Record]] = defaultdict(list)
+    for record in wish.wanted(table):
+        by_lane[record[by] if by else ""].append(record)
+    is_int = by is not None and table.columns[table.index_of(by)].kind is Kind.INT
+    for value in sorted(by_lane, key=int) if is_int else sorted(by_lane):
+        yield wish.amounts.printed(by or "", value) if is_int else value, by_lane[value]
+
+
+def label_of(answer: Answer, record: Record, names: Sequence[str], wish: Wish) -> str:
+    """Returns the values of these columns. An aggregate's value has its thousands parted."""
+    value = answer.table.names[-1]
+    if answer.command.form.answered is Answered.STEPS and list(names) == [value]:
+        return wish.amounts.parted(int(record[value]), wish.amounts.of(value) or 0)
+    return wish.labelled(answer.table, record, names)
+
+
+def stacked(bars: Iterable[Bar]) -> List[Bar]:
+    """Returns the bars, each in the first lane where it overlaps no earlier one."""
+    ends: List[int] = []
+    placed = []
+    for bar in sorted(bars, key=lambda bar: bar.start):
+        lane = next((lane for lane, end in enumerate(ends) if end <= bar.start), len(ends))
+        ends[lane:lane + 1] = [bar.end]
+        placed.append(replace(bar, lane=lane))
+    return placed
+
+
+def steps(answer: Answer, wish: Wish) -> Steps:
+    found = [step_of(record) for record in answer.table.texts()]
+    span = wish.span((start, end) for start, end, _ in found)
+    shown = [step for step in found if span.shows(*step[:2])]
+    title = wish.title(answer, counted(len(shown), "period"))
+    return Steps(title, span, shown, answer.table.names[-1], wish.amounts)
+
+
+def groups(answer: Answer, wish: Wish) -> Groups:
+    """Returns the steps of each group."""
+    table = answer.table
+    column = table.columns[0]
+    by_value: Dict[str, List[Step]] = defaultdict(list)
+    for record in wish.wanted(table):
+        by_value[record[column.name]].append(step_of(list(record.values())[1:]))
+    span = wish.span(step[:2] for found in by_value.values() for step in found)
+    values = sorted(by_value, key=int) if column.kind is Kind.INT else sorted(by_value)
+    count = sum(map(len, by_value.values()))
+    title = wish.title(answer, f"{counted(count, 'period')} by {column.name}")
+    names = [wish.amounts.printed(column.name, value) if column.kind is Kind.INT else value for value in values]
+    return Groups(title, [
+        (in_line(name) or "-", Steps(title, span, by_value[value], table.names[-1], wish.amounts))
+        for name, value in zip(names, values)
+    ])
+
+
+def step_of(fields: Sequence[str]) -> Step:
+    start, end, value = fields
+    return seconds(start), seconds(end), int(value)
+
+
+def span_for(bars: Sequence[Bar], wish: Wish) -> Span:
+    return wish.span((bar.start, bar.end) for bar in bars)

@@ -1,0 +1,481 @@
+"""Draws pictures as SVG, which a browser shows. Each bar shows its record if the pointer rests on it."""
+import textwrap
+from collections import Counter
+from dataclasses import dataclass, replace
+from html import escape
+from itertools import groupby
+from typing import Dict, Iterable, Iterator, List, NamedTuple, Optional, Sequence, Tuple, Union
+
+from ruzgalt.report.figures import (
+    NOTHING, Bar, Bars, Groups, Picture, Span, Step, Steps, counted, front_of, is_empty, shortened, ticks, width_of,
+)
+from ruzgalt.script.forms import at_second, print_point, seconds
+
+# Pixels: of a letter, the edge, a line of the title or of a note, and the areas above and below the frame.
+LETTER, EDGE, LINE, ABOVE, BELOW = 7.0, 12, 16, 66, 30
+# The least width of a picture, and its greatest width and height without options.
+NARROW, WIDE, TALL = 760, 1_600, 4_000
+# The length of a bar's point, and the lines that are kept for notes.
+TIP, KEPT = 6, 8
+GREY, RED = "#555", "#c00"
+
+
+@dataclass(frozen=True)
+class Frame:
+    """The area of the time that is shown: from `left` on, `across` pixels wide, between top and bottom."""
+
+    span: Span
+    left: int
+    across: int
+    top: int
+    bottom: int
+
+    @property
+    def right(self) -> int:
+        return self.left + self.across
+
+    def place(self, second: int) -> int:
+        """Returns the pixel of a second; the edge for one that isn't shown."""
+        return self.left + self.span.place(second, self.across)
+
+
+def across_for(width: Optional[int], margin: int, wanted: int) -> int:
+    """How wide the frame is: as it is given, or as wanted, within bounds."""
+    if width:
+        return max(width - margin - EDGE, 100)
+    return min(max(wanted, NARROW), WIDE - margin - EDGE)
+
+
+def margin_for(names: Iterable[str]) -> int:
+    """The room for names at the left, of 28 letters at most."""
+    return max(int(min(max(map(width_of, names), default=0), 28) * LETTER) + 2 * EDGE, 44)
+
+
+def letters_in(width: float) -> int:
+    return max(int(width / LETTER), 0)
+
+
+def wrapped(words: str, width: int) -> List[str]:
+    """The text in lines that have room."""
+    wide = max(width_of(words) / max(len(words), 1), 1)
+    return textwrap.wrap(words, max(int(letters_in(width - 2 * EDGE) / wide), 8), break_on_hyphens=False) or [""]
+
+
+def top_of(title: str, width: int) -> int:
+    """Where the frame begins below the title."""
+    return ABOVE + (len(wrapped(title, width)) - 1) * LINE
+
+
+def axis(frame: Frame) -> Iterator[str]:
+    """Ticks through the whole frame, with their texts above and below, since a drawing may be long."""
+    taken = 0.0
+    for second, label in ticks(frame.span, max(frame.across // 90, 1)):
+        place = frame.place(second)
+        yield line(place, frame.top - 4, place, frame.bottom + 4, "#ccc")
+        is_long = len(label) > 10
+        left = place if is_long else place - 40
+        if left >= taken and place + (len(label) * LETTER if is_long else 40) <= frame.right + EDGE:
+            taken = left + len(label) * LETTER
+            for top in (frame.bottom + 18, frame.top - 26):
+                yield text(place, top, label, "start" if is_long else "middle", GREY)
+    yield line(frame.left, frame.bottom, frame.right, frame.bottom, GREY)
+
+
+def side_of(place: float, frame: Frame) -> str:
+    """Returns the side of a point's text that keeps it inside."""
+    return "start" if place < frame.left + frame.across // 2 else "end"
+
+
+def line(left: float, top: float, right: float, bottom: float, colour: str, width: int = 1) -> str:
+    return f'<line x1="{left}" y1="{top}" x2="{right}" y2="{bottom}" stroke="{colour}" stroke-width="{width}"/>'
+
+
+def text(left: float, top: float, words: str, anchor: str = "start", colour: str = "#000") -> str:
+    return f'<text x="{left}" y="{top}" text-anchor="{anchor}" fill="{colour}">{clean(words)}</text>'
+
+
+def box(left: float, top: float, width: float, height: float, colour: str, title: str, edge: str = "none") -> str:
+    corner = f'x="{left}" y="{top}" width="{width}" height="{height}"'
+    return f'<rect {corner} fill="{colour}" stroke="{edge}"><title>{clean(title)}</title></rect>'
+
+
+def shape(points: Sequence[Sequence[float]], colour: str, title: str, edge: str = "none") -> str:
+    """A box of other corners."""
+    corners = " ".join(f"{left},{top}" for left, top in points)
+    return f'<polygon points="{corners}" fill="{colour}" stroke="{edge}"><title>{clean(title)}</title></polygon>'
+
+
+def clean(words: str) -> str:
+    """The words for XML, without characters that it can't have."""
+    return escape("".join(one if one.isprintable() else "\ufffd" for one in words))
+
+
+def document(width: int, bottom: int, title: str, parts: Iterable[str], notes: Sequence[str] = ()) -> str:
+    """Returns the document: the title, the drawing down to `bottom`, and the notes below."""
+    lines = [one for note in notes for one in wrapped(note, width)]
+    height = bottom + len(lines) * LINE
+    head = (
+        f'<svg xmlns="http://www.w3.org/2000/svg" width="{width}" height="{height}" viewBox="0 0 {width} {height}"'
+        f' style="max-width: 100%" role="img" aria-label="{clean(title)}"'
+        ' font-family="Helvetica, Arial, sans-serif" font-size="12">'
+    )
+    back = f'<rect width="{width}" height="{height}" fill="#fff"/>'
+    heads = [text(EDGE, 18 + place * LINE, one) for place, one in enumerate(wrapped(title, width))]
+    feet = [text(EDGE, bottom + 8 + place * LINE, one, "start", GREY) for place, one in enumerate(lines)]
+    return "\n".join([head, back, *heads, *parts, *feet, "</svg>"]) + "\n"
+
+
+# Light enough for black letters, and seen apart by readers who see few colours.
+COLOURS = ["#9ecae1", "#fdd0a2", "#c7e9c0", "#dadaeb", "#fee391", "#d9d9d9", "#fcbba1", "#ccece6"]
+# The angles of stripes, by which bars of one colour differ, also on paper without colours.
+TURNS = [45, -45]
+MOST = len(COLOURS) * (1 + len(TURNS))
+NOTE = f"No colours: more than {MOST} labels differ."
+
+
+def count_of(bars: Sequence[Bar]) -> int:
+    return 1 + max((bar.shade for bar in bars), default=0)
+
+
+def fill_of(shade: int, count: int) -> str:
+    """Returns the fill of a shade, out of `count`."""
+    if count > MOST:
+        return "#fff"
+    return COLOURS[shade] if shade < len(COLOURS) else f"url(#stripes{shade})"
+
+
+def stripes(count: int) -> Iterator[str]:
+    """Yields the definitions of stripes for `count` shades."""
+    for shade in range(len(COLOURS), count if count <= MOST else 0):
+        turn, colour = divmod(shade - len(COLOURS), len(COLOURS))
+        form = f'width="9" height="9" patternUnits="userSpaceOnUse" patternTransform="rotate({TURNS[turn]})"'
+        parts = f'<rect width="9" height="9" fill="{COLOURS[colour]}"/><rect width="3" height="9" fill="#fff"/>'
+        yield f'<defs><pattern id="stripes{shade}" {form}>{parts}</pattern></defs>'
+
+
+# Pixels between an edge and a letter, twice.
+ROOM = 6
+# So many lines the list has at most.
+LISTED = 40
+
+
+class Unplaced(NamedTuple):
+    """A label that has no room: its lane, its words, and the period."""
+
+    lane: str
+    words: str
+    start: int
+    end: int
+
+
+class Box(NamedTuple):
+    """A bar, and where it is drawn."""
+
+    bar: Bar
+    left: int
+    right: int
+    top: int
+    height: int
+
+    @property
+    def lanes(self) -> range:
+        return range(self.bar.lane, self.bar.lane + self.bar.lanes)
+
+
+def put(boxes: Sequence[Box], frame: Frame) -> Tuple[List[str], List[Box]]:
+    """Returns the labels' texts, and the boxes whose labels don't fit."""
+    boxes = sorted(boxes, key=lambda box: (box.left, box.right))
+    behind = starts_behind(boxes, frame)
+    taken: Dict[int, float] = {}
+    texts, without = [], []
+    for box, until in zip(boxes, behind):
+        before = max(taken.get(lane, frame.left) for lane in box.lanes)
+        words, left, right = place_of(box, before, until)
+        taken.update({lane: max(right, box.right) for lane in box.lanes})
+        if words:
+            texts.append(text(left, box.top + box.height // 2 + 4, words))
+        elif box.bar.label:
+            without.append(box)
+    return texts, without
+
+
+def starts_behind(boxes: Sequence[Box], frame: Frame) -> List[int]:
+    """For each box where the next one of its lanes begins, or the frame ends."""
+    next_in: Dict[int, int] = {}
+    found = []
+    for box in reversed(boxes):
+        found.append(min(next_in.get(lane, frame.right) for lane in box.lanes))
+        next_in.update({lane: box.left for lane in box.lanes})
+    return found[::-1]
+
+
+def place_of(box: Box, before: float, until: int) -> Tuple[str, float, float]:
+    """Returns the label, or its beginning, with its left and right end, between its neighbours."""
+    label, width = box.bar.label, width_of(box.bar.label) * LETTER
+    if width <= box.right - box.left - ROOM:
+        return label, box.left + ROOM // 2 + 1, box.right
+    if width <= until - box.right - ROOM:
+        return label, box.right + ROOM // 2, box.right + ROOM // 2 + width
+    if width <= box.left - before - ROOM:
+        return label, box.left - ROOM // 2 - width, box.right
+    return front_of(label, letters_in(box.right - box.left - ROOM), "\u2026"), box.left + ROOM // 2 + 1, box.right
+
+
+def listed(given: Iterable[Unplaced], width: int, room: int) -> Iterator[str]:
+    """Yields the labels that don't fit, lane by lane, in a limited number of lines."""
+    labels = list(given)
+    left = min(room, LISTED) - 2
+    noted = 0
+    for name, of_lane in groupby(labels, key=lambda label: label.lane):
+        within = list(of_lane)
+        note = (f"{name}: " if name else "") + "; ".join(f"{one.words} {points(one)}" for one in within)
+        note = note if noted else f"Labels that don't fit: {note}"
+        left -= len(wrapped(note, width))
+        if left < 0:
+            rest = counted(len(labels) - noted, "label")
+            yield f"{f'And {rest} more' if noted else rest} without room: --from and --to, or --width PIXELS, give it."
+            return
+        noted += len(within)
+        yield note
+
+
+def points(label: Unplaced) -> str:
+    return " to ".join(print_point(at_second(second)) for second in (label.start, label.end))
+
+
+class Scale:
+    """The value at the foot, the levels above it, the greatest value, and the base of the steps."""
+
+    def __init__(self, values: Sequence[int], most: int) -> None:
+        self.foot, self.levels = levels_of(values, most)
+        # Steps begin at zero, if that is on the scale, and else at its foot.
+        self.base = 0 if 0 in self.levels else self.foot
+        self.top = max([*values, self.levels[-1]])
+
+
+def begun_at(picture: Union[Steps, Groups], scale: Scale) -> str:
+    """The title, which says where heights aren't in proportion to values."""
+    steps = picture.groups[0][1] if isinstance(picture, Groups) else picture
+    return f"{picture.title}; the scale begins at {steps.printed(scale.base)}" if scale.base else picture.title
+
+
+def levels_of(values: Sequence[int], most: int) -> Tuple[int, List[int]]:
+    """Returns the value at the foot, and at most `most` round values above it at equal distances, rising.
+
+    Zero is the foot, or where a value is below it among those above. It isn't where all are so near each other that
+    their steps would be lost; the foot is then no more than the least value.
+    """
+    low, high = min(values, default=0), max(values, default=1)
+    if low == high or (high - low) * most >= max(high, -low):
+        low, high = min(low, 0), max(high, 0)
+    foot = low
+    distance = 1
+    while (high - foot) // distance >= most:
+        distance = distance * 5 // 2 if str(distance)[0] == "2" else distance * 2
+    foot = foot // distance * distance
+    return foot, list(range(foot + distance, high + 1, distance)) or [foot + distance]
+
+
+FILL, EDGED = "#9ecae1", "#08519c"
+# Pixels of the height of steps, of each group's steps, and above a group.
+DEPTH, OF_GROUP, NAME = 240, 72, 34
+LEVELS, LEVELS_OF_GROUP, FOR_STEP = 12, 4, 6
+
+
+def draw_steps(picture: Steps, width: Optional[int]) -> str:
+    scale = Scale(picture.values, LEVELS)
+    margin = margin_for(picture.scale([scale.foot, *scale.levels]))
+    across = across_for(width, margin, len(picture.values) * FOR_STEP)
+    title, whole = begun_at(picture, scale), margin + across + EDGE
+    top = top_of(title, whole)
+    frame = Frame(picture.span, margin, across, top, top + DEPTH)
+    notes = list(listed(unplaced_values("", picture, frame), whole, LISTED))
+    return document(whole, frame.bottom + BELOW, title, [*axis(frame), *band(picture, scale, frame)], notes)
+
+
+def unplaced_values(name: str, picture: Steps, frame: Frame) -> Iterator[Unplaced]:
+    """The values of steps that are too short for them."""
+    for start, end, value in picture.steps:
+        if frame.span.shows(start, end) and not has_room(picture.printed(value), start, end, frame):
+            yield Unplaced(name, picture.printed(value), start, end)
+
+
+def has_room(words: str, start: int, end: int, frame: Frame) -> bool:
+    return width_of(words) * LETTER + 4 <= frame.place(end) - frame.place(start)
+
+
+def draw_groups(picture: Groups, width: Optional[int], height: int) -> str:
+    """The groups below each other, each with its name above."""
+    scale = Scale(picture.values, LEVELS_OF_GROUP)
+    margin = margin_for(picture.groups[0][1].scale([scale.foot, *scale.levels]))
+    across = across_for(width, margin, max(len(steps.steps) for _, steps in picture.groups) * FOR_STEP)
+    title, whole = begun_at(picture, scale), margin + across + EDGE
+    top, each = top_of(title, whole), OF_GROUP + NAME
+    groups = picture.groups[:max((height - top - BELOW - KEPT * LINE) // each, 1)]
+    frame = Frame(picture.span, margin, across, top, top + each * len(groups))
+    parts = [*axis(frame)]
+    for place, (name, steps) in enumerate(groups):
+        above = top + place * each
+        parts.append(text(EDGE, above + NAME - 12, shortened(name, letters_in(whole - 2 * EDGE), "\u2026")))
+        parts.extend(band(steps, scale, Frame(picture.span, margin, across, above + NAME, above + each)))
+    notes = []
+    if len(groups) < len(picture.groups):
+        rest = f"{len(groups):,} of {len(picture.groups):,} groups"
+        notes.append(f"These are the first {rest}: --height PIXELS has room for more, --where shows one.")
+    without = (one for name, steps in groups for one in unplaced_values(name, steps, frame))
+    room = (height - frame.bottom - BELOW) // LINE - len(notes)
+    return document(whole, frame.bottom + BELOW, title, parts, [*notes, *listed(without, whole, room)])
+
+
+def band(picture: Steps, scale: Scale, frame: Frame) -> Iterator[str]:
+    """Yields the levels and the steps in the frame. No area covers a value's text."""
+    for level, name in zip([scale.foot, *scale.levels], picture.scale([scale.foot, *scale.levels])):
+        top = height_of(level, scale, frame)
+        yield line(frame.left, top, frame.right, top, "#ddd")
+        yield text(frame.left - 6, top + 4, name, "end")
+    shown = [step for step in picture.steps if frame.span.shows(*step[:2])]
+    for step in shown:
+        yield from area(step, picture, scale, frame)
+    ground = height_of(scale.base, scale, frame)
+    yield line(frame.left, ground, frame.right, ground, "#555")
+    yield from values_of(shown, picture, scale, frame)
+
+
+def height_of(value: int, scale: Scale, frame: Frame) -> float:
+    """Returns the pixel of a value, down from the top of the scale."""
+    return round(frame.bottom - (value - scale.foot) * (frame.bottom - frame.top) / (scale.top - scale.foot), 1)
+
+
+def area(step: Step, picture: Steps, scale: Scale, frame: Frame) -> Iterator[str]:
+    """Yields the area between a step's value and the base, and an arrow if it goes on past an edge."""
+    start, end, value = step
+    left, top, ground = frame.place(start), height_of(value, scale, frame), height_of(scale.base, scale, frame)
+    right = max(frame.place(end), left + 1)
+    points = (print_point(at_second(second)) for second in (start, end))
+    title = "valid_from: {}, valid_to: {}, {}: {}".format(*points, picture.name, value)
+    yield box(left, min(top, ground), right - left, round(abs(ground - top), 1), FILL, title)
+    yield line(left, top, right, top, EDGED, 2)
+    if end > frame.span.end:
+        yield shape([(right - TIP, top - TIP), (right, top), (right - TIP, top + TIP)], EDGED, title)
+    if start < frame.span.start:
+        yield shape([(left + TIP, top - TIP), (left, top), (left + TIP, top + TIP)], EDGED, title)
+
+
+def values_of(steps: Sequence[Step], picture: Steps, scale: Scale, frame: Frame) -> Iterator[str]:
+    """The values of steps that are long enough for them: above the line, or below it where it hangs."""
+    for start, end, value in steps:
+        left, right, words = frame.place(start), frame.place(end), picture.printed(value)
+        if has_room(words, start, end, frame):
+            hangs = value < scale.base
+            yield text((left + right) / 2, height_of(value, scale, frame) + (13 if hangs else -4), words, "middle")
+
+
+# Pixels of a lane's height, and of a bar at least.
+HEIGHT, FOR_BAR = 20, 26
+POINTED = "A bar with a point goes on: without a known end, or start, or past what is shown."
+
+
+def draw(picture: Picture, width: Optional[int] = None, height: Optional[int] = None) -> str:
+    """The picture, as wide and at most as tall as is given, or else as it needs within 1,600 and 4,000 pixels."""
+    if is_empty(picture):
+        top = top_of(picture.title, width or NARROW)
+        return document(width or NARROW, top, picture.title, [text(EDGE, top - ABOVE + 44, NOTHING)])
+    if isinstance(picture, Bars):
+        return draw_bars(picture, width, height or TALL)
+    if isinstance(picture, Groups):
+        return draw_groups(picture, width, height or TALL)
+    return draw_steps(picture, width)
+
+
+def draw_bars(picture: Bars, width: Optional[int], height: int) -> str:
+    """The lanes below each other, in a drawing as wide as the fullest lane needs."""
+    margin = margin_for(picture.lanes)
+    across = across_for(width, margin, max(wanted(picture).values(), default=0))
+    whole = margin + across + EDGE
+    top = top_of(picture.title, whole)
+    count = max((height - top - BELOW - KEPT * LINE) // HEIGHT, 1)
+    lanes = picture.lanes[:count]
+    frame = Frame(picture.span, margin, across, top, top + len(lanes) * HEIGHT)
+    boxes = [box_of(bar, frame) for bar in in_lanes(picture.shown, len(lanes))]
+    labels, without = put(boxes, frame)
+    many = count_of(picture.bars)
+    parts = [*stripes(many), *axis(frame), *lanes_of(lanes, frame), *(drawn(one, frame, many) for one in boxes)]
+    # No line runs over a label.
+    parts.extend([*instant_of(picture, frame), *labels])
+    notes = [*notes_of(picture, frame, many), *cut(picture, lanes)]
+    room = (height - frame.bottom - BELOW) // LINE - len(notes) - 1
+    return document(whole, frame.bottom + BELOW, picture.title, parts, [
+        *notes, *listed(unplaced(picture, without), whole, room),
+    ])
+
+
+def unplaced(picture: Bars, boxes: List[Box]) -> Iterator[Unplaced]:
+    for bar in sorted((one.bar for one in boxes), key=lambda bar: (bar.lane, bar.start)):
+        yield Unplaced(picture.name_of(bar.lane), bar.label, bar.start, bar.end)
+
+
+def wanted(picture: Bars) -> Dict[int, int]:
+    """How many pixels each lane would have, were its bars as long as their labels."""
+    pixels: Dict[int, int] = Counter()
+    for bar in picture.shown:
+        pixels[bar.lane] += max(FOR_BAR, int(width_of(bar.label) * LETTER) + ROOM)
+    return pixels
+
+
+def in_lanes(bars: List[Bar], count: int) -> Iterator[Bar]:
+    """Yields the bars in the first lanes, cut there."""
+    return (replace(bar, lanes=min(bar.lanes, count - bar.lane)) for bar in bars if bar.lane < count)
+
+
+def box_of(bar: Bar, frame: Frame) -> Box:
+    left, right = frame.place(bar.start), frame.place(bar.end)
+    top, height = frame.top + bar.lane * HEIGHT + 2, bar.lanes * HEIGHT - 4
+    return Box(bar, left, max(right, left + 1), top, height)
+
+
+def drawn(one: Box, frame: Frame, many: int) -> str:
+    """The bar's box, with a point at an end past which it goes on."""
+    bar, fill = one.bar, fill_of(one.bar.shade, many)
+    before, behind = goes_on(bar, frame)
+    if not (before or behind):
+        return box(one.left, one.top, one.right - one.left, one.height, fill, bar.record, "#666")
+    tip = min(TIP, (one.right - one.left) // 2)
+    left, right = one.left + tip * before, one.right - tip * behind
+    bottom, middle = one.top + one.height, one.top + one.height // 2
+    upper, lower = [(left, one.top), (right, one.top)], [(right, bottom), (left, bottom)]
+    return shape([*upper, (one.right, middle), *lower, (one.left, middle)], fill, bar.record, "#666")
+
+
+def goes_on(bar: Bar, frame: Frame) -> Tuple[bool, bool]:
+    """Whether it goes on past the left edge, and past the right one."""
+    return bar.start < frame.span.start, bar.end > frame.span.end
+
+
+def lanes_of(lanes: List[str], frame: Frame) -> Iterator[str]:
+    for place, name in enumerate(lanes):
+        if name:
+            top = frame.top + place * HEIGHT
+            yield text(frame.left - 6, top + 14, shortened(name, letters_in(frame.left - 8), "\u2026"), "end")
+            yield line(frame.left, top, frame.right, top, "#eee")
+
+
+def instant_of(picture: Bars, frame: Frame) -> Iterator[str]:
+    """Yields a line through the instant of a division, if the instant is shown."""
+    if picture.instant and picture.span.start <= seconds(picture.instant) < picture.span.end:
+        place = frame.place(seconds(picture.instant))
+        yield line(place, frame.top - 6, place, frame.bottom + 6, RED, 2)
+        yield text(place, frame.top - 10, picture.instant, side_of(place, frame), RED)
+
+
+def notes_of(picture: Bars, frame: Frame, many: int) -> Iterator[str]:
+    if any(any(goes_on(bar, frame)) for bar in picture.shown):
+        yield POINTED
+    if many > MOST:
+        yield NOTE
+
+
+def cut(picture: Bars, lanes: List[str]) -> Iterator[str]:
+    """That not all lanes are drawn."""
+    if len(lanes) < len(picture.lanes):
+        rest = f"{len(lanes):,} of {len(picture.lanes):,} lanes"
+        yield f"These are the first {rest}: --height PIXELS has room for more, --where and --from show fewer."

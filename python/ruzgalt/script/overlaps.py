@@ -1,0 +1,183 @@
+"""Rows of one key that hold at one time, for which a change was refused. The program finds them."""
+from bisect import bisect_right
+from dataclasses import replace
+from itertools import islice
+from operator import itemgetter
+from typing import Dict, Iterator, List, NamedTuple, Sequence, Set, Tuple
+
+from ruzgalt.script import run, schemas
+from ruzgalt.script.answers import Answer
+from ruzgalt.script.commands import Command
+from ruzgalt.script.fields import where_places
+from ruzgalt.script.forms import printed
+from ruzgalt.script.reader import Block, Reader
+from ruzgalt.script.records import to_record
+from ruzgalt.script.run import Past, Version, versions_of
+from ruzgalt.script.schemas import Table
+
+# So many pairs of rows are listed of one refusal.
+PAIRS = 20
+Values = Tuple[str, ...]
+Span = Tuple[str, str]
+
+
+class Held(NamedTuple):
+    """A row with its period, its values, and where it comes from, for a person."""
+
+    start: str
+    end: str
+    values: Values
+    origin: str
+
+    @property
+    def text(self) -> str:
+        return f"{self.origin}: {to_record([self.start, self.end, *self.values])}"
+
+
+class Loaded(NamedTuple):
+    """A row of a load: the line on which it begins, its period as the program prints it, and its values."""
+
+    line: int
+    start: str
+    end: str
+    values: Tuple[str, ...]
+
+
+def rows_of(load: Command) -> Iterator[Loaded]:
+    """Yields the rows of an accepted load."""
+    block = load.rows
+    if isinstance(block, Block):
+        for line, (_, start, end, *values) in islice(Reader(block.source, block.place).numbered(), len(block)):
+            yield Loaded(line, printed(start), printed(end), tuple(values))
+
+
+class Change(NamedTuple):
+    """What a refused change would have done: the rows that it adds, and the ids of the rows that it closes."""
+
+    added: Sequence[Held]
+    closed: Set[int]
+
+
+def explained(past: Past, refused: Sequence[Answer]) -> Dict[int, List[str]]:
+    """Returns for each load or update that was refused for a key, by its number, the rows: lines for a person."""
+    refused = [answer for answer in refused if answer.refused.name == "KeyOverlap"]
+    past.ask(*(versions_of(answer.command.record.fields[1]) for answer in refused))
+    changes = changes_of(past, refused)
+    cases = [list(groups_of(past, answer, changes[answer.number])) for answer in refused]
+    return {
+        answer.number: list(lines_of(answer, groups, times))
+        for answer, groups, times in zip(refused, cases, crowded(past.program, cases))
+    }
+
+
+def rows_at(past: Past, answer: Answer) -> List[Version]:
+    """Returns the rows of a command's table before it. A refused command changes nothing."""
+    return past.versions(answer.command.record.fields[1]).at(answer.commits)
+
+
+def changes_of(past: Past, refused: Sequence[Answer]) -> Dict[int, Change]:
+    """Returns what each refused change would have done. The program tries updates on a table without the key."""
+    found: Dict[int, Change] = {}
+    updates: List[Tuple[Answer, List[Version]]] = []
+    for answer in refused:
+        if answer.command.word == "load":
+            found[answer.number] = Change(list(loaded(answer)), set())
+        else:
+            texts = answer.command.record.fields
+            wanted = [(answer.schema.index_of(texts[place]), texts[place + 1]) for place in where_places(texts)]
+            updates.append((answer, [one for one in rows_at(past, answer) if schemas.has_values(one.values, wanted)]))
+    for (answer, rows), tried in zip(updates, run.tried(past.program, (trial_of(*one) for one in updates))):
+        found[answer.number] = updated(answer, rows, tried[-1].table)
+    return found
+
+
+def loaded(answer: Answer) -> Iterator[Held]:
+    is_asked = answer.command.record.is_asked
+    for row in rows_of(answer.command):
+        yield Held(row.start, row.end, row.values, answer.where if is_asked else f"line {row.line}")
+
+
+def trial_of(answer: Answer, rows: Sequence[Version]) -> List[Sequence[str]]:
+    """Returns a script that loads these rows, updates them, and lists all versions."""
+    schema = replace(answer.schema, name=f"t{answer.number}", key=())
+    loaded = (["row", row.start, row.end, *row.values] for row in rows)
+    update, _, *others = answer.command.record.fields
+    change = [[update, schema.name, *others], versions_of(schema.name).split(",")]
+    return [schema.fields, ["load", schema.name], *loaded, ["end"], *change]
+
+
+def updated(answer: Answer, rows: Sequence[Version], listed: Table) -> Change:
+    """Returns what an update does to rows, which have the ids 1, 2, 3 and so on in this list of versions.
+
+    New rows are in the order of the rows that they replace. The last one that replaces a row ends where that one ends.
+    """
+    added: List[Held] = []
+    closed: Set[int] = set()
+    records = list(listed.texts())
+    new = iter(records[len(rows):])
+    for row, (_, _, end, _, is_closed, *_) in zip(rows, records):
+        if is_closed:
+            closed.add(row.row_id)
+            for _, start, last, _, _, *values in new:
+                added.append(Held(start, last, tuple(values), f"{answer.where} in place of row {row.row_id}"))
+                if last == end:
+                    break
+    return Change(added, closed)
+
+
+def groups_of(past: Past, answer: Answer, change: Change) -> Iterator[List[Held]]:
+    """Yields the rows that the change would leave for each value of the key that it adds rows of."""
+    key_of = itemgetter(*answer.schema.key)
+    groups: Dict[object, List[Held]] = {}
+    for row in change.added:
+        groups.setdefault(key_of(row.values), []).append(row)
+    for version in rows_at(past, answer):
+        group = groups.get(key_of(version.values))
+        if group is not None and version.row_id not in change.closed:
+            group.append(held(version))
+    yield from groups.values()
+
+
+def held(version: Version) -> Held:
+    origin = f"row {version.row_id}, made by commit {version.made}"
+    return Held(version.start, version.end, version.values, origin)
+
+
+def crowded(program: str, cases: Sequence[Sequence[Sequence[Held]]]) -> Iterator[List[List[Span]]]:
+    """Yields for each case the times of each group when the program counts more than one of its rows."""
+    trials = (counting(f"t{place}", groups) for place, groups in enumerate(cases))
+    for groups, tried in zip(cases, run.tried(program, trials)):
+        found: List[List[Span]] = [[] for _ in groups]
+        for place, start, end, count in tried[-1].table.texts():
+            if int(count) > 1:
+                found[int(place)].append((start, end))
+        yield found
+
+
+def counting(name: str, groups: Sequence[Sequence[Held]]) -> List[Sequence[str]]:
+    """Returns a script that counts the rows of each group over time."""
+    rows = (["row", one.start, one.end, str(place)] for place, group in enumerate(groups) for one in group)
+    return [["table", name, "n", "int"], ["load", name], *rows, ["end"], ["agg", name, "count", "by", "n"]]
+
+
+def pairs(groups: Sequence[Sequence[Held]], times: Sequence[Sequence[Span]]) -> Iterator[Tuple[Held, Held]]:
+    """Yields pairs of rows of a group: the second begins at a crowded time, while the first one holds."""
+    for group, crowds in zip(groups, times):
+        ordered = sorted(group, key=itemgetter(0)) if crowds else []
+        for place, row in enumerate(ordered):
+            # A time that begins with the row comes before such a one without an end.
+            crowd = bisect_right(crowds, (row.start, "~")) - 1
+            if crowd >= 0 and row.start < crowds[crowd][1]:
+                yield from ((other, row) for other in ordered[:place] if row.start < other.end)
+
+
+def lines_of(answer: Answer, groups: Sequence[Sequence[Held]], times: Sequence[Sequence[Span]]) -> Iterator[str]:
+    """Yields for each pair of rows a line with the key and the time, and a line for each row."""
+    schema = answer.schema
+    found = pairs(groups, times)
+    for one, other in islice(found, PAIRS):
+        key = ", ".join(f"{schema.names[place]} {to_record([one.values[place]])}" for place in schema.key)
+        yield f"{key}: both hold from {other.start} to {min(one.end, other.end)}"
+        yield from (f"  {row.text}" for row in (one, other))
+    if next(found, None):
+        yield "and more pairs of rows"
