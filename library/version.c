@@ -1,4 +1,4 @@
-/* The version of the library, which make-library gives as RUZGALT_VERSION. */
+/* The version of the library, which tools/make-library defines as RUZGALT_VERSION. */
 #include "ruzgalt.h"
 
 const char *ruzgalt_version(void) { return RUZGALT_VERSION; }

@@ -1,5 +1,5 @@
-/* Reads left rows, right rows and a claimed division of the left ones, and prints what each function of the library
- * answers, as tools/check-library wants it. */
+/* Reads left rows, right rows and a claimed division of the left rows, and prints the answer of each function of the
+ * library in the form that tools/check-library compares. */
 #include <inttypes.h>
 #include <ruzgalt.h>
 #include <stdio.h>
@@ -17,7 +17,7 @@ static int64_t number(void) {
   return n;
 }
 
-/* Room for n values of 8 bytes, and never NULL. */
+/* Allocates n values of 8 bytes. Never returns NULL. */
 static void *room(size_t n) {
   void *at = malloc(n ? 8 * n : 1);
   if (!at) exit(3);

@@ -1,5 +1,5 @@
-//! Reads left rows, right rows and a claimed division of the left ones, and prints what each function of the library
-//! answers, as tools/check-library wants it.
+//! Reads left rows, right rows and a claimed division of the left rows, and prints the answer of each function of the
+//! library in the form that tools/check-library compares.
 use std::io::Read;
 
 extern "C" {

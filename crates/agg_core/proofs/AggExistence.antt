@@ -1,4 +1,4 @@
--- Any rows have an aggregate: the plateaus of each group's rows can be listed.
+-- Any rows have an aggregate: the constant intervals of each group's rows can be listed.
 use Rattle.std.proofs.Common.{◌≡◌, ◌==◌, ℤ, true, List, [], ◌∷◌, map, Option, inl, inr, refl, sym, ap, subst, ◌∙◌, arith}
 use Rattle.std.specs.Prelude.{Contains}
 use Rattle.std.specs.Cmp.{IsTotalOrder}
@@ -35,9 +35,9 @@ use Rattle.agg_core.proofs.PlateauLemmas.{maximal_of_items, maximal_of_rows, per
 AggRow-same : (a b : AggRow) → a.group ≡ b.group → a.period ≡ b.period → a.value ≡ b.value → a ≡ b
 AggRow-same a b g p v = λ i. record { group = g i; period = p i; value = v i }
 
--- ---- an order in which rows that tie are one
+-- ---- an order in which only equal rows compare as equal
 
--- by group and start, and then by end and value
+-- The order by group and start, then by end and value.
 abbrev full_cmp : AggRow → AggRow → Ordering
 full_cmp a b =
     ordering_then (agg_row_cmp a b) (ordering_then (int_cmp a.period.to b.period.to) (int_cmp a.value b.value))
@@ -49,13 +49,13 @@ full_total =
     (then_total (on_total (λ (x : AggRow). x.period.to) int_cmp_total)
     (on_total (λ (x : AggRow). x.value) int_cmp_total))
 
--- rows that tie by group and start are of one group and start
+-- rows that compare as equal by group and start have the same group and start
 tied_starts : (a b : AggRow) → agg_row_cmp a b ≡ Equal → (a.group ≡ b.group) × (a.period.from ≡ b.period.from)
 tied_starts a b e =
     let parts = both_tie _ _ e in
     (maybe_exact a.group b.group parts.0, exact_signed a.period.from b.period.from parts.1)
 
--- rows that tie in the full order are one
+-- rows that compare as equal in the full order are equal
 tied_rows : (a b : AggRow) → full_cmp a b ≡ Equal → a ≡ b
 tied_rows a b e =
     let halves = both_tie _ _ e in
@@ -68,19 +68,19 @@ tied_rows a b e =
 -- ---- the rows of a group
 
 module _ (measure : Measure) (amount_of : Row → ℤ) (group_of : Row → Option Value) (rows : List Row) where
-  -- a group's rows, as items
+  -- A group's rows as items.
   abbrev items_of : Option Value → List Item
   items_of group = map (amount_item amount_of 0) (rows_of_group group_of group rows)
 
-  -- a row for the group
+  -- A row for the group.
   abbrev IsRowFor : Option Value → AggRow → Type 0
   IsRowFor group row = (row.group ≡ group) × IsAggRow measure amount_of group_of rows row
 
-  -- the row of a plateau of the group's items
+  -- The row of a constant interval of the group's items.
   abbrev row_of : Option Value → Plateau → AggRow
   row_of group p = record { group = group; period = p.period; value = p.value }
 
-  -- the plateau of a row
+  -- The constant interval of a row.
   abbrev plateau_of : AggRow → Plateau
   plateau_of row = record { class = 0; period = row.period; value = row.value }
 
@@ -90,7 +90,7 @@ module _ (measure : Measure) (amount_of : Row → ℤ) (group_of : Row → Optio
   of_one_class [] = refl
   of_one_class (r ∷ some) = ap (λ l. amount_item amount_of 0 r ∷ l) (of_one_class some)
 
-  -- so is each of their plateaus
+  -- so are their constant intervals
   plateau_class : (group : Option Value) (p : Plateau) → IsPlateau measure (items_of group) p → p.class ≡ 0
   plateau_class group p is =
       let (x, there) = period_held measure (of_class p.class (items_of group)) p.value p.period is.maximal in
@@ -101,7 +101,7 @@ module _ (measure : Measure) (amount_of : Row → ℤ) (group_of : Row → Optio
       (kept_in (λ (y : Item). y.class == p.class) (items_of group) x there) in
       sym ((Decides-eqb x.class p.class).0 test) ∙ sym (ap (λ (y : Item). y.class) made)
 
-  -- the row of a plateau is for the group
+  -- the row of a constant interval is a row for the group
   row_of_plateau : (group : Option Value) (p : Plateau) → IsPlateau measure (items_of group) p
       → IsRowFor group (row_of group p)
   row_of_plateau group p is = (
@@ -115,7 +115,7 @@ module _ (measure : Measure) (amount_of : Row → ℤ) (group_of : Row → Optio
     },
   )
 
-  -- what is for the group is the row of a plateau
+  -- a row for the group is the row of a constant interval
   plateau_of_row : (group : Option Value) (row : AggRow) → IsRowFor group row
       → IsPlateau measure (items_of group) (plateau_of row)
   plateau_of_row group row (same, is) =
@@ -142,7 +142,7 @@ module _ (measure : Measure) (amount_of : Row → ℤ) (group_of : Row → Optio
         ),
       )
 
-  -- a group has one row at most that starts at an instant
+  -- a group has at most one row that starts at an instant
   one_row_at : (a b : AggRow) → IsAggRow measure amount_of group_of rows a → IsAggRow measure amount_of group_of rows b
       → a.group ≡ b.group → a.period.from ≡ b.period.from → a ≡ b
   one_row_at a b is is' same from =
@@ -163,18 +163,18 @@ module _ (measure : Measure) (amount_of : Row → ℤ) (group_of : Row → Optio
 
   -- ---- all rows
 
-  -- what is wanted for some row's group is wanted
+  -- a row for some row's group is a row of the aggregate
   wanted_for_some : (row : AggRow) → WantedForSome (λ r. IsRowFor (group_of r)) rows row
       → IsAggRow measure amount_of group_of rows row
   wanted_for_some row (r, r_in, is) = is.1
 
-  -- what is wanted is wanted for some row's group
+  -- a row of the aggregate is a row for some row's group
   for_some_wanted : (row : AggRow) → IsAggRow measure amount_of group_of rows row
       → WantedForSome (λ r. IsRowFor (group_of r)) rows row
   for_some_wanted row is =
       let (r, there, same) = row_of_group measure amount_of group_of rows row is in (r, there, (sym same, is))
 
-  -- rows that are in the full order are in that by group and start
+  -- rows in the full order are in the order by group and start
   before_from_full : (a b : AggRow) → IsAggRow measure amount_of group_of rows a
       → IsAggRow measure amount_of group_of rows b → full_cmp a b ≡ Less → AggRowBefore a b
   before_from_full a b is is' = by_cmp (agg_row_cmp a b) refl where
@@ -190,7 +190,7 @@ module _ (measure : Measure) (amount_of : Row → ℤ) (group_of : Row → Optio
         sym (ap (λ o. ordering_then o (ordering_then (int_cmp a.period.to b.period.to) (int_cmp a.value b.value))) e)
         ∙ less in cc
 
-  -- all that is wanted, in order
+  -- all rows, in order
   some_rows : (answer : List AggRow) × AreAggRows measure amount_of group_of rows answer
   some_rows =
       let (unordered, all) = some_unordered (λ (r : Row). IsRowFor (group_of r)) (λ r. rows_for (group_of r)) rows in

@@ -1,4 +1,4 @@
--- The aggregates of rows that are sent to lots, and the aggregate of all.
+-- The aggregates of lots of rows, and the aggregate of all rows.
 use Rattle.std.proofs.Common.{◌≡◌, ◌↔◌, ℕ, ℤ, true, List, Option, refl, sym, ap, subst, ◌∙◌}
 use Rattle.std.specs.Prelude.{Contains, ◌==◌}
 use Rattle.std.proofs.lemmas.Bool.Decides.{Decides-eqb}
@@ -21,13 +21,13 @@ use Rattle.agg_core.proofs.OrderLemmas.{agg_row_total}
 use Rattle.agg_core.proofs.PlateauLemmas.{row_of_group}
 use Rattle.agg_core.proofs.ShareLemmas.{keep_all}
 
--- a group that a row is of is found
+-- a group with a row is found
 has_group-there : (group_of : Row → Option Value) (rows : List Row) (row : Row) (group : Option Value) → Contains rows row
     → group_of row ≡ group → has_group group_of rows group ≡ true
 has_group-there group_of rows row group h e =
     list_any-contains (λ (r : Row). same_maybe (group_of r) group) rows row h ((maybe_decides (group_of row) group).1 e)
 
--- a group that is found is some row's
+-- a group that is found has a row
 row_of_known : (group_of : Row → Option Value) (rows : List Row) (group : Option Value)
     → has_group group_of rows group ≡ true → (row : Row) × Contains rows row × (group_of row ≡ group)
 row_of_known group_of rows group known =
@@ -36,7 +36,7 @@ row_of_known group_of rows group known =
 
 module _ (measure : Measure) (amount_of : Row → ℤ) (group_of : Row → Option Value) (lot_of : Row → ℕ) (rows : List Row)
     (together : SendsGroupsTogether group_of lot_of rows) where
-  -- all rows of a group are sent where one is
+  -- all rows of a group go to the lot of one of them
   group_sent : (lot : ℕ) (group : Option Value) (row : Row) → Contains (rows_sent lot_of lot rows) row
       → group_of row ≡ group
       → rows_of_group group_of group (rows_sent lot_of lot rows) ≡ rows_of_group group_of group rows
@@ -48,16 +48,16 @@ module _ (measure : Measure) (amount_of : Row → ℤ) (group_of : Row → Optio
       (Decides-eqb (lot_of x) lot).1
       (sym (together row x row_in x_in same) ∙ sent-to lot_of lot rows row h))
 
-  -- a row of the aggregate of what is sent to a lot
+  -- A row of a lot's aggregate.
   abbrev IsLotRow : ℕ → AggRow → Type 0
   IsLotRow lot = IsAggRow measure amount_of group_of (rows_sent lot_of lot rows)
 
-  -- it is of a group that is sent there
+  -- it is of a group that goes there
   row_sent : (lot : ℕ) (row : AggRow) → IsLotRow lot row
       → (r : Row) × Contains (rows_sent lot_of lot rows) r × (group_of r ≡ row.group)
   row_sent lot row is = row_of_group measure amount_of group_of (rows_sent lot_of lot rows) row is
 
-  -- it is a row of the aggregate of all
+  -- it is a row of the whole aggregate
   whole_row : (lot : ℕ) (row : AggRow) → IsLotRow lot row → IsAggRow measure amount_of group_of rows row
   whole_row lot row is =
       let (r, h, e) = row_sent lot row is in
@@ -67,7 +67,7 @@ module _ (measure : Measure) (amount_of : Row → ℤ) (group_of : Row → Optio
             (group_sent lot row.group r h e) is.maximal;
       }
 
-  -- a row of the aggregate of all is one of its group's lot
+  -- a row of the whole aggregate is a row of its group's lot
   lot_row : (lot : ℕ) (row : AggRow) (r : Row) → Contains (rows_sent lot_of lot rows) r → group_of r ≡ row.group
       → IsAggRow measure amount_of group_of rows row → IsLotRow lot row
   lot_row lot row r h e is =
@@ -77,7 +77,7 @@ module _ (measure : Measure) (amount_of : Row → ℤ) (group_of : Row → Optio
             (sym (group_sent lot row.group r h e)) is.maximal;
       }
 
-  -- no row is one of two lots
+  -- no row belongs to two lots
   lots_apart : (one other : ℕ) (row : AggRow) → IsLotRow one row → IsLotRow other row → one ≡ other
   lots_apart one other row is is' =
       let (r, h, e) = row_sent one row is in
@@ -86,7 +86,7 @@ module _ (measure : Measure) (amount_of : Row → ℤ) (group_of : Row → Optio
       ∙ together r s (sent-in lot_of one rows r h) (sent-in lot_of other rows s k) (e ∙ sym f)
       ∙ sent-to lot_of other rows s k
 
-  -- the aggregate of what is sent to a lot is the rows of the aggregate of all whose group is
+  -- the aggregate of a lot is the rows of the whole aggregate whose group goes there
   lot_agg : (lot : ℕ) (whole answer : List AggRow) → AreAggRows measure amount_of group_of rows whole
       → AreAggRows measure amount_of group_of (rows_sent lot_of lot rows) answer
       → answer ≡ agg_rows_sent group_of lot_of rows lot whole
@@ -100,7 +100,7 @@ module _ (measure : Measure) (amount_of : Row → ℤ) (group_of : Row → Optio
       ))
       (λ row w known. let (r, h, e) = row_of_known group_of sent row.group known in lot_row lot row r h e w) is is'
 
-  -- the aggregate of all is what stands in those of the lots
+  -- the whole aggregate is the rows of the lots' aggregates
   whole_agg : (answer_of : ℕ → List AggRow) (whole : List AggRow)
       → ((lot : ℕ) → AreAggRows measure amount_of group_of (rows_sent lot_of lot rows) (answer_of lot))
       → AreAggRows measure amount_of group_of rows whole ↔ IsListOf AggRowBefore (IsInSome answer_of) whole
@@ -110,7 +110,7 @@ module _ (measure : Measure) (amount_of : Row → ℤ) (group_of : Row → Optio
       let (r, h, e) = row_of_group measure amount_of group_of rows row is in
       (lot_of r, lot_row (lot_of r) row r (sent-there lot_of (lot_of r) rows r h refl) e is))
 
--- so it is of a table's rows
+-- so it is for a table's rows
 pub lot_agg_is_of_whole : LotAggIsOfWhole
 lot_agg_is_of_whole columns func group rows lot_of lot whole answer together is is' =
     lot_agg (measure_of func) (amount_in columns func) (value_in columns group) lot_of rows together lot whole answer

@@ -28,7 +28,7 @@ use Rattle.agg_core.proofs.AggExistence.{some_aggregate}
 use Rattle.agg_core.proofs.OrderLemmas.{one_aggregate}
 use Rattle.agg_core.proofs.PlateauLemmas.{row_of_group}
 
--- rows of which those that hold an instant have the same amounts come to the same there
+-- rows with the same amounts at an instant have the same value there
 same_amounts : (measure : Measure) (amount_here amount_there : Row → ℤ) (some other : List Row) (value t : ℤ)
     → map amount_here (rows_on t some) ≡ map amount_there (rows_on t other)
     → HoldAndComeTo measure amount_here some value t → HoldAndComeTo measure amount_there other value t
@@ -41,8 +41,7 @@ same_amounts measure amount_here amount_there some other value t e h =
 
 module _ (amount_here amount_there : Row → ℤ) (group_here group_there : Row → Option Value) (row_of : Row → Row)
     (group other : Option Value) (t : ℤ) where
-  -- rows that hold the instant, and are of a group exactly where those that they stand for are of another, have the
-  -- amounts of those
+  -- if rows are of a group exactly if the rows they stand for are of another, both have the same amounts at an instant
   amounts_there : (rows : List Row)
       → ((row : Row) → Contains rows row → (row_of row).period ≡ row.period)
       → ((row : Row) → Contains rows row → amount_there (row_of row) ≡ amount_here row)
@@ -77,7 +76,7 @@ module _ (amount_here amount_there : Row → ℤ) (group_here group_there : Row 
       own false c e xs ys rest =
           rest ∙ ap (λ (v : Bool). map amount_there (rows_on t (cond v (row_of r ∷ ys) ys))) e
 
--- groups that rise as others are ordered as these
+-- mapping groups by an increasing function keeps their order
 rise_alike : (group_of : Option Value → Option Value) (a b : Option Value)
     → (maybe_cmp a b ≡ Less → maybe_cmp (group_of a) (group_of b) ≡ Less)
     → (maybe_cmp b a ≡ Less → maybe_cmp (group_of b) (group_of a) ≡ Less)
@@ -94,7 +93,7 @@ rise_alike group_of a b rises falls = by_cmp (maybe_cmp a b) refl
         let less : maybe_cmp b a ≡ Less = maybe_total.antisymm b a ∙ ap ordering_reverse e in
         maybe_total.antisymm (group_of a) (group_of b) ∙ ap ordering_reverse (falls less) ∙ sym e
 
--- groups that are ordered as others are one exactly where these are
+-- pairs of groups with the same order are equal at the same time
 same_alike : (a b c d : Option Value) → maybe_cmp a b ≡ maybe_cmp c d → same_maybe a b ≡ same_maybe c d
 same_alike a b c d e = found (same_maybe a b) refl (same_maybe c d) refl
   where
@@ -104,8 +103,8 @@ same_alike a b c d e = found (same_maybe a b) refl (same_maybe c d) refl
     found true s false u = absurd (let is : same_maybe c d ≡ true = maybe-same c d (sym e ∙ maybe-tie a b s) in cc)
     found false s true u = absurd (let is : same_maybe a b ≡ true = maybe-same a b (e ∙ maybe-tie c d u) in cc)
 
--- the list of what is wanted here gives that of what is wanted there, where each wanted thing gives one of there, each of
--- there comes of one, and what wanted things give is ordered as they are
+-- the answers here, mapped by `f`, are the answers there: `f` maps each answer here to one there, reaches each of
+-- them, and keeps the order of answers
 answers_there : {X : Type 0} (Before : X → X → Type 0) (Here There : X → Type 0) (f : X → X) (xs : List X)
     → ((a b : X) → Here a → Here b → Before a b → Before (f a) (f b)) → ((x : X) → Here x → There (f x))
     → ((y : X) → There y → (x : X) × Here x × (f x ≡ y)) → IsListOf Before Here xs → IsListOf Before There (map f xs)
@@ -125,21 +124,21 @@ answers_there {X} Before Here There f xs alike there here is = record {
 module _ (measure : Measure) (amount_here amount_there : Row → ℤ) (group_here group_there : Row → Option Value)
     (row_of : Row → Row) (group_of : Option Value → Option Value) (rows : List Row)
     (stand : RankGroups amount_here amount_there group_here group_there row_of group_of rows) where
-  -- what a group's rows come to
+  -- The value of a group's rows.
   abbrev Here : Option Value → ℤ → ℤ → Type 0
   Here group value t = HoldAndComeTo measure amount_here (rows_of_group group_here group rows) value t
 
-  -- what those come to that they stand for
+  -- The value of the rows they stand for.
   abbrev There : Option Value → ℤ → ℤ → Type 0
   There group value t = HoldAndComeTo measure amount_there (rows_of_group group_there group (map row_of rows)) value t
 
-  -- groups of rows are ordered as those of the rows that they stand for
+  -- the groups of rows have the order of the groups of the rows they stand for
   groups_alike : (x y : Row) → Contains rows x → Contains rows y
       → maybe_cmp (group_of (group_here x)) (group_of (group_here y)) ≡ maybe_cmp (group_here x) (group_here y)
   groups_alike x y x_in y_in =
       rise_alike group_of (group_here x) (group_here y) (stand.rises x y x_in y_in) (stand.rises y x y_in x_in)
 
-  -- the rows of a row's group have the amounts of those of the other's
+  -- the rows of a row's group have the same amounts as the rows of the other's group
   amounts_alike : (x : Row) → Contains rows x → (t : ℤ)
       → map amount_here (rows_on t (rows_of_group group_here (group_here x) rows))
       ≡ map amount_there (rows_on t (rows_of_group group_there (group_of (group_here x)) (map row_of rows)))
@@ -151,7 +150,7 @@ module _ (measure : Measure) (amount_here amount_there : Row → ℤ) (group_her
       (sym (groups_alike r x r_in x_in))
       ∙ ap (λ (g : Option Value). same_maybe g (group_of (group_here x))) (sym (stand.group_is r r_in)))
 
-  -- so they come to the same
+  -- so they have the same value
   come_there : (x : Row) → Contains rows x → (value t : ℤ) → Here (group_here x) value t
       → There (group_of (group_here x)) value t
   come_there x x_in value t h =
@@ -165,7 +164,7 @@ module _ (measure : Measure) (amount_here amount_there : Row → ℤ) (group_her
       (rows_of_group group_there (group_of (group_here x)) (map row_of rows))
       (rows_of_group group_here (group_here x) rows) value t (sym (amounts_alike x x_in t)) h
 
-  -- a row of the one aggregate gives one of the other
+  -- a row of one aggregate gives a row of the other
   row_there : (row : AggRow) → IsAggRow measure amount_here group_here rows row
       → IsAggRow measure amount_there group_there (map row_of rows) (with_group group_of row)
   row_there row is =
@@ -178,7 +177,7 @@ module _ (measure : Measure) (amount_here amount_there : Row → ℤ) (group_her
             (come_there x x_in row.value) (come_here x x_in row.value) own);
       }
 
-  -- and each of the other comes of one
+  -- and each row of the other comes from one
   row_here : (row : AggRow) → IsAggRow measure amount_there group_there (map row_of rows) row
       → (some : AggRow) × IsAggRow measure amount_here group_here rows some × (with_group group_of some ≡ row)
   row_here row is =
@@ -196,7 +195,7 @@ module _ (measure : Measure) (amount_here amount_there : Row → ℤ) (group_her
         ap (λ (g : Option Value). record row { group = g }) same,
       )
 
-  -- both are ordered alike
+  -- both are in the same order
   rows_alike : (a b : AggRow) → IsAggRow measure amount_here group_here rows a
       → IsAggRow measure amount_here group_here rows b → AggRowBefore a b
       → AggRowBefore (with_group group_of a) (with_group group_of b)
@@ -216,7 +215,7 @@ module _ (measure : Measure) (amount_here amount_there : Row → ℤ) (group_her
       (IsAggRow measure amount_there group_there (map row_of rows)) (with_group group_of) answer rows_alike row_there
       row_here
 
--- whatever the columns
+-- for any columns
 pub agg_is_of_ranks : AggIsOfRanks
 agg_is_of_ranks columns_here columns_there func_here func_there by_here by_there rows row_of group_of answer one stand is =
     subst
@@ -225,12 +224,12 @@ agg_is_of_ranks columns_here columns_there func_here func_there by_here by_there
     (agg_there (measure_of func_here) (amount_in columns_here func_here) (amount_in columns_there func_there)
     (value_in columns_here by_here) (value_in columns_there by_there) row_of group_of rows stand answer is)
 
--- where each is of its own group, all rows of the answer are
+-- mapping groups by the identity changes nothing
 own_groups : (answer : List AggRow) → map (with_group (λ g. g)) answer ≡ answer
 own_groups [] = refl
 own_groups (row ∷ answer) = ap (λ (l : List AggRow). row ∷ l) (own_groups answer)
 
--- so the aggregate of rows that have the groups of others is theirs
+-- so rows with the groups of others have the same aggregate
 pub agg_is_of_stand_ins : AggIsOfStandIns
 agg_is_of_stand_ins columns_here columns_there func_here func_there by_here by_there rows row_of answer one stand =
     (there answer, here)

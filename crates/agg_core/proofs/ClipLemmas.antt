@@ -1,4 +1,4 @@
--- Lists of what a function may make of things, and maximal periods clipped to a slice of time.
+-- Filtered and mapped lists, and maximal periods clipped to a slice of time.
 use Rattle.std.proofs.Common.{◌≡◌, ◌↔◌, ◌⊎◌, ℤ, List, [], ◌∷◌, Option, Some, None, AllPairs, inl, inr, refl, sym, ap, subst, ◌∙◌, arith}
 use Rattle.std.specs.Prelude.{Contains, option_map, pos, ◌-ℤ◌, ◌≤ℤ◌, ◌<ℤ◌}
 use Rattle.std.specs.List.{cons_option, filter_map}
@@ -13,9 +13,9 @@ use Rattle.merge_core.specs.Gaps.{IsMaximal}
 use Rattle.merge_core.specs.Hits.{IsShared}
 use Rattle.merge_core.proofs.SharedLemmas.{by_order, first_held, shared_once}
 
--- ---- what a function may make of the things in a list
+-- ---- `filter_map`
 
--- what it makes of one of them stands there
+-- the result for an element is in the list
 pub Contains-filter_map : {X Y : Type 0} (h : X → Option Y) (xs : List X) (x : X) (y : Y) → Contains xs x → h x ≡ Some y
     → Contains (filter_map h xs) y
 Contains-filter_map {X} {Y} h [] x y there made = absurd (Contains-none x there)
@@ -31,7 +31,7 @@ Contains-filter_map {X} {Y} h (z ∷ xs) x y there made =
         (Contains-head w (filter_map h xs))
     by_first (Some w) e rest (inr later) = Contains-cons w (filter_map h xs) y (rest later)
 
--- what stands there is made of one of them
+-- an element of the list is the result for some element
 pub filter_map_source : {X Y : Type 0} (h : X → Option Y) (xs : List X) (y : Y) → Contains (filter_map h xs) y
     → (x : X) × Contains xs x × (h x ≡ Some y)
 filter_map_source {X} {Y} h [] y there = absurd (Contains-none y there)
@@ -46,7 +46,7 @@ filter_map_source {X} {Y} h (z ∷ xs) y there = by_first (h z) refl (filter_map
       | inr later ↦ let (x, inside, made) = rest later in (x, Contains-cons z xs x inside, made)
     ]
 
--- things in one order are made into things in another, where the function takes the one to the other
+-- the results are in order if the function keeps the order
 pub AllPairs-filter_map : {X Y : Type 0} (R : X → X → Type 0) (S : Y → Y → Type 0) (h : X → Option Y) (xs : List X)
     → ((a b : X) (c d : Y) → Contains xs a → Contains xs b → R a b → h a ≡ Some c → h b ≡ Some d → S c d)
     → AllPairs R xs → AllPairs S (filter_map h xs)
@@ -66,21 +66,21 @@ AllPairs-filter_map {X} {Y} R S h (z ∷ xs) gives ordered =
         gives z x w y (Contains-head z xs) (Contains-cons z xs x inside) (AllPairs-head R z xs x ordered inside) e made)
         rest
 
--- ---- what two periods share
+-- ---- the period that two periods share
 
--- it is their meet
+-- it is their `meet`
 met_is_shared : (a b p : Period) (o : Option Period) → ((t : ℤ) → HoldsIn o t ↔ (Holds a t × Holds b t))
     → IsShared a b p → o ≡ Some p
 met_is_shared a b p None holds shared = absurd ((holds p.from).1 ((shared p.from).0 (first_held p)))
 met_is_shared a b p (Some q) holds shared = ap Some (shared_once a b q p holds shared)
 
--- so it is made into what the meet is
+-- so a function of it is a function of the `meet`
 pub made_of_shared : {Y : Type 0} (make : Period → Y) (a b p : Period) → IsShared a b p
     → option_map make (meet a b) ≡ Some (make p)
 made_of_shared make a b p shared =
     ap (λ (o : Option Period). option_map make o) (met_is_shared a b p (meet a b) (meet-holds a b) shared)
 
--- what the meet is made into is made of what is shared
+-- a function of the `meet` is a function of the shared period
 made_of : {Y : Type 0} (make : Period → Y) (a b : Period) (y : Y) (o : Option Period)
     → ((t : ℤ) → HoldsIn o t ↔ (Holds a t × Holds b t)) → option_map make o ≡ Some y
     → (p : Period) × IsShared a b p × (make p ≡ y)
@@ -93,12 +93,12 @@ shared_of_made make a b y made = made_of make a b y (meet a b) (meet-holds a b) 
 
 -- ---- maximal periods in a slice
 
--- the instants of a set in a slice
+-- The instants of a set within a slice.
 abbrev pub InSlice : Period → (ℤ → Type 0) → ℤ → Type 0
 InSlice slice Within t = Holds slice t × Within t
 
 module _ (Within : ℤ → Type 0) (slice : Period) where
-  -- what a maximal period shares with the slice is maximal there
+  -- a maximal period clipped to the slice is maximal there
   pub clipped_maximal : (p q : Period) → IsMaximal Within p → IsShared p slice q → IsMaximal (InSlice slice Within) q
   clipped_maximal p q m shared =
       let proper : q.from <ℤ q.to = q.ordered in
@@ -126,7 +126,7 @@ module _ (Within : ℤ → Type 0) (slice : Period) where
         ];
       }
 
-  -- a maximal period there is what the slice shares with the maximal period around its start
+  -- a maximal period there is the maximal period around its start, clipped to the slice
   pub shared_maximal : (p q : Period) → IsMaximal Within p → IsMaximal (InSlice slice Within) q → Holds p q.from
       → IsShared p slice q
   shared_maximal p q m o held t =

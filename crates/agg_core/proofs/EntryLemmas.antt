@@ -22,9 +22,9 @@ use Rattle.agg_core.specs.Entries.{AreEntries, AreEntriesSorted, AreInGroups, Ha
 use Rattle.agg_core.specs.KeyRanges.{in_range, rows_in_range}
 use Rattle.agg_core.proofs.OrderLemmas.{not_after, not_after-from, value_lt}
 
--- ---- lists side by side
+-- ---- two lists in parallel
 
--- one thing more of each list
+-- one more element of each list
 pub AllZip-more : {A B : Type 0} (R : A → B → Type 0) (xs : List A) (i : ℕ) (x : A) (ys new : List B) (y : B)
     → i < length xs → x ≡ get_or xs i x → new ≡ ys ++ y ∷ [] → R x y → AllZip R (take i xs) ys
     → AllZip R (take (i + 1) xs) new
@@ -36,11 +36,11 @@ AllZip-more {A} {B} R xs i x ys new y inside at put r all =
 -- ---- entries of rows
 
 module _ {K : Type 0} (value_of : K → Value) (all : List Row) where
-  -- what each entry keeps wherever it stands
+  -- An entry's row has the entry's value.
   abbrev IsKept : ℕ → Entry K → Type 0
   IsKept place e = slice_get (entry_row all e).values place ≡ Some (entry_value value_of e)
 
-  -- the row of an entry of it
+  -- the row of an entry
   row_there : (place : ℕ) (r : Row) (e : Entry K) → IsEntry value_of all place r e → entry_row all e ≡ r
   row_there place r e is = get_or_from_slice_get all e.row r no_row is.row_is
 
@@ -55,7 +55,7 @@ module _ {K : Type 0} (value_of : K → Value) (all : List Row) where
       (ap (λ (x : Row). slice_get x.values place) (row_there place r e are.0) ∙ are.0.value_is)
       (entries_kept place rows es are.1)
 
-  -- each has a row
+  -- each entry has a row
   pub entries_there : (place : ℕ) (rows : List Row) (es : List (Entry K)) → AreEntries value_of all place rows es
       → HaveRows all es
   entries_there place [] [] are = All-nil (λ (e : Entry K). e.row < length all)
@@ -80,13 +80,13 @@ module _ {K : Type 0} (value_of : K → Value) (all : List Row) where
       → AreInGroups value_of all (value_at_place (Some place)) es
   grouped_entries place rows es are = entries_kept place rows es are
 
-  -- there are as many as rows
+  -- the number of entries is the number of rows
   pub length-entries : (place : ℕ) (rows : List Row) (es : List (Entry K)) → AreEntries value_of all place rows es
       → length es ≡ length rows
   length-entries place rows es are =
       sym (length-map es (entry_row all)) ∙ ap length (rows_in_entries place rows es are)
 
-  -- one more row, and its entry, if its value is in the range
+  -- one more row, and its entry if its value is within the range
   rows_in_range-more : (group_of : Row → Option Value) (range : Range K) (rows : List Row) (i : ℕ) (row : Row)
       → i < length rows → row ≡ get_or rows i row
       → rows_in_range value_of group_of range (take (i + 1) rows)
@@ -97,7 +97,7 @@ module _ {K : Type 0} (value_of : K → Value) (all : List Row) where
       (take_more rows i row inside ∙ ap (λ (z : Row). take i rows ++ z ∷ []) (sym at))
       ∙ filter-append (λ (r : Row). in_range value_of range (group_of r)) (take i rows) (row ∷ [])
 
-  -- one more entry, of a row of the range
+  -- one more entry, for a row within the range
   pub entry_more : (place : ℕ) (range : Range K) (rows : List Row) (i : ℕ) (row : Row) (es new : List (Entry K))
       (e : Entry K)
       → i < length rows → row ≡ get_or rows i row → in_range value_of range (value_at_place (Some place) row) ≡ true
@@ -113,7 +113,7 @@ module _ {K : Type 0} (value_of : K → Value) (all : List Row) where
       (subst (AreEntries value_of all place (before ++ row ∷ [])) (sym put)
       (all_zipped_more (IsEntry value_of all place) before es row e are is))
 
-  -- and none, of a row of other values
+  -- no entry for a row outside the range
   pub entry_same : (place : ℕ) (range : Range K) (rows : List Row) (i : ℕ) (row : Row) (es : List (Entry K))
       → i < length rows → row ≡ get_or rows i row → in_range value_of range (value_at_place (Some place) row) ≡ false
       → AreEntries value_of all place (rows_in_range value_of (value_at_place (Some place)) range (take i rows)) es
@@ -127,27 +127,27 @@ module _ {K : Type 0} (value_of : K → Value) (all : List Row) where
 
 -- ---- filters
 
--- what is made of a list to which one thing is added, or not
+-- mapping a list to which an element may be added
 cond-map : {A B : Type 0} (f : A → B) (x : A) (b : Bool) (xs : List A) (ys : List B) → ys ≡ map f xs
     → cond b (f x ∷ ys) ys ≡ map f (cond b (x ∷ xs) xs)
 cond-map f x true xs ys e = ap (λ l. f x ∷ l) e
 cond-map f x false xs ys e = e
 
--- what passes of the things that are made is made of what passes
+-- filtering a mapped list is mapping a filtered list
 pub filter-map : {A B : Type 0} (f : A → B) (p : B → Bool) (xs : List A)
     → filter p (map f xs) ≡ map f (filter (λ x. p (f x)) xs)
 filter-map f p [] = refl
 filter-map f p (x ∷ xs) =
     cond-map f x (p (f x)) (filter (λ y. p (f y)) xs) (filter p (map f xs)) (filter-map f p xs)
 
--- two tests that agree on a list let the same pass
+-- two tests that agree on a list keep the same elements
 filter_alike : {A : Type 0} (p q : A → Bool) (xs : List A) → All (λ x. p x ≡ q x) xs → filter p xs ≡ filter q xs
 filter_alike p q [] all = refl
 filter_alike p q (x ∷ xs) all =
     ap (λ b. cond b (x ∷ filter p xs) (filter p xs)) (All-head (λ y. p y ≡ q y) x xs all)
     ∙ ap (λ l. cond (q x) (x ∷ l) l) (filter_alike p q xs (All-tail (λ y. p y ≡ q y) x xs all))
 
--- nothing passes, or something does
+-- the filtered list is empty, or some element passes
 filter_first : {A : Type 0} (p : A → Bool) (xs : List A) → (filter p xs ≡ []) ⊎ ((x : A) × (p x ≡ true))
 filter_first p [] = inl refl
 filter_first {A} p (x ∷ xs) = split (p x) refl (filter_first p xs)
@@ -160,18 +160,18 @@ filter_first {A} p (x ∷ xs) = split (p x) refl (filter_first p xs)
 
 -- ---- entries of one value, after a stable sort
 
--- where both are denied, both are false
+-- if both are negated, both are false
 neither : (p q : Bool) → not p && not q ≡ true → (p ≡ false) × (q ≡ false)
 neither true q e = cc
 neither false true e = cc
 neither false false e = (refl, refl)
 
 module _ {K : Type 0} (value_of : K → Value) where
-  -- the entry is of the group
+  -- The entry is of the group.
   abbrev in_group : Option Value → Entry K → Bool
   in_group group e = same_maybe (Some (entry_value value_of e)) group
 
-  -- two entries tie where they are of one group
+  -- two entries compare as equal if they are of one group
   tie_decides : (x m : Entry K)
       → Decides (ties (value_lt value_of) x m) (Some (entry_value value_of m) ≡ Some (entry_value value_of x))
   tie_decides x m = (
@@ -186,13 +186,13 @@ module _ {K : Type 0} (value_of : K → Value) where
         (inr (sym e))),
   )
 
-  -- entries tie with those of their group
+  -- entries compare as equal to the entries of their group
   tie_is : (x m : Entry K) → ties (value_lt value_of) x m ≡ in_group (Some (entry_value value_of x)) m
   tie_is x m =
       same_from_decides (ties (value_lt value_of) x m) (in_group (Some (entry_value value_of x)) m) (tie_decides x m)
       (maybe_decides (Some (entry_value value_of m)) (Some (entry_value value_of x)))
 
-  -- the entries of a group stand in the order in which they stood
+  -- the entries of a group keep their order
   group_stable : (old new : List (Entry K)) → IsStableByKey (entry_value value_of) value_cmp old new
       → (group : Option Value)
       → filter (in_group group) new ≡ filter (in_group group) old
@@ -214,7 +214,7 @@ module _ {K : Type 0} (value_of : K → Value) where
           → filter (in_group group) new ≡ filter (in_group group) old
       by x e = tied x new e ∙ stable x ∙ sym (tied x old e)
 
-  -- a group's rows are those of its entries
+  -- a group's rows are the rows of its entries
   group_rows : (all : List Row) (group_of : Row → Option Value) (group : Option Value) (es : List (Entry K))
       → AreInGroups value_of all group_of es
       → rows_of_group group_of group (map (entry_row all) es) ≡ map (entry_row all) (filter (in_group group) es)
@@ -224,7 +224,7 @@ module _ {K : Type 0} (value_of : K → Value) where
       (filter_alike (λ (e : Entry K). same_maybe (group_of (entry_row all e)) group) (in_group group) es
       (λ k d h. ap (λ (v : Option Value). same_maybe v group) (grouped k d h)))
 
-  -- entries that a stable sort has moved
+  -- entries after a stable sort
   pub entries_sorted : (old new : List (Entry K)) → IsPermutation old new
       → IsSortedByKey (entry_value value_of) value_cmp new → IsStableByKey (entry_value value_of) value_cmp old new
       → AreEntriesSorted value_of old new

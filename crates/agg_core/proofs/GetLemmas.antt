@@ -1,4 +1,4 @@
--- The row at a place of some shares.
+-- The row at an index of some shares.
 use Rattle.std.proofs.Common.{◌≡◌, ◌<◌, ◌≤◌, ◌-◌, ◌+◌, ℕ, List, [], ◌∷◌, ◌++◌, length, map, take, get_or, add-one, append-nil, append_assoc, sym, ap, ◌∙◌, arith}
 use Rattle.std.proofs.Math.Seq.{take-suc}
 use Rattle.std.proofs.lemmas.Grind.{flat_map-append}
@@ -14,7 +14,7 @@ use Rattle.agg_core.specs.declared.rows.AggShare.{AggShare}
 use Rattle.agg_core.specs.Grouping.{agg_row_of}
 use Rattle.agg_core.specs.Shares.{rows_in, rows_in_shares}
 
--- a share has a row for each plateau
+-- a share has a row for each constant interval
 pub share_length : (share : AggShare) → length (rows_in share) ≡ length share.plateaus
 share_length share = length-map share.plateaus (agg_row_of share.groups.items)
 
@@ -26,7 +26,7 @@ row_first shares rest share i e inside =
     ap (λ l. slice_get (rows_in_shares l) i) e
     ∙ slice_get-before (rows_in share) (rows_in_shares rest) i (omega (arith, long, inside))
 
--- a row behind the first share
+-- a row after the first share
 pub row_later : (shares rest : List AggShare) (share : AggShare) (i : ℕ) → shares ≡ share ∷ rest
     → length share.plateaus ≤ i
     → slice_get (rows_in_shares shares) i ≡ slice_get (rows_in_shares rest) (i - length share.plateaus)
@@ -36,12 +36,12 @@ row_later shares rest share i e past =
     ap (λ l. slice_get (rows_in_shares l) i) e ∙ ap (slice_get (rows_in share ++ rows_in_shares rest)) whole
     ∙ slice_get-append_right (rows_in share) (rows_in_shares rest) (i - length share.plateaus)
 
--- one share alone
+-- only one share
 pub rows-alone : (shares : List AggShare) (share : AggShare) → shares ≡ share ∷ []
     → rows_in_shares shares ≡ rows_in share
 rows-alone shares share e = ap (λ l. rows_in_shares l) e ∙ append-nil (rows_in share)
 
--- the rows of another share
+-- the rows of one more share
 pub rows-next : (shares : List AggShare) (i : ℕ) (share : AggShare) (old new : List AggRow) → i < length shares
     → share ≡ get_or shares i share → old ≡ rows_in_shares (take i shares) → new ≡ old ++ rows_in share
     → new ≡ rows_in_shares (take (i + 1) shares)
@@ -53,7 +53,7 @@ rows-next shares i share old new inside at was is =
     ∙ ap (λ (l : List AggRow). rows_in_shares so_far ++ l) (sym (append-nil (rows_in share)))
     ∙ sym (flat_map-append rows_in so_far (share ∷ [])) ∙ ap (λ l. rows_in_shares l) (sym step)
 
--- those of another chunk of plateaus
+-- the rows of one more chunk of constant intervals
 pub chunk-next : (f : Plateau → AggRow) (base : List AggRow) (chunks : List (Vec Plateau)) (i : ℕ) (chunk : Vec Plateau)
     (old new : List AggRow) → i < length chunks → chunk ≡ get_or chunks i chunk
     → old ≡ base ++ map f (all_in (take i chunks)) → new ≡ old ++ map f chunk.items

@@ -1,4 +1,4 @@
--- Groups are numbered by rising value, and rows are items of the numbers of their groups.
+-- Groups are numbered in ascending order of value, and rows become items with their group's number as class.
 use Rattle.std.proofs.Common.{◌≡◌, ◌⊎◌, ◌<◌, ◌≤◌, ◌+◌, ◌-◌, ◌==◌, ℕ, ℤ, zero, suc, Bool, true, false, cond, List, [], ◌∷◌, ◌++◌, length, map, take, get_or, All, AllPairs, Option, Some, None, inl, inr, refl, sym, ap, subst, ◌∙◌, arith, length-append}
 use Rattle.std.specs.Prelude.{slice_get, unwrap_or, Contains}
 use Rattle.std.specs.List.{AllZip}
@@ -28,7 +28,7 @@ use Rattle.agg_core.proofs.EntryLemmas.{AllZip-more}
 
 -- ---- the number of a value's group
 
--- two places of one group are one
+-- a group has one index
 place_once : (groups : List (Option Value)) (c d : ℕ) (g : Option Value) → RisesByGroup groups
     → slice_get groups c ≡ Some g → slice_get groups d ≡ Some g → c ≡ d
 place_once groups c d g rise at there = elim (by_order c d) [
@@ -51,7 +51,7 @@ place_once groups c d g rise at there = elim (by_order c d) [
         (subst (GroupBefore (get_or groups c g)) (get_or_from_slice_get groups d g g there) before) in
         before-asym maybe_cmp maybe_total g g itself itself
 
--- all groups come before one that none of them comes after, and that is not the last
+-- if no group comes after one that isn't the last, all come before it
 before_all : (groups : List (Option Value)) (group : Option Value) → RisesByGroup groups → AreNotAfter groups group
     → (IsLast groups group → ⊥) → (g : Option Value) → Contains groups g → GroupBefore g group
 before_all groups group rise upto not_last g (k, inside, e) = elim (not_after g group here) [
@@ -82,11 +82,11 @@ before_all groups group rise upto not_last g (k, inside, e) = elim (not_after g 
               (subst (GroupBefore g) (is ∙ sym same) before)
         ]
 
--- one thing alone is in any order
+-- a list of one element is in any order
 AllPairs-one : {X : Type 0} (R : X → X → Type 0) (x : X) → AllPairs R (x ∷ [])
 AllPairs-one R x i j d less inside = absurd (omega arith)
 
--- the value's group is added behind the others
+-- the value's group is appended
 pub class_of_added : (value : Value) (old new : List (Option Value)) (class : ℕ) → RisesByGroup old
     → AreNotAfter old (Some value) → (IsLast old (Some value) → ⊥) → new ≡ old ++ Some value ∷ [] → class ≡ length old
     → IsClassOf value old new class
@@ -112,7 +112,7 @@ class_of_added value old new class rise upto not_last put e =
 -- ---- numbered rows
 
 module _ {K : Type 0} (value_of : K → Value) (source : List Row) where
-  -- no group so far comes after the value of the next entry
+  -- no group until now comes after the value of the next entry
   pub upto_next : (amount_of : Row → ℤ) (entries : List (Entry K)) (i : ℕ) (e : Entry K) (items : List Item)
       (groups : List (Option Value)) → AreRising value_of entries → i < length entries → e ≡ get_or entries i e
       → AreItemsByGroup value_of source amount_of (take i entries) items groups
@@ -134,7 +134,7 @@ module _ {K : Type 0} (value_of : K → Value) (source : List Row) where
           (value_cmp (entry_value value_of (get_or entries i before)) (entry_value value_of x)) ≡ false) there
           (rising j i before less inside))
 
-  -- numbers stay where groups are added
+  -- numbers stay the same if groups are added
   each_kept : (amount_of : Row → ℤ) (old new : List (Option Value)) (es : List (Entry K)) (items : List Item)
       → ((c : ℕ) (g : Option Value) → slice_get old c ≡ Some g → slice_get new c ≡ Some g)
       → AllZip (IsNumberedItem value_of source amount_of old) es items
@@ -159,7 +159,7 @@ module _ {K : Type 0} (value_of : K → Value) (source : List Row) where
       (slice_get_within groups x.class (Some (entry_value value_of e)) all.0.at)
       (classes_within amount_of groups es items all.1)
 
-  -- one entry more
+  -- one more entry
   pub numbered_more : (amount_of : Row → ℤ) (entries : List (Entry K)) (i : ℕ) (e : Entry K) (items new : List Item)
       (x : Item)
       (groups groups' : List (Option Value)) (class : ℕ) → i < length entries → e ≡ get_or entries i e
@@ -210,7 +210,7 @@ module _ {K : Type 0} (value_of : K → Value) (source : List Row) where
 
 -- ---- the items of a class
 
--- one item more, of one row more, where both pass
+-- one more item and one more row, if both pass
 cond-item : (f : Row → Item) (x : Item) (r : Row) (b c : Bool) (items : List Item) (rows : List Row) → b ≡ c
     → (c ≡ true → x ≡ f r) → items ≡ map f rows → cond b (x ∷ items) items ≡ map f (cond c (r ∷ rows) rows)
 cond-item f x r b true items rows same is all =
@@ -218,7 +218,7 @@ cond-item f x r b true items rows same is all =
 cond-item f x r b false items rows same is all = ap (λ t. cond t (x ∷ items) items) same ∙ all
 
 module _ {K : Type 0} (value_of : K → Value) (source : List Row) where
-  -- the items of a group's number are the rows of that group
+  -- the items with a group's number are the rows of that group
   of_class-rows : (amount_of : Row → ℤ) (group_of : Row → Option Value) (groups : List (Option Value))
       (es : List (Entry K)) (items : List Item) (c : ℕ) (g : Option Value) → RisesByGroup groups
       → slice_get groups c ≡ Some g
@@ -255,7 +255,7 @@ module _ {K : Type 0} (value_of : K → Value) (source : List Row) where
           (λ t. to_group ((Decides-eqb x.class c).0 t), λ same. (Decides-eqb x.class c).1 (to_class same))
           (maybe_decides (group_of (entry_row source e)) g)
 
-  -- some item has the number of an entry's group
+  -- the group of an entry's value is listed
   entry_listed : (amount_of : Row → ℤ) (groups : List (Option Value)) (es : List (Entry K)) (items : List Item)
       → AllZip (IsNumberedItem value_of source amount_of groups) es items → (e : Entry K) → Contains es e
       → Contains groups (Some (entry_value value_of e))
@@ -270,7 +270,7 @@ module _ {K : Type 0} (value_of : K → Value) (source : List Row) where
     | inr later ↦ entry_listed amount_of groups es items all.1 e later
   ]
 
-  -- the rows of entries that were numbered
+  -- the rows of numbered entries
   pub grouping_of : (amount_of : Row → ℤ) (group_of : Row → Option Value) (es : List (Entry K)) (items : List Item)
       (groups : List (Option Value)) → AreInGroups value_of source group_of es
       → AreItemsByGroup value_of source amount_of es items groups
@@ -293,9 +293,9 @@ module _ {K : Type 0} (value_of : K → Value) (source : List Row) where
           All-contains (λ (b : Entry K). group_of (entry_row source b) ≡ Some (entry_value value_of b)) es e grouped
           there
 
--- ---- one group of all rows
+-- ---- all rows as one group
 
--- where no row has a group of its own, all are of one
+-- if no row has a group value, all rows are of one group
 all_of_one : (amount_of : Row → ℤ) (rows : List Row)
     → of_class 0 (map (amount_item amount_of 0) rows)
     ≡ map (amount_item amount_of 0) (rows_of_group (value_at_place None) None rows)

@@ -1,4 +1,4 @@
--- Groups by their order, keys as their values, and the rows of aggregates, whose order is total.
+-- Groups by their order, keys as their values, and the total order of an aggregate's rows.
 use Rattle.std.proofs.Common.{◌≡◌, ◌⊎◌, Bool, true, false, Option, inl, inr, refl, sym, ap, ◌∙◌}
 use Rattle.std.specs.declared.cmp.Ordering.{Ordering}
 use Rattle.std.specs.declared.cmp.Ordering.TheVariants.{Less, Equal, Greater}
@@ -19,7 +19,7 @@ use Rattle.agg_core.specs.Grouping.{GroupBefore}
 
 -- ---- groups
 
--- a group comes before another, or is it, or comes after it
+-- a group comes before another one, equals it, or comes after it
 group_cases : (a b : Option Value) → GroupBefore a b ⊎ ((a ≡ b) ⊎ GroupBefore b a)
 group_cases a b = by_cmp (maybe_cmp a b) refl where
   by_cmp : (o : Ordering) → maybe_cmp a b ≡ o → GroupBefore a b ⊎ ((a ≡ b) ⊎ GroupBefore b a)
@@ -27,7 +27,7 @@ group_cases a b = by_cmp (maybe_cmp a b) refl where
   by_cmp Equal e = inr (inl (maybe_exact a b e))
   by_cmp Greater e = inr (inr (maybe_total.antisymm b a ∙ ap ordering_reverse e))
 
--- a group that does not come after another comes before it, or is it
+-- a group that doesn't come after another one comes before it, or equals it
 pub not_after : (a b : Option Value) → is_lt (maybe_cmp b a) ≡ false → GroupBefore a b ⊎ (a ≡ b)
 not_after a b h = elim (group_cases a b) [
   | inl e ↦ inl e
@@ -37,7 +37,7 @@ not_after a b h = elim (group_cases a b) [
   ]
 ]
 
--- what comes before a group, or is it, doesn't come after it
+-- a group that comes before another one, or equals it, doesn't come after it
 pub not_after-from : (a b : Option Value) → GroupBefore a b ⊎ (a ≡ b) → is_lt (maybe_cmp b a) ≡ false
 not_after-from a b (inl e) = ap is_lt (maybe_total.antisymm b a ∙ ap ordering_reverse e)
 not_after-from a b (inr e) =
@@ -45,19 +45,19 @@ not_after-from a b (inr e) =
 
 -- ---- keys
 
--- keys are in the order of their values
+-- Keys have the order of their values.
 abbrev pub AreOrdered : {K : Type 0} → (K → Value) → (K → K → Ordering) → Type 0
 AreOrdered {K} value_of cmp = (a b : K) → cmp a b ≡ value_cmp (value_of a) (value_of b)
 
--- an entry's key is below another's
+-- An entry's key is below another's.
 abbrev pub key_lt : {K : Type 0} → (K → K → Ordering) → Entry K → Entry K → Bool
 key_lt cmp x y = is_lt (cmp x.key y.key)
 
--- an entry's value is below another's
+-- An entry's value is below another's.
 abbrev pub value_lt : {K : Type 0} → (K → Value) → Entry K → Entry K → Bool
 value_lt value_of x y = is_lt (value_cmp (entry_value value_of x) (entry_value value_of y))
 
--- both tests are one
+-- both tests are equal
 pub key_lt-value : {K : Type 0} (value_of : K → Value) (cmp : K → K → Ordering) → AreOrdered value_of cmp
     → key_lt cmp ≡ value_lt value_of
 key_lt-value value_of cmp ordered = λ i x y. is_lt (ordered x.key y.key i)
@@ -69,7 +69,7 @@ pub agg_row_total : IsTotalOrder agg_row_cmp
 agg_row_total =
     then_total (on_total (λ (x : AggRow). x.group) maybe_total) (on_total (λ (x : AggRow). x.period.from) int_cmp_total)
 
--- two aggregates of the same rows are one
+-- two aggregates of the same rows are equal
 pub one_aggregate : AggHasOneList
 one_aggregate columns func group rows one other is is' =
     IsListOf-unique AggRowBefore

@@ -1,4 +1,4 @@
--- The items of pieces of rows, one behind another.
+-- The items of partitions of rows, together.
 use Rattle.std.proofs.Common.{◌≡◌, ◌∙◌, ℕ, ◌++◌, List, None, Some, Result, Ok, Vec, Global, map, append-nil, sym, ap}
 use Rattle.std.specs.Ordering.{nat_cmp}
 use Rattle.std.specs.declared.alloc.AllocError.{AllocError}
@@ -14,7 +14,7 @@ use Rattle.share_core.proofs.ShareLemmas.{all_come}
 use Rattle.row_core.specs.declared.row.Row.{Row}
 use Rattle.dip_core.specs.declared.item.Item.{Item}
 
--- what is made of each row of a piece, piece by piece, is what is made of each row
+-- mapping the rows of each partition gives the same list as mapping all rows
 pub items-all : (make : Row → Item) (rows : List Row) (post : Range ℕ → ℕ → Result (Vec Item Global) AllocError → Type 0)
     (cuts : List (Cut ℕ)) (lists : List (Vec Item Global))
     → ((places : Range ℕ) (n : ℕ) (some : Vec Item Global) → post places n (Ok some)

@@ -1,4 +1,4 @@
--- The rows of an aggregate are those of the plateaus of its groups' numbers.
+-- The rows of an aggregate are the rows of its groups' constant intervals.
 use Rattle.std.proofs.Common.{rules, get_or, IsTrue, ◌≡◌, ◌<◌, ◌==◌, ℕ, ℤ, zero, suc, pos, Bool, true, List, [], ◌∷◌, length, map, All, Option, Some, None, inl, inr, refl, sym, ap, subst, ◌∙◌, arith}
 use Rattle.std.specs.Prelude.{bytes_eq, filter, option_map, IfSome, slice_get, slice_index_or, ◌<ℤ◌, Contains}
 use Rattle.std.specs.declared.cmp.Ordering.{Ordering}
@@ -47,39 +47,39 @@ use Rattle.agg_core.proofs.EntryLemmas.{filter-map}
 
 -- ---- values of items
 
--- where items come to a value there is one
+-- if items have a value, there is an item
 value_held : (measure : Measure) (items : List Item) (value t : ℤ) → HasValue measure items value t
     → (x : Item) × Contains items x
 value_held measure items value t has =
     let (x, there, is) = Contains-map_source (λ (y : Item). y.amount) (holding items t) has.tally.min has.is.min_in in
     (x, kept_in (λ (y : Item). holds_at t y.period) items x there)
 
--- in a period of one value there is an item
+-- so there is in a period with a value
 pub period_held : (measure : Measure) (items : List Item) (value : ℤ) (p : Period)
     → IsMaximal (HasValue measure items value) p → (x : Item) × Contains items x
 period_held measure items value p maximal =
     value_held measure items value p.from (maximal.inside p.from (first_held p))
 
--- the amounts of items are those of their rows
+-- the amounts of items are the amounts of their rows
 amounts-amount_item : (amount_of : Row → ℤ) (class : ℕ) (rows : List Row)
     → amounts (map (amount_item amount_of class) rows) ≡ map amount_of rows
 amounts-amount_item amount_of class [] = refl
 amounts-amount_item amount_of class (r ∷ rows) = ap (λ l. amount_of r ∷ l) (amounts-amount_item amount_of class rows)
 
--- the items that hold an instant are those of the rows that do
+-- the items that hold an instant are the items of the rows that do
 holding-amount_item : (amount_of : Row → ℤ) (c : ℕ) (rows : List Row) (t : ℤ)
     → holding (map (amount_item amount_of c) rows) t ≡ map (amount_item amount_of c) (rows_on t rows)
 holding-amount_item amount_of c rows t = filter-map (amount_item amount_of c) (λ (x : Item). holds_at t x.period) rows
 
--- so their amounts are those of these rows
+-- so their amounts are the amounts of these rows
 amounts_on : (amount_of : Row → ℤ) (c : ℕ) (rows : List Row) (t : ℤ)
     → amounts (holding (map (amount_item amount_of c) rows) t) ≡ map amount_of (rows_on t rows)
 amounts_on amount_of c rows t =
     ap amounts (holding-amount_item amount_of c rows t) ∙ amounts-amount_item amount_of c (rows_on t rows)
 
--- ---- what rows come to
+-- ---- the values of rows
 
--- what is asked of a tally is what the amounts come to
+-- the measured value of a tally is the measure of the amounts
 tally_comes : (measure : Measure) (items : List Item) (tally : Tally) → IsTally items tally
     → ComeTo measure (amounts items) (measured measure tally)
 tally_comes Count items tally is =
@@ -88,7 +88,7 @@ tally_comes Sum items tally is = is.sum
 tally_comes Min items tally is = (is.min_in, is.min_least)
 tally_comes Max items tally is = (is.max_in, is.max_greatest)
 
--- numbers come to one value
+-- numbers have one measure
 pub comes_once : (measure : Measure) (numbers : List ℤ) (v w : ℤ) → ComeTo measure numbers v → ComeTo measure numbers w
     → v ≡ w
 comes_once Count numbers v w a b = a ∙ sym b
@@ -96,17 +96,17 @@ comes_once Sum numbers v w a b = a ∙ sym b
 comes_once Min numbers v w a b = let f = a.1 w b.0 in let g = b.1 v a.0 in omega (arith, ints)
 comes_once Max numbers v w a b = let f = a.1 w b.0 in let g = b.1 v a.0 in omega (arith, ints)
 
--- what has something has one thing at least
+-- a list with an element isn't empty
 some_inside : {X : Type 0} (xs : List X) (x : X) → Contains xs x → 0 < length xs
 some_inside xs x (i, inside, e) = omega (arith, inside)
 
--- and the other way round
+-- and vice versa
 pub inside_some : {X : Type 0} (xs : List X) → 0 < length xs → (x : X) × Contains xs x
 inside_some [] some = absurd (omega (arith, some))
 inside_some (x ∷ xs) some = (x, Contains-head x xs)
 
 module _ (measure : Measure) (amount_of : Row → ℤ) (c : ℕ) (rows : List Row) (value : ℤ) where
-  -- what rows come to as items, they come to
+  -- the value of rows as items is the value of the rows
   rows_come : (t : ℤ) → HasValue measure (map (amount_item amount_of c) rows) value t
       → HoldAndComeTo measure amount_of rows value t
   rows_come t has =
@@ -121,7 +121,7 @@ module _ (measure : Measure) (amount_of : Row → ℤ) (c : ℕ) (rows : List Ro
             (tally_comes measure (holding (map (amount_item amount_of c) rows) t) has.tally has.is));
       }
 
-  -- what rows come to, they come to as items
+  -- the value of rows is the value of the rows as items
   pub items_come : (t : ℤ) → HoldAndComeTo measure amount_of rows value t
       → HasValue measure (map (amount_item amount_of c) rows) value t
   items_come t h = known (some_tally (map (amount_item amount_of c) rows) t)
@@ -142,7 +142,7 @@ module _ (measure : Measure) (amount_of : Row → ℤ) (c : ℕ) (rows : List Ro
             (tally_comes measure (holding (map (amount_item amount_of c) rows) t) tally is)) h.is;
       }
 
-  -- so the maximal periods of the one are those of the other
+  -- so both have the same maximal periods
   pub maximal_of_items : (p : Period) → IsMaximal (HasValue measure (map (amount_item amount_of c) rows) value) p
       → IsMaximal (HoldAndComeTo measure amount_of rows value) p
   maximal_of_items p =
@@ -155,13 +155,13 @@ module _ (measure : Measure) (amount_of : Row → ℤ) (c : ℕ) (rows : List Ro
       IsMaximal-same (HoldAndComeTo measure amount_of rows value)
       (HasValue measure (map (amount_item amount_of c) rows) value) p items_come rows_come
 
--- ---- rows of plateaus
+-- ---- rows of constant intervals
 
--- numbers are ordered as they are compared
+-- the comparison of a smaller number with a larger one
 pub int_less : (a b : ℤ) → a <ℤ b → int_cmp a b ≡ Less
 int_less a b h = grind (arith, ints)
 
--- a group of which a row is wanted is that of some row
+-- the group of an aggregate's row is the group of some row
 pub row_of_group : (measure : Measure) (amount_of : Row → ℤ) (group_of : Row → Option Value) (rows : List Row)
     (row : AggRow) → IsAggRow measure amount_of group_of rows row
     → (r : Row) × Contains rows r × (group_of r ≡ row.group)
@@ -176,7 +176,7 @@ row_of_group measure amount_of group_of rows row is =
       (maybe_decides (group_of r) row.group).0 test,
     )
 
--- where all classes are below a number, a plateau's is
+-- if all classes are below a number, so is the class of a constant interval
 plateau_within : (measure : Measure) (items : List Item) (n : ℕ) (p : Plateau)
     → All (λ (x : Item). x.class < n) items → IsPlateau measure items p → p.class < n
 plateau_within measure items n p within is =
@@ -188,11 +188,11 @@ plateau_within measure items n p within is =
 
 module _ (measure : Measure) (amount_of : Row → ℤ) (group_of : Row → Option Value) (rows : List Row) (items : List Item)
     (groups : List (Option Value)) (grouping : IsGrouping amount_of group_of rows items groups) where
-  -- a plateau's class is the number of a group
+  -- the class of a constant interval is the number of a group
   class_within : (p : Plateau) → IsPlateau measure items p → p.class < length groups
   class_within p is = plateau_within measure items (length groups) p grouping.within is
 
-  -- the plateaus of a group's number are maximal periods of its rows
+  -- the constant intervals of a group's number are maximal periods of its rows
   row_maximal : (c : ℕ) (g : Option Value) (value : ℤ) (p : Period) → slice_get groups c ≡ Some g
       → IsMaximal (HasValue measure (of_class c items) value) p
       → IsMaximal (HoldAndComeTo measure amount_of (rows_of_group group_of g rows) value) p
@@ -200,7 +200,7 @@ module _ (measure : Measure) (amount_of : Row → ℤ) (group_of : Row → Optio
       maximal_of_items measure amount_of c (rows_of_group group_of g rows) value p
       (subst (λ l. IsMaximal (HasValue measure l value) p) (grouping.of_classes c g at) maximal)
 
-  -- the maximal periods of a group's rows are plateaus of its number
+  -- the maximal periods of a group's rows are constant intervals of its number
   class_maximal : (c : ℕ) (g : Option Value) (value : ℤ) (p : Period) → slice_get groups c ≡ Some g
       → IsMaximal (HoldAndComeTo measure amount_of (rows_of_group group_of g rows) value) p
       → IsMaximal (HasValue measure (of_class c items) value) p
@@ -208,7 +208,7 @@ module _ (measure : Measure) (amount_of : Row → ℤ) (group_of : Row → Optio
       subst (λ l. IsMaximal (HasValue measure l value) p) (sym (grouping.of_classes c g at))
       (maximal_of_rows measure amount_of c (rows_of_group group_of g rows) value p maximal)
 
-  -- the row of a plateau is wanted
+  -- the row of a constant interval is a row of the aggregate
   row_of_plateau : (p : Plateau) → IsPlateau measure items p
       → IsAggRow measure amount_of group_of rows (agg_row_of groups p)
   row_of_plateau p is =
@@ -217,13 +217,13 @@ module _ (measure : Measure) (amount_of : Row → ℤ) (group_of : Row → Optio
             (slice_get-get_or groups p.class None (class_within p is)) is.maximal;
       }
 
-  -- the group of a row that is wanted has a number
+  -- the group of an aggregate's row has a number
   number_of_row : (row : AggRow) → IsAggRow measure amount_of group_of rows row → Contains groups row.group
   number_of_row row is =
       let (r, there, same) = row_of_group measure amount_of group_of rows row is in
       subst (Contains groups) same (grouping.listed r there)
 
-  -- a row that is wanted is that of a plateau
+  -- a row of the aggregate is the row of a constant interval
   plateau_of_row : (row : AggRow) → IsAggRow measure amount_of group_of rows row
       → (p : Plateau) × IsPlateau measure items p × (agg_row_of groups p ≡ row)
   plateau_of_row row is =
@@ -236,7 +236,7 @@ module _ (measure : Measure) (amount_of : Row → ℤ) (group_of : Row → Optio
         λ i. record { group = group_is i; period = row.period; value = row.value },
       )
 
-  -- rows stand in the order of their plateaus
+  -- rows have the order of their constant intervals
   rows_before : (a b : Plateau) → IsPlateau measure items b → PlateauBefore a b
       → AggRowBefore (agg_row_of groups a) (agg_row_of groups b)
   rows_before a b is (inl less) =
@@ -248,7 +248,7 @@ module _ (measure : Measure) (amount_of : Row → ℤ) (group_of : Row → Optio
       ∙ tied_itself maybe_total (slice_index_or groups b.class None))
       ∙ int_less a.period.from b.period.from earlier
 
-  -- the rows of all plateaus are all that is wanted
+  -- the rows of all constant intervals are the aggregate
   pub answer_of : (answer : List AggRow) → ArePlateauRows measure items groups answer
       → AreAggRows measure amount_of group_of rows answer
   answer_of answer made =
@@ -266,15 +266,15 @@ module _ (measure : Measure) (amount_of : Row → ℤ) (group_of : Row → Optio
         );
       })
 
--- ---- places of columns
+-- ---- indices of columns
 
--- the value at a column's place is that under its name
+-- the value at a column's index is the value under its name
 value_at_place-place_in : (columns : List Column) (name : Option (List ℕ))
     → value_at_place (place_in columns name) ≡ value_in columns name
 value_at_place-place_in columns None = refl
 value_at_place-place_in columns (Some n) = refl
 
--- the place of a group's column, where one is named, is that of a column
+-- the index of a named group column is within the columns
 pub group-there : (columns : List Column) (group : Option (List ℕ)) (by : Option ℕ) → by ≡ place_in columns group
     → IfSome by (λ place. place < length columns)
 group-there columns group None e = tt
@@ -295,14 +295,14 @@ kind_there (c ∷ columns) (v ∷ values) zero k fit e =
 kind_there (c ∷ columns) (v ∷ values) (suc place) k fit e =
     kind_there columns values place k (and_parts (same_kind c.kind (kind_of v)) (fits columns values) fit).1 e
 
--- rows that fit columns have values of the kind of each
+-- rows that fit columns have values of each column's kind
 pub kinds_there : (columns : List Column) (rows : List Row) (place : ℕ) (k : Kind)
     → All (λ (row : Row). IsTrue (fits columns row.values)) rows
     → option_map (λ (c : Column). c.kind) (slice_get columns place) ≡ Some k → HaveValues k place rows
 kinds_there columns rows place k fit e i d inside =
     kind_there columns (get_or rows i d).values place k (fit i d inside) e
 
--- an aggregate by places is one by names
+-- an aggregate by indices is an aggregate by names
 pub agg_by_names : (columns : List Column) (func : Func) (group : Option (List ℕ)) (rows : List Row) (measure : Measure)
     (amount by : Option ℕ) (answer : List AggRow) → measure ≡ measure_of func
     → amount ≡ place_in columns (number_column func) → by ≡ place_in columns group

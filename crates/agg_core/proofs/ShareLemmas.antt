@@ -1,4 +1,4 @@
--- What rows come to, from what two shares of them come to that have no group in common.
+-- The aggregate of rows, from the aggregates of two partitions without a common group.
 use Rattle.std.proofs.Common.{◌≡◌, ◌⊎◌, ℕ, ℤ, Bool, true, false, cond, not, ◌&&◌, List, [], ◌∷◌, ◌++◌, map, Option, None, Some, Result, Ok, inl, inr, refl, sym, ap, subst, ◌∙◌, append-nil}
 use Rattle.std.specs.Prelude.{filter, option_map, Contains}
 use Rattle.std.specs.declared.cmp.Ordering.{Ordering}
@@ -39,14 +39,14 @@ use Rattle.agg_core.proofs.PlateauLemmas.{answer_of, row_of_group}
 
 -- ---- rows of a group
 
--- where no test passes, nothing does
+-- if no element passes the test, the filtered list is empty
 none_pass : {A : Type 0} (p : A → Bool) (xs : List A) → ((x : A) → Contains xs x → p x ≡ false) → filter p xs ≡ []
 none_pass p [] fails = refl
 none_pass p (x ∷ xs) fails =
     ap (λ b. cond b (x ∷ filter p xs) (filter p xs)) (fails x (Contains-head x xs))
     ∙ none_pass p xs (λ y h. fails y (Contains-cons x xs y h))
 
--- a row that is wanted of some rows is wanted of others, where its group has the same rows there
+-- a row of the aggregate of some rows is a row of another's if its group has the same rows there
 same_rows : (measure : Measure) (amount_of : Row → ℤ) (group_of : Row → Option Value) (some other : List Row)
     (row : AggRow) → rows_of_group group_of row.group some ≡ rows_of_group group_of row.group other
     → IsAggRow measure amount_of group_of some row → IsAggRow measure amount_of group_of other row
@@ -55,7 +55,7 @@ same_rows measure amount_of group_of some other row same is = record {
       subst (λ (l : List Row). IsMaximal (HoldAndComeTo measure amount_of l row.value) row.period) same is.maximal;
 }
 
--- what some rows come to is what others do that are the same ones, group by group
+-- rows that are equal group by group have the same aggregate
 same_answer : (measure : Measure) (amount_of : Row → ℤ) (group_of : Row → Option Value) (some other : List Row)
     (answer : List AggRow)
     → ((group : Option Value) → rows_of_group group_of group some ≡ rows_of_group group_of group other)
@@ -65,9 +65,9 @@ same_answer measure amount_of group_of some other answer same all =
     (λ row. same_rows measure amount_of group_of some other row (same row.group))
     (λ row. same_rows measure amount_of group_of other some row (sym (same row.group))) all
 
--- ---- two shares
+-- ---- two partitions
 
--- groups that are not one are found to be two
+-- the test is false for groups that aren't equal
 other_group : (a b : Option Value) → (a ≡ b → ⊥) → same_maybe a b ≡ false
 other_group a b other = by_test (same_maybe a b) refl where
   by_test : (t : Bool) → same_maybe a b ≡ t → same_maybe a b ≡ false
@@ -79,7 +79,7 @@ before_itself : (a b : Option Value) → GroupBefore a b → a ≡ b → ⊥
 before_itself a b less e =
     let bad : Less ≡ Equal = sym less ∙ ap (λ (v : Option Value). maybe_cmp v b) e ∙ tied_itself maybe_total b in cc
 
--- each group of some rows comes before each group of others
+-- Each group of some rows comes before each group of others.
 abbrev AreApart : (Row → Option Value) → List Row → List Row → Type 0
 AreApart group_of low high =
     (a b : Row) → Contains low a → Contains high b → GroupBefore (group_of a) (group_of b)
@@ -102,7 +102,7 @@ module _ (measure : Measure) (amount_of : Row → ℤ) (group_of : Row → Optio
       other_group (group_of r) (group_of b) (λ same. before_itself (group_of r) (group_of b) (apart r b there here)
       same))
 
-  -- all rows of a group of the lower rows are among these
+  -- all rows of a lower row's group are lower rows
   low_rows : (a : Row) → Contains low a
       → rows_of_group group_of (group_of a) (low ++ high) ≡ rows_of_group group_of (group_of a) low
   low_rows a here =
@@ -110,14 +110,14 @@ module _ (measure : Measure) (amount_of : Row → ℤ) (group_of : Row → Optio
       ∙ ap (λ l. rows_of_group group_of (group_of a) low ++ l) (low_alone a here)
       ∙ append-nil (rows_of_group group_of (group_of a) low)
 
-  -- and all of a group of the higher ones, among those
+  -- and all rows of a higher row's group are higher rows
   high_rows : (b : Row) → Contains high b
       → rows_of_group group_of (group_of b) (low ++ high) ≡ rows_of_group group_of (group_of b) high
   high_rows b here =
       filter-append (λ (r : Row). same_maybe (group_of r) (group_of b)) low high
       ∙ ap (λ l. l ++ rows_of_group group_of (group_of b) high) (high_alone b here)
 
-  -- what is wanted of all rows is wanted of one share's
+  -- a row of the aggregate of all rows is a row of one partition's aggregate
   wanted_of_one : (row : AggRow) → IsAggRow measure amount_of group_of (low ++ high) row
       → IsAggRow measure amount_of group_of low row ⊎ IsAggRow measure amount_of group_of high row
   wanted_of_one row is =
@@ -133,7 +133,7 @@ module _ (measure : Measure) (amount_of : Row → ℤ) (group_of : Row → Optio
             (high_rows r later)) is)
       ]
 
-  -- and what is wanted of the lower share's rows is wanted of all
+  -- a row of the lower partition's aggregate is a row of the whole aggregate
   wanted_of_low : (row : AggRow) → IsAggRow measure amount_of group_of low row
       → IsAggRow measure amount_of group_of (low ++ high) row
   wanted_of_low row is =
@@ -142,7 +142,7 @@ module _ (measure : Measure) (amount_of : Row → ℤ) (group_of : Row → Optio
       (subst (λ (g : Option Value). rows_of_group group_of g low ≡ rows_of_group group_of g (low ++ high)) same
       (sym (low_rows r there))) is
 
-  -- of the higher share's too
+  -- so is a row of the higher partition's aggregate
   wanted_of_high : (row : AggRow) → IsAggRow measure amount_of group_of high row
       → IsAggRow measure amount_of group_of (low ++ high) row
   wanted_of_high row is =
@@ -151,7 +151,7 @@ module _ (measure : Measure) (amount_of : Row → ℤ) (group_of : Row → Optio
       (subst (λ (g : Option Value). rows_of_group group_of g high ≡ rows_of_group group_of g (low ++ high)) same
       (sym (high_rows r there))) is
 
-  -- the lower share's rows stand before the others
+  -- the lower partition's rows come before the others
   shares_before : (x y : AggRow) → IsAggRow measure amount_of group_of low x
       → IsAggRow measure amount_of group_of high y → AggRowBefore x y
   shares_before x y is is' =
@@ -161,7 +161,7 @@ module _ (measure : Measure) (amount_of : Row → ℤ) (group_of : Row → Optio
       (subst (λ (g : Option Value). maybe_cmp g y.group ≡ Less) same
       (subst (λ (g : Option Value). maybe_cmp (group_of r) g ≡ Less) same' (apart r r' there there')))
 
-  -- what both shares come to
+  -- the aggregates of both partitions
   both_shares : (rows more : List AggRow) → AreAggRows measure amount_of group_of low rows
       → AreAggRows measure amount_of group_of high more
       → AreAggRows measure amount_of group_of (low ++ high) (rows ++ more)
@@ -172,12 +172,12 @@ module _ (measure : Measure) (amount_of : Row → ℤ) (group_of : Row → Optio
 
 -- ---- the order of groups
 
--- what is denied is false
+-- a negated test is false
 denied : (t : Bool) → not t ≡ true → t ≡ false
 denied true e = cc
 denied false e = refl
 
--- what isn't reached comes before
+-- a group that doesn't reach another one comes before it
 known_before : (a b : Option Value) → is_from maybe_cmp b a ≡ false → GroupBefore a b
 known_before a b e = by_cmp (maybe_cmp a b) refl e where
   by_cmp : (o : Ordering) → maybe_cmp a b ≡ o → not (is_lt o) ≡ false → GroupBefore a b
@@ -185,16 +185,16 @@ known_before a b e = by_cmp (maybe_cmp a b) refl e where
   by_cmp Equal c t = cc
   by_cmp Greater c t = cc
 
--- what comes before a group comes before each that isn't before that
+-- a group before another one is before each group that doesn't come before the latter
 before_from : (a b c : Option Value) → GroupBefore a b → is_from maybe_cmp b c ≡ true → GroupBefore a c
 before_from a b c less from = elim (not_after b c (denied (is_lt (maybe_cmp c b)) from)) [
   | inl more ↦ maybe_total.trans a b c less more
   | inr same ↦ subst (λ (v : Option Value). maybe_cmp a v ≡ Less) same less
 ]
 
--- ---- shares by value
+-- ---- partitions by value
 
--- what passes one test passes another that lets nothing else pass
+-- a test that all elements passing another test pass removes none of these
 pub keep_all : {A : Type 0} (p t : A → Bool) (xs : List A) → ((x : A) → Contains xs x → t x ≡ true → p x ≡ true)
     → filter t (filter p xs) ≡ filter t xs
 keep_all p t [] all = refl
@@ -210,7 +210,7 @@ keep_all p t (x ∷ xs) all = split (p x) (t x) refl refl (keep_all p t xs (λ y
         absurd (let bad : true ≡ false = sym (all x (Contains-head x xs) f) ∙ e in cc)
     split false false e f rest = rest
 
--- where a test fails for all that passes another, nothing passes both
+-- a test that no element passing another test passes removes all of these
 keep_none : {A : Type 0} (p t : A → Bool) (xs : List A) → ((x : A) → Contains xs x → t x ≡ true → p x ≡ false)
     → filter t (filter p xs) ≡ []
 keep_none p t [] none = refl
@@ -232,12 +232,12 @@ module _ (group_of : Row → Option Value) (rows : List Row) (v : Option Value) 
   high_of : Row → Bool
   high_of row = is_from maybe_cmp v (group_of row)
 
-  -- a row of a group is in the group's share
+  -- a row of a group is in the group's partition
   on_side : (group : Option Value) (row : Row) → same_maybe (group_of row) group ≡ true
       → is_from maybe_cmp v (group_of row) ≡ is_from maybe_cmp v group
   on_side group row same = ap (is_from maybe_cmp v) ((maybe_decides (group_of row) group).0 same)
 
-  -- a group's rows are the same ones, share by share
+  -- a group's rows are the same, partition by partition
   same_group : (group : Option Value)
       → rows_of_group group_of group (filter low_of rows ++ filter high_of rows) ≡ rows_of_group group_of group rows
   unfolding low_of high_of
@@ -259,7 +259,7 @@ module _ (group_of : Row → Option Value) (rows : List Row) (v : Option Value) 
           (keep_none low_of mine rows (λ r h same. ap not (on_side group r same ∙ is)))
           ∙ keep_all high_of mine rows (λ r h same. on_side group r same ∙ is)
 
-  -- the groups of both shares are apart
+  -- the groups of both partitions are apart
   values_apart : AreApart group_of (filter low_of rows) (filter high_of rows)
   unfolding low_of high_of
   values_apart a b here there =
@@ -270,9 +270,9 @@ module _ (group_of : Row → Option Value) (rows : List Row) (v : Option Value) 
       All-contains (λ (r : Row). high_of r ≡ true) (filter high_of rows) b (filter_passes high_of rows) there in
       before_from (group_of a) v (group_of b) (known_before (group_of a) v p) q
 
--- ---- shares by range
+-- ---- partitions by range
 
--- what passes one test and then another passes both
+-- filtering twice is filtering by both tests
 filter_twice : {A : Type 0} (p q : A → Bool) (xs : List A) → filter q (filter p xs) ≡ filter (λ x. p x && q x) xs
 filter_twice p q [] = refl
 filter_twice p q (x ∷ xs) = split (p x) (filter_twice p q xs)
@@ -284,20 +284,20 @@ filter_twice p q (x ∷ xs) = split (p x) (filter_twice p q xs)
     split false rest = rest
 
 module _ {K : Type 0} (value_of : K → Value) (cmp : K → K → Ordering) (ordered : AreOrdered value_of cmp) where
-  -- a range has begun at a key where the range of its groups has at the key's
+  -- a range has begun at a key exactly if the range of its groups has begun at the key's group
   begun_same : (from : Option K) (key : K)
       → has_begun cmp from key ≡ has_begun maybe_cmp (option_map (group_of_key value_of) from)
       (group_of_key value_of key)
   begun_same None key = refl
   begun_same (Some first) key = ap (λ o. not (is_lt o)) (ordered key first)
 
-  -- it is over there where that is
+  -- and it has ended there exactly if the other one has
   ended_same : (end : Option K) (key : K)
       → has_ended cmp end key ≡ has_ended maybe_cmp (option_map (group_of_key value_of) end) (group_of_key value_of key)
   ended_same None key = refl
   ended_same (Some first) key = ap (λ o. not (is_lt o)) (ordered key first)
 
-  -- a range has a key where the range of its groups has the key's
+  -- a range contains a key exactly if the range of its groups contains the key's group
   pub has_same : (keys : Range K) (key : K) → has cmp keys key ≡ in_range value_of keys (group_of_key value_of key)
   has_same keys key =
       ap (λ b. b && not (has_ended cmp keys.before key)) (begun_same keys.from key)
@@ -305,7 +305,7 @@ module _ {K : Type 0} (value_of : K → Value) (cmp : K → K → Ordering) (ord
       (λ b. has_begun maybe_cmp (option_map (group_of_key value_of) keys.from) (group_of_key value_of key) && not b)
       (ended_same keys.before key)
 
-  -- what the rows of a range without an end come to, from those of its values before a key's and those from it on
+  -- the aggregate of a range without an end, from the aggregates of its values before a key and from the key on
   AreAggRows-ranges : (measure : Measure) (amount_of : Row → ℤ) (group_of : Row → Option Value) (from : Option K)
       (at : K) (rows : List Row) (answer more : List AggRow) → has_begun cmp from at ≡ true
       → AreAggRows measure amount_of group_of (rows_in_range value_of group_of (range from (Some at)) rows) answer
@@ -337,7 +337,7 @@ module _ {K : Type 0} (value_of : K → Value) (cmp : K → K → Ordering) (ord
   rows_in_range-all group_of [] = refl
   rows_in_range-all group_of (row ∷ rows) = ap (λ l. row ∷ l) (rows_in_range-all group_of rows)
 
-  -- what the rows of each range come to, one behind another, is what all rows come to
+  -- the aggregates of all ranges together are the aggregate of all rows
   pub rows-all : (measure : Measure) (amount_of : Row → ℤ) (group_of : Row → Option Value) (rows : List Row)
       (post : Range K → ℕ → Result AggShare AllocError → Type 0) (cuts : List (Cut K)) (shares : List AggShare)
       → ((keys : Range K) (n : ℕ) (share : AggShare) → post keys n (Ok share)
@@ -359,9 +359,9 @@ module _ {K : Type 0} (value_of : K → Value) (cmp : K → K → Ordering) (ord
       (known (range from (Some at)) one.0 share one.1) others)
       None cuts shares given)
 
--- ---- what listed rows come to
+-- ---- the aggregate of listed rows
 
--- what rows come to, from the plateaus of their sorted entries
+-- the aggregate of rows, from the constant intervals of their sorted entries
 pub answer_of_entries : {K : Type 0} (value_of : K → Value) (source : List Row) (measure : Measure)
     (amount_of : Row → ℤ) (place : ℕ) (rows : List Row) (made sorted : List (Entry K))
     (items : List Item) (groups : List (Option Value)) (answer : List AggRow)

@@ -39,16 +39,16 @@ use Rattle.agg_core.proofs.ClipLemmas.{AllPairs-filter_map, Contains-filter_map,
 use Rattle.agg_core.proofs.OrderLemmas.{agg_row_total}
 use Rattle.agg_core.proofs.PlateauLemmas.{comes_once, inside_some, int_less, items_come, maximal_of_items}
 
--- ---- what clipped rows come to
+-- ---- the values of clipped rows
 
--- a choice between one thing and itself
+-- a choice between two equal values
 cond-same : {X : Type 0} (b : Bool) (x : X) → cond b x x ≡ x
 cond-same true x = refl
 cond-same false x = refl
 
 module _ (amount_of : Row → ℤ) (kept : (row : Row) (p : Period) → amount_of (row_in row p) ≡ amount_of row)
     (slice : Period) (t : ℤ) (in_slice : Holds slice t) where
-  -- at an instant of the slice the amounts of clipped rows are those of the rows
+  -- at an instant of the slice, clipped rows have the amounts of the rows
   pub amounts_within : (rows : List Row)
       → map amount_of (rows_on t (rows_within slice rows)) ≡ map amount_of (rows_on t rows)
   amounts_within [] = refl
@@ -82,7 +82,7 @@ module _ (amount_of : Row → ℤ) (kept : (row : Row) (p : Period) → amount_o
 
 module _ (group_of : Row → Option Value) (kept : (row : Row) (p : Period) → group_of (row_in row p) ≡ group_of row)
     (slice : Period) (group : Option Value) where
-  -- a row is of the group
+  -- A row is of the group.
   abbrev is_own : Row → Bool
   is_own row = same_maybe (group_of row) group
 
@@ -113,7 +113,7 @@ module _ (group_of : Row → Option Value) (kept : (row : Row) (p : Period) → 
           ∙ ap (λ (l : List Row). cond (is_own r) (row_in r p ∷ l) l) rest
 
 module _ (measure : Measure) (amount_of : Row → ℤ) where
-  -- rows with the same amounts at an instant come to the same there
+  -- rows with the same amounts at an instant have the same value there
   same_amounts : (some other : List Row) (value t : ℤ)
       → map amount_of (rows_on t some) ≡ map amount_of (rows_on t other)
       → HoldAndComeTo measure amount_of some value t → HoldAndComeTo measure amount_of other value t
@@ -124,7 +124,7 @@ module _ (measure : Measure) (amount_of : Row → ℤ) where
       let any = h.some in
       record { some = omega (arith, long, long', alike, any); is = subst (λ l. ComeTo measure l value) e h.is }
 
-  -- where rows come to something, one of them holds
+  -- if rows have a value, one of them holds
   holding_row : (rows : List Row) (value t : ℤ) → HoldAndComeTo measure amount_of rows value t
       → (row : Row) × Contains rows row × Holds row.period t
   holding_row rows value t h =
@@ -134,7 +134,7 @@ module _ (measure : Measure) (amount_of : Row → ℤ) where
         Holds-from_test t r.period (kept_passes (λ (z : Row). holds_at t z.period) rows r there),
       )
 
-  -- clipped rows come to nothing outside the slice
+  -- clipped rows have no value outside the slice
   within_slice : (slice : Period) (rows : List Row) (value t : ℤ)
       → HoldAndComeTo measure amount_of (rows_within slice rows) value t → Holds slice t
   within_slice slice rows value t h =
@@ -144,7 +144,7 @@ module _ (measure : Measure) (amount_of : Row → ℤ) where
       let in_p : Holds p t = subst (λ (v : Row). Holds v.period t) (sym is) held in
       ((shared t).0 in_p).1
 
-  -- around an instant at which rows come to a value there is a maximal period of it
+  -- there is a maximal period around an instant with a value
   value_around : (rows : List Row) (value t : ℤ) → HoldAndComeTo measure amount_of rows value t
       → (p : Period) × Holds p t × IsMaximal (HoldAndComeTo measure amount_of rows value) p
   value_around rows value t h =
@@ -157,7 +157,7 @@ module _ (measure : Measure) (amount_of : Row → ℤ) where
       (λ u k. (between u k).0) (λ u k. (between u k).1) t (items_come measure amount_of 0 rows value t h) in
       (p, held, maximal_of_items measure amount_of 0 rows value p maximal)
 
-  -- rows come to one value at an instant
+  -- rows have one value at an instant
   one_value : (rows : List Row) (v w t : ℤ) → HoldAndComeTo measure amount_of rows v t
       → HoldAndComeTo measure amount_of rows w t → v ≡ w
   one_value rows v w t h k = comes_once measure (map amount_of (rows_on t rows)) v w h.is k.is
@@ -165,16 +165,16 @@ module _ (measure : Measure) (amount_of : Row → ℤ) where
   module _ (amount_kept : (row : Row) (p : Period) → amount_of (row_in row p) ≡ amount_of row)
       (group_of : Row → Option Value) (group_kept : (row : Row) (p : Period) → group_of (row_in row p) ≡ group_of row)
       (rows : List Row) where
-    -- what a group's rows come to
+    -- The value of a group's rows.
     abbrev Comes : Option Value → ℤ → ℤ → Type 0
     Comes group value t = HoldAndComeTo measure amount_of (rows_of_group group_of group rows) value t
 
-    -- what its clipped rows come to
+    -- The value of its clipped rows.
     abbrev ComesWithin : Period → Option Value → ℤ → ℤ → Type 0
     ComesWithin slice group value t =
         HoldAndComeTo measure amount_of (rows_of_group group_of group (rows_within slice rows)) value t
 
-    -- at each instant of a slice clipped rows come to what the rows do, and at no other to anything
+    -- at each instant of a slice clipped rows have the rows' value, and at other instants none
     slice_comes : (slice : Period) (group : Option Value) (value t : ℤ)
         → ComesWithin slice group value t ↔ (Holds slice t × Comes group value t)
     slice_comes slice group value t =
@@ -194,15 +194,15 @@ module _ (measure : Measure) (amount_of : Row → ℤ) where
               (sym (amounts_within amount_of amount_kept slice t both.0 own)) both.1),
         )
 
-    -- a row of the aggregate of all
+    -- A row of the whole aggregate.
     abbrev IsWhole : AggRow → Type 0
     IsWhole = IsAggRow measure amount_of group_of rows
 
-    -- a row of that of a slice
+    -- A row of a slice's aggregate.
     abbrev IsSlices : Period → AggRow → Type 0
     IsSlices slice = IsAggRow measure amount_of group_of (rows_within slice rows)
 
-    -- what a row of the aggregate of all has in a slice is a row of the slice's
+    -- a row of the whole aggregate, clipped to a slice, is a row of the slice's aggregate
     clipped_row : (slice : Period) (row clip : AggRow) → IsWhole row → agg_row_within slice row ≡ Some clip
         → IsSlices slice clip
     clipped_row slice row clip is made =
@@ -214,7 +214,7 @@ module _ (measure : Measure) (amount_of : Row → ℤ) where
               (clipped_maximal (Comes row.group row.value) slice row.period p is.maximal shared);
         })
 
-    -- a row of a slice's aggregate is what one of the aggregate of all has in the slice
+    -- a row of a slice's aggregate is a row of the whole aggregate, clipped to the slice
     whole_row : (slice : Period) (clip : AggRow) → IsSlices slice clip
         → (row : AggRow) × IsWhole row × (agg_row_within slice row ≡ Some clip)
     whole_row slice clip is =
@@ -229,7 +229,7 @@ module _ (measure : Measure) (amount_of : Row → ℤ) where
         let shared = shared_maximal (Comes clip.group clip.value) slice p clip.period maximal m held in
         (agg_row_in clip p, record { maximal = maximal }, made_of_shared (agg_row_in clip) p slice clip.period shared)
 
-    -- of two rows of one group that start one after the other, what they have in a slice does too
+    -- if two rows of one group start one after the other, so do the clipped rows
     clips_start : (slice : Period) (a b : AggRow) (p q : Period) → IsWhole a → IsWhole b → a.group ≡ b.group
         → a.period.from <ℤ b.period.from → IsShared a.period slice p → IsShared b.period slice q → p.from <ℤ q.from
     clips_start slice a b p q is is' same less in_a in_b = elim (by_order q.from p.from) [
@@ -272,7 +272,7 @@ module _ (measure : Measure) (amount_of : Row → ℤ) where
             let bad : Greater ≡ Less =
             sym (ap (λ (o : Ordering). ordering_then o (int_cmp a.period.from b.period.from)) e) ∙ before in cc)
 
-    -- the aggregate of a slice is that of all, clipped
+    -- the aggregate of a slice is the whole aggregate, clipped
     slice_agg : (slice : Period) (whole answer : List AggRow) → AreAggRows measure amount_of group_of rows whole
         → AreAggRows measure amount_of group_of (rows_within slice rows) answer
         → answer ≡ agg_rows_within slice whole
@@ -302,7 +302,7 @@ module _ (measure : Measure) (amount_of : Row → ℤ) where
     module _ (slices : List Period) (answer_of : Period → List AggRow) (covered : AreCoveredBy slices rows)
         (each : (slice : Period) → Contains slices slice
         → AreAggRows measure amount_of group_of (rows_within slice rows) (answer_of slice)) where
-      -- what some slice's answer says a group comes to it comes to
+      -- a value in some slice's answer is the group's value
       answered_comes : (group : Option Value) (value t : ℤ) → IsAnswered slices answer_of group value t
           → Comes group value t
       answered_comes group value t a =
@@ -312,7 +312,7 @@ module _ (measure : Measure) (amount_of : Row → ℤ) where
           subst (λ (v : ℤ). Comes group v t) a.value_is
           (subst (λ (g : Option Value). Comes g a.row.value t) a.group_is there)
 
-      -- what a group comes to some slice's answer says
+      -- a group's value is in some slice's answer
       comes_answered : (group : Option Value) (value t : ℤ) → Comes group value t
           → IsAnswered slices answer_of group value t
       comes_answered group value t h =
@@ -333,7 +333,7 @@ module _ (measure : Measure) (amount_of : Row → ℤ) where
             holds = around;
           }
 
-      -- so the rows of the aggregate of all are the answers, closed up
+      -- so the rows of the whole aggregate are the coalesced answers
       closed_up : (row : AggRow) → IsWhole row → IsClosedUp slices answer_of row
       closed_up row is = record {
         maximal = IsMaximal-same (Comes row.group row.value) (IsAnswered slices answer_of row.group row.value)
@@ -354,7 +354,7 @@ module _ (measure : Measure) (amount_of : Row → ℤ) where
         IsListOf-same AggRowBefore (IsClosedUp slices answer_of) IsWhole whole whole_of_closed closed_up,
       )
 
--- so it is of a table's rows: their amounts and groups are those of their values alone
+-- so it is for a table's rows, because their amounts and groups depend only on their values
 pub slice_comes_to_the_same : SliceComesToTheSame
 slice_comes_to_the_same columns func group rows slice of_group value t =
     slice_comes (measure_of func) (amount_in columns func) (λ row p. refl) (value_in columns group) (λ row p. refl) rows

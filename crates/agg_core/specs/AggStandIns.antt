@@ -1,4 +1,4 @@
--- The aggregate of rows that stand for others, beside the aggregate of those.
+-- The aggregate of rows that stand for others, compared with the aggregate of the others.
 use Rattle.std.specs.Prelude.{◌≡◌, ◌↔◌, ℕ, ℤ, List, Contains, Option, map}
 use Rattle.std.specs.declared.cmp.Ordering.TheVariants.{Less}
 use Rattle.row_core.specs.ValueOrder.{maybe_cmp}
@@ -9,14 +9,14 @@ use Rattle.agg_core.specs.Agg.{IsAgg, amount_in, measure_of, value_in}
 use Rattle.row_core.specs.declared.func.Func.{Func}
 use Rattle.agg_core.specs.declared.rows.AggRow.{AggRow}
 
--- each of some rows has the period, the amount and the group of the row that a function gives
+-- Each row has the period, the amount and the group of the row `row_of` maps it to.
 pub record StandInGroups (amount_here amount_there : Row → ℤ) (group_here group_there : Row → Option Value)
     (row_of : Row → Row) (rows : List Row) : Type 0 where
   pub period_is : (row : Row) → Contains rows row → (row_of row).period ≡ row.period
   pub amount_is : (row : Row) → Contains rows row → amount_there (row_of row) ≡ amount_here row
   pub group_is : (row : Row) → Contains rows row → group_there (row_of row) ≡ group_here row
 
--- the aggregate of rows that stand for others is the aggregate of these
+-- The aggregate of rows that stand for others is the aggregate of the others.
 abbrev pub AggIsOfStandIns : Type 0
 AggIsOfStandIns =
     (columns_here columns_there : List Column) (func_here func_there : Func) (by_here by_there : Option (List ℕ))
@@ -27,8 +27,8 @@ AggIsOfStandIns =
     → IsAgg columns_here func_here by_here rows answer
     ↔ IsAgg columns_there func_there by_there (map row_of rows) answer
 
--- each of some rows has the period and the amount of the row that a function gives, and a group for which another function
--- gives that row's; of two rows' groups, it gives the lesser for the lesser
+-- Each row has the period and the amount of the row `row_of` maps it to. `group_of` maps its group to that row's
+-- group, and keeps the order of groups.
 pub record RankGroups (amount_here amount_there : Row → ℤ) (group_here group_there : Row → Option Value)
     (row_of : Row → Row) (group_of : Option Value → Option Value) (rows : List Row) : Type 0 where
   pub period_is : (row : Row) → Contains rows row → (row_of row).period ≡ row.period
@@ -37,12 +37,12 @@ pub record RankGroups (amount_here amount_there : Row → ℤ) (group_here group
   pub rises : (x y : Row) → Contains rows x → Contains rows y → maybe_cmp (group_here x) (group_here y) ≡ Less
       → maybe_cmp (group_of (group_here x)) (group_of (group_here y)) ≡ Less
 
--- a row of an aggregate, of the group that a function gives for its own
+-- An aggregate's row with its group mapped by `group_of`.
 abbrev pub with_group : (Option Value → Option Value) → AggRow → AggRow
 with_group group_of row = record row { group = group_of row.group }
 
--- the aggregate of rows whose groups rise as those do of the rows that they stand for is, with the groups of these, the
--- aggregate of these
+-- The aggregate of rows whose groups have the order of the others' groups is, with the others' groups, the aggregate
+-- of the others.
 abbrev pub AggIsOfRanks : Type 0
 AggIsOfRanks =
     (columns_here columns_there : List Column) (func_here func_there : Func) (by_here by_there : Option (List ℕ))

@@ -15,27 +15,27 @@ use Rattle.agg_core.specs.Groups.{rows_of_group}
 use Rattle.agg_core.specs.declared.entries.Entry.{Entry}
 use Rattle.agg_core.specs.declared.rows.AggRow.{AggRow}
 
--- a row with its amount, as an item of a class
+-- A row with its amount, as an item of a class.
 abbrev pub amount_item : (Row → ℤ) → ℕ → Row → Item
 amount_item amount_of class row = record { period = row.period; id = row.id; class = class; amount = amount_of row }
 
--- a group comes before another: that of no value before those of values, and these by value
+-- The order of groups: the group without a value first, and the others by value.
 abbrev pub GroupBefore : Option Value → Option Value → Type 0
 GroupBefore a b = maybe_cmp a b ≡ Less
 
--- each group comes before all later ones
+-- Each group comes before all later ones.
 abbrev pub RisesByGroup : List (Option Value) → Type 0
 RisesByGroup groups = AllPairs GroupBefore groups
 
--- no group comes after that one
+-- No group comes after this one.
 abbrev pub AreNotAfter : List (Option Value) → Option Value → Type 0
 AreNotAfter groups group = All (λ g. is_lt (maybe_cmp group g) ≡ false) groups
 
--- the group is the last one
+-- The group is the last one.
 abbrev pub IsLast : List (Option Value) → Option Value → Type 0
 IsLast groups group = slice_get groups (length groups - 1) ≡ Some group
 
--- the class is the number of the last group, which is that of the value; earlier groups keep their numbers
+-- The class is the number of the last group, which has the value; earlier groups keep their numbers.
 pub record IsClassOf (value : Value) (old new : List (Option Value)) (class : ℕ) : Type 0 where
   pub rise : RisesByGroup new
   pub last : class + 1 ≡ length new
@@ -43,13 +43,13 @@ pub record IsClassOf (value : Value) (old new : List (Option Value)) (class : �
   pub kept : (c : ℕ) (g : Option Value) → slice_get old c ≡ Some g → slice_get new c ≡ Some g
   pub added : (g : Option Value) → Contains new g → Contains old g ⊎ (g ≡ Some value)
 
--- an entry's row as an item, whose class is the number of the group of the entry's value
+-- An entry's row as an item. Its class is the number of the group with the entry's value.
 pub record IsNumberedItem {K : Type 0} (value_of : K → Value) (all : List Row) (amount_of : Row → ℤ)
     (groups : List (Option Value)) (entry : Entry K) (x : Item) : Type 0 where
   pub is : x ≡ amount_item amount_of x.class (entry_row all entry)
   pub at : slice_get groups x.class ≡ Some (Some (entry_value value_of entry))
 
--- the rows of entries as items, by rising class, and the groups of their values
+-- The rows of entries as items, in ascending order of class, and the groups of their values.
 pub record AreItemsByGroup {K : Type 0} (value_of : K → Value) (all : List Row) (amount_of : Row → ℤ)
     (entries : List (Entry K)) (items : List Item) (groups : List (Option Value)) : Type 0 where
   pub classes : AllPairs (λ (a b : Item). a.class ≤ b.class) items
@@ -58,8 +58,8 @@ pub record AreItemsByGroup {K : Type 0} (value_of : K → Value) (all : List Row
   pub listed : (g : Option Value) → Contains groups g
       → (e : Entry K) × Contains entries e × (Some (entry_value value_of e) ≡ g)
 
--- rows as items, by rising class: class c is that of the rows of group number c, and each row is of one of the groups,
--- which rise
+-- Rows as items, in ascending order of class. The items of class `c` are the rows of group number `c`. Each row is of
+-- one of the groups, which are in ascending order.
 pub record IsGrouping (amount_of : Row → ℤ) (group_of : Row → Option Value) (rows : List Row) (items : List Item)
     (groups : List (Option Value)) : Type 0 where
   pub classes : AllPairs (λ (a b : Item). a.class ≤ b.class) items
@@ -70,7 +70,7 @@ pub record IsGrouping (amount_of : Row → ℤ) (group_of : Row → Option Value
   pub of_classes : (c : ℕ) (g : Option Value) → slice_get groups c ≡ Some g
       → of_class c items ≡ map (amount_item amount_of c) (rows_of_group group_of g rows)
 
--- the row of a plateau: its class is the number of its group
+-- The row of a constant interval; its class is the number of its group.
 abbrev pub agg_row_of : List (Option Value) → Plateau → AggRow
 agg_row_of groups plateau = record {
   group = slice_index_or groups plateau.class None;
@@ -78,7 +78,7 @@ agg_row_of groups plateau = record {
   value = plateau.value;
 }
 
--- a row for each plateau of items whose classes are the numbers of groups, in their order
+-- A row for each constant interval of items whose classes are the numbers of groups, in order.
 pub record ArePlateauRows (measure : Measure) (items : List Item) (groups : List (Option Value))
     (answer : List AggRow) : Type 0 where
   pub plateaus : List Plateau

@@ -6,19 +6,19 @@ use Rattle.row_core.specs.ValueOrder.{maybe_cmp}
 use Rattle.row_core.specs.declared.row.Row.{Row}
 use Rattle.row_core.specs.declared.value.Value.{Value}
 
--- the group of a key, where each has a value
+-- The group of a key. Each key has a value.
 abbrev pub group_of_key : {K : Type 0} → (K → Value) → K → Option Value
 group_of_key value_of key = Some (value_of key)
 
--- the groups of a range of keys
+-- The groups of a range of keys.
 abbrev pub groups_in : {K : Type 0} → (K → Value) → Range K → Range (Option Value)
 groups_in value_of keys =
     range (option_map (group_of_key value_of) keys.from) (option_map (group_of_key value_of) keys.before)
 
--- a group is one of a range's
+-- The group is within the range.
 abbrev pub in_range : {K : Type 0} → (K → Value) → Range K → Option Value → Bool
 in_range value_of keys group = has maybe_cmp (groups_in value_of keys) group
 
--- the rows whose groups are a range's, in their order
+-- The rows whose groups are within a range, in order.
 abbrev pub rows_in_range : {K : Type 0} → (K → Value) → (Row → Option Value) → Range K → List Row → List Row
 rows_in_range value_of group_of keys rows = filter (λ row. in_range value_of keys (group_of row)) rows

@@ -6,18 +6,18 @@ use Rattle.agg_core.specs.declared.rows.AggRow.{AggRow}
 use Rattle.agg_core.specs.declared.rows.AggRowRef.{AggRowRef}
 use Rattle.agg_core.specs.declared.rows.AggShare.{AggShare}
 
--- the rows of a share: one for each plateau, in their order
+-- The rows of a share: one for each constant interval, in order.
 abbrev pub rows_in : AggShare → List AggRow
 rows_in share = map (agg_row_of share.groups.items) share.plateaus
 
--- the rows of all shares, one share behind the other
+-- The rows of all shares, in order.
 abbrev pub rows_in_shares : List AggShare → List AggRow
 rows_in_shares shares = flat_map rows_in shares
 
--- the row that a lent one stands for: its group is copied
+-- A borrowed row as a row, with a copy of its group.
 abbrev pub lent_row : AggRowRef → AggRow
 lent_row row = record { group = option_copied row.group; period = row.period; value = row.value }
 
--- so many rows they have
+-- The number of rows in all shares.
 abbrev pub AreShares : List AggShare → ℕ → Type 0
 AreShares shares count = count ≡ length (rows_in_shares shares)

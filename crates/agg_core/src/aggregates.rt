@@ -18,18 +18,20 @@ use std::alloc::Global;
 use std::thread::Threads;
 use work_core::{Crew, Gate};
 
-/// For each group of rows, those that are equal in the named column, the maximal periods at each instant of which
-/// some of its rows hold and come to one value, with that value, by group and start: the same rows for every number
-/// of workers. Numbers are ordered by value, texts by their bytes. Where no column is named all rows are one group.
+/// Returns, for each group of rows, the maximal periods in which some of its rows hold and their measured value is
+/// constant, with that value, by group and start. A group is all rows with the same value in the named column; without
+/// a name all rows are one group. Numbers are ordered by value, texts by their bytes. The rows are the same for every
+/// number of workers.
 ///
-/// Rows are sorted once, by their groups, so many small groups cost no more than a large one: workers share them out by
-/// ranges of values. The gate is called before and after each piece of work, as `plateaus_of` says.
+/// Rows are sorted once, by group, so many small groups cost no more than one large group. The workers partition the
+/// rows by ranges of values. The gate is called before and after each addition of two lists of steps, as by
+/// `plateaus_of`.
 ///
 /// # Errors
 ///
-/// The first that applies: `NoColumn` where the column that numbers are taken from is missing, `WrongKind` where its
-/// values are texts, `NoColumn` where the column of the groups is missing; and `NoMemory` after these, where a growth
-/// is refused, and where there would be 2^64 rows, of which no table's rows have so many.
+/// The first of these that applies: `NoColumn` if the column with the numbers is missing, `WrongKind` if its values
+/// are texts, `NoColumn` if the groups' column is missing. After these, `NoMemory` if an allocation is refused, or if
+/// the answer had 2^64 rows, which no table's answer has.
 pub fn agg<R: Threads + Sync, G: Gate>(
     rt: &R,
     alloc: Global,
@@ -53,8 +55,8 @@ pub fn agg<R: Threads + Sync, G: Gate>(
     Ok(agg_rows(&crew, Asked { measure, amount }, side, by)?)
 }
 
-/// The aggregate of a side's rows by the values at one place, or as one group where there is none. The kind of these
-/// is looked at once, so each of them is sorted by no more than its kind needs.
+/// Returns the aggregate of a side's rows by the values in the column at index `by`, or as one group for `None`. The
+/// column's kind is checked only once, so each comparison of the sort does only what that kind needs.
 fn agg_rows<R: Threads + Sync, G: Gate>(
     crew: &Crew<'_, R, G>,
     asked: Asked,
@@ -76,7 +78,7 @@ fn agg_rows<R: Threads + Sync, G: Gate>(
     }
 }
 
-/// The place of a column, where one is named.
+/// Returns the index of a column, if one is named.
 fn place_in(schema: &Schema, name: Option<Name>) -> Option<u32>
     ensures { result ≡ place_in schema.now name }
 {

@@ -19,14 +19,15 @@ use sort_core::sort_by_key;
 use std::alloc::Global;
 use std::thread::Threads;
 
-/// The place of a row among all, with the key of the value by which it is grouped.
+/// The index of a row, with the sort key of the value by which it is grouped.
 #[derive(Clone, Copy)]
 pub(crate) struct Entry<K> {
     pub key: K,
     pub row: usize,
 }
 
-/// Room for the entries of a range: for all rows where it has no end, else for somewhat more than half of them.
+/// Returns a capacity for the entries of a range: all rows if it has no ends, otherwise somewhat more than half of
+/// them.
 fn room_for<K>(range: &Range<K>, rows: usize) -> usize {
     if range.from.is_none() && range.before.is_none() {
         rows
@@ -35,7 +36,7 @@ fn room_for<K>(range: &Range<K>, rows: usize) -> usize {
     }
 }
 
-/// An entry for each row whose value is in the range, in their order.
+/// Returns an entry for each row whose value is within the range, in order.
 pub(crate) fn entries_of<K: Ord + Copy, S: GroupColumn<K>>(
     alloc: Global,
     column: S,
@@ -56,7 +57,7 @@ pub(crate) fn entries_of<K: Ord + Copy, S: GroupColumn<K>>(
     Ok(entries)
 }
 
-/// Puts the entries by rising value, those of one value in the order in which they stood.
+/// Sorts the entries by value. The sort is stable.
 fn sort_entries<R: Threads + Sync, K: Ord + Copy + Send, S: GroupColumn<K>>(
     rt: &R,
     alloc: Global,
@@ -72,7 +73,7 @@ fn sort_entries<R: Threads + Sync, K: Ord + Copy + Send, S: GroupColumn<K>>(
     sort_by_key(rt, alloc, entries, |entry| entry.key, workers)
 }
 
-/// The entries by rising value, those of one value in the order in which they stood.
+/// Returns the entries sorted by value. The sort is stable.
 pub(crate) fn sorted<R: Threads + Sync, K: Ord + Copy + Send, S: GroupColumn<K>>(
     rt: &R,
     alloc: Global,

@@ -1,4 +1,4 @@
-//! What an aggregate asks of a tally and of which column, and why it can't be asked.
+//! What an aggregate measures and in which column, and why it is refused.
 
 ghost use Rattle.std.specs.Prelude.{◌≡◌};
 ghost use Rattle.row_core.specs.Refusals.{first_of};
@@ -8,14 +8,14 @@ use match_core::QueryRefused;
 use round_core::Measure;
 use row_core::{Func, Kind, Name, Schema};
 
-/// What is asked of rows: what the numbers that they have at a place come to, where one is given.
+/// The measure of an aggregate, and the index of the column with its numbers, if it needs one.
 #[derive(Clone, Copy)]
 pub(crate) struct Asked {
     pub measure: Measure,
     pub amount: Option<u32>,
 }
 
-/// What is asked of a tally.
+/// Returns the measure of a function.
 pub(crate) fn measure_of(func: &Func) -> Measure
     ensures { result ≡ measure_of func.now }
 {
@@ -27,7 +27,7 @@ pub(crate) fn measure_of(func: &Func) -> Measure
     }
 }
 
-/// The column that numbers are taken from.
+/// Returns the column with the function's numbers.
 pub(crate) fn number_column(func: &Func) -> Option<Name>
     ensures { result ≡ number_column func.now }
 {
@@ -39,7 +39,7 @@ pub(crate) fn number_column(func: &Func) -> Option<Name>
     }
 }
 
-/// The first refusal: that of the function's column, and then that of the group's.
+/// Returns the first refusal: of the function's column, then of the groups' column.
 pub(crate) fn agg_refusal(
     schema: &Schema,
     func: &Func,
@@ -53,7 +53,7 @@ pub(crate) fn agg_refusal(
     }
 }
 
-/// Why no numbers can be taken from a column, where one is named.
+/// Returns why a column has no numbers, if one is named.
 fn number_refusal(schema: &Schema, name: Option<Name>) -> Option<QueryRefused>
     ensures { result ≡ first_of (number_tests schema.now name) }
 {
@@ -67,7 +67,7 @@ fn number_refusal(schema: &Schema, name: Option<Name>) -> Option<QueryRefused>
     }
 }
 
-/// Why rows can't be grouped by a column, where one is named.
+/// Returns why rows can't be grouped by a column, if one is named.
 fn group_refusal(schema: &Schema, name: Option<Name>) -> Option<QueryRefused>
     ensures { result ≡ first_of (group_tests schema.now name) }
 {

@@ -1,5 +1,5 @@
-//! The rows of the groups of a table's rows. Workers share these out by ranges of the values that they are grouped by, so
-//! no group is in two shares, and each share is listed and sorted by itself.
+//! The aggregate of a table's rows by groups. The workers partition the rows by ranges of the values that they are
+//! grouped by. So each group is in one partition, and each partition is listed and sorted separately.
 
 ghost use Rattle.std.specs.Prelude.{◌<◌, ◌≤◌, IfOk, Some, length};
 ghost use Rattle.std.specs.Thread.{IsSync};
@@ -20,7 +20,7 @@ use share_core::{Range, Shares, shared_out};
 use std::thread::Threads;
 use work_core::{Crew, Gate};
 
-/// The share of the groups of one range's values.
+/// Returns the answer for the groups whose values are within one range.
 fn share_of_range<R: Threads + Sync, G: Gate, K: Ord + Copy + Send + Sync, S: GroupColumn<K>>(
     crew: &Crew<'_, R, G>,
     asked: Asked,
@@ -39,7 +39,7 @@ fn share_of_range<R: Threads + Sync, G: Gate, K: Ord + Copy + Send + Sync, S: Gr
     share_of_groups(crew, asked.measure, grouped)
 }
 
-/// The rows of the groups of rows, those that are of one value in the column.
+/// Returns the aggregate of the rows, grouped by their values in the column.
 pub(crate) fn rows_by_group<
     R: Threads + Sync,
     G: Gate,

@@ -1,4 +1,4 @@
-//! Rows by group: each is an item whose class is the number of its group.
+//! Rows by group: a row becomes an item whose class is the number of its group.
 
 ghost use Rattle.std.specs.Prelude.{◌≡◌, ◌≢◌, IfOk, MatchBool, Some};
 ghost use Rattle.row_core.specs.Lent.{lent_value};
@@ -30,13 +30,14 @@ use table_core::RowRef;
 /// Rows by group.
 #[derive(Drop)]
 pub(crate) struct GroupedRows {
-    /// An item for each row, whose class is the number of its group, by rising class.
+    /// An item for each row, in ascending order of class. The class is the number of the row's group.
     pub items: Vec<Item>,
-    /// The groups by number: the value of each one's rows in the column that they are grouped by.
+    /// The groups by number: each group's value in the column that rows are grouped by.
     pub groups: Vec<Option<Value>>,
 }
 
-/// The rows of entries that stand by rising value, each value a group, with the numbers that they have at a place.
+/// Returns the rows of entries that are sorted by value, each value a group, with the numbers in the column at index
+/// `amount`.
 pub(crate) fn group_entries<K: Ord, S: GroupColumn<K>>(
     alloc: Global,
     column: S,
@@ -66,7 +67,8 @@ pub(crate) fn group_entries<K: Ord, S: GroupColumn<K>>(
     Ok(GroupedRows { items, groups })
 }
 
-/// The number of the group of a value, which the row has at the place: it is the last one, or is added behind it.
+/// Returns the number of the group with the value, which the row has in the column at index `place`. It is the last
+/// group, or is appended.
 fn enter_group(
     alloc: Global,
     groups: &mut Vec<Option<Value>>,
@@ -88,7 +90,7 @@ fn enter_group(
     Ok(class)
 }
 
-/// Whether the value is that of the last group.
+/// Returns whether the value belongs to the last group.
 fn is_last(groups: &[Option<Value>], value: ValueRef<'_>) -> bool
     ensures { MatchBool result (IsLast groups.now (Some (lent_value value.entry)))
         (IsLast groups.now (Some (lent_value value.entry)) → ⊥) }
@@ -100,7 +102,7 @@ fn is_last(groups: &[Option<Value>], value: ValueRef<'_>) -> bool
     }
 }
 
-/// Whether both are one value.
+/// Returns whether both values are equal.
 fn is_same(lent: ValueRef<'_>, value: &Value) -> bool
     ensures { MatchBool result (value.now ≡ lent_value lent.entry)
         (value.now ≢ lent_value lent.entry) }
@@ -117,7 +119,7 @@ fn is_same(lent: ValueRef<'_>, value: &Value) -> bool
     }
 }
 
-/// The row as an item of that class, with the number that it has at the place.
+/// Returns the row as an item of the class, with its number in the column at index `amount`.
 pub(crate) fn amount_item(row: RowRef<'_>, amount: Option<u32>, class: u64) -> Item
     ensures { result ≡ amount_item (amount_at amount) class (lent_row row.entry) }
 {
@@ -129,7 +131,7 @@ pub(crate) fn amount_item(row: RowRef<'_>, amount: Option<u32>, class: u64) -> I
     }
 }
 
-/// The number that the row has at the place; 0 where there is none.
+/// Returns the row's number in the column at index `place`; 0 if it has none.
 fn amount_at(row: RowRef<'_>, place: Option<u32>) -> i64
     ensures { result ≡ amount_at place (lent_row row.entry) }
 {

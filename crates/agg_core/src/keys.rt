@@ -1,4 +1,4 @@
-//! Keys of the values that rows are grouped by.
+//! Sort keys of the values that rows are grouped by.
 
 ghost use Rattle.std.specs.Prelude.{◌≡◌, ◌<◌, ℕ, List, Some, length, option_map, refl};
 ghost use Rattle.row_core.specs.Lent.{lent_value};
@@ -14,8 +14,8 @@ use row_core::ValueRef;
 use share_core::Range;
 use table_core::SharedRows;
 
-/// Rows, and the column that they are grouped by. A value of it has a key, by which a sort compares it: as little as its
-/// kind needs, and no text is copied.
+/// Rows, and the column that they are grouped by. A sort compares keys of its values, which contain as little as the
+/// kind needs; no text is copied.
 pub(crate) trait GroupColumn<K: Ord>: Copy + Send + Sync {
     // The value of a key.
     ghost value_of: { K → Value };
@@ -23,32 +23,32 @@ pub(crate) trait GroupColumn<K: Ord>: Copy + Send + Sync {
     // The rows.
     ghost rows: { Self → List Row };
 
-    // The place of the column.
+    // The index of the column.
     ghost place: { Self → ℕ };
 
-    /// The rows.
+    /// Returns the rows.
     fn rows(&self) -> &SharedRows
         ensures { result.now ≡ rows self.now };
 
-    /// The place of the column.
+    /// Returns the index of the column.
     fn place(&self) -> u32
         ensures { result ≡ place self.now };
 
-    /// The key of the value of row i.
+    /// Returns the key of row `i`'s value.
     fn key_at(&self, i: usize) -> K
         requires { i < length (rows self.now) }
         ensures { value_at_place (Some (place self.now)) (row_at (rows self.now) i)
             ≡ Some (value_of result) };
 
-    /// The value of a key.
+    /// Returns the value of a key.
     fn value(key: &K) -> ValueRef<'_>
         ensures { lent_value result ≡ value_of key.now };
 
-    // Keys are in the order of their values.
+    // Keys have the order of their values.
     ghost ordered: { (a b : K) → K.cmp a b ≡ value_cmp (value_of a) (value_of b) };
 }
 
-/// Rows that are grouped by numbers: each is its own key.
+/// Rows that are grouped by numbers. A number is its own key.
 #[derive(Clone, Copy)]
 pub(crate) struct Numbers<'a> {
     pub rows: &'a SharedRows,
@@ -84,7 +84,7 @@ impl GroupColumn<i64> for Numbers<'_> {
     }
 }
 
-/// Rows that are grouped by texts: each is its own key.
+/// Rows that are grouped by texts. A text is its own key.
 #[derive(Clone, Copy)]
 pub(crate) struct Texts<'a> {
     pub rows: &'a SharedRows,
@@ -120,7 +120,7 @@ impl<'a> GroupColumn<&'a str> for Texts<'a> {
     }
 }
 
-/// The number that row i has at the place.
+/// Returns row `i`'s number in the column at index `place`.
 fn number_at(rows: &SharedRows, place: u32, i: usize) -> i64
     requires within { i < length rows.now }
     requires numbers { HaveValues kinds.Int place rows.now }
@@ -133,7 +133,7 @@ fn number_at(rows: &SharedRows, place: u32, i: usize) -> i64
     }
 }
 
-/// The text that row i has at the place.
+/// Returns row `i`'s text in the column at index `place`.
 fn text_at<'a>(rows: &'a SharedRows, place: u32, i: usize) -> &'a str
     requires within { i < length rows.now }
     requires texts { HaveValues kinds.Text place rows.now }
@@ -147,7 +147,7 @@ fn text_at<'a>(rows: &'a SharedRows, place: u32, i: usize) -> &'a str
     }
 }
 
-/// The value that row i has at the place, if it has one there.
+/// Returns row `i`'s value in the column at index `place`, if it has one.
 fn value_at(rows: &SharedRows, place: u32, i: usize) -> Option<ValueRef<'_>>
     requires { i < length rows.now }
     ensures { option_map lent_value result ≡ value_at_place (Some place) (row_at rows.now i) }
@@ -155,7 +155,7 @@ fn value_at(rows: &SharedRows, place: u32, i: usize) -> Option<ValueRef<'_>>
     rows.at(i).value(place as usize)
 }
 
-/// Whether the key's value is in the range.
+/// Returns whether the key's value is within the range.
 pub(crate) fn has_key<K: Ord, S: GroupColumn<K>>(range: &Range<K>, key: &K) -> bool
     ensures { result ≡ in_range S.value_of range.now (group_of_key S.value_of key.now) }
 {

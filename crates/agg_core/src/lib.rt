@@ -1,7 +1,7 @@
 #![tactic(auto)]
 
-//! What the rows of a table come to, group by group: at each instant how many hold, or the sum, the least or the
-//! greatest of their numbers, and the periods for which that stays the same.
+//! Finds the aggregate of a table's rows, group by group: at each instant the number of rows that hold, or the sum,
+//! minimum or maximum of their numbers, with the periods in which that value is constant.
 
 mod aggregates;
 mod entries;

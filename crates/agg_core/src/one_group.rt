@@ -1,4 +1,4 @@
-//! The rows of one group of all rows.
+//! The aggregate of all rows as one group.
 
 ghost use Rattle.std.specs.Prelude.{◌≡◌, ◌≤◌, IfOk, None, length, map};
 ghost use Rattle.dip_core.specs.Item.{item_limit};
@@ -20,7 +20,7 @@ use std::thread::Threads;
 use table_core::SharedRows;
 use work_core::{Crew, Gate};
 
-/// The rows at some places as items of one class, with the numbers that they have in a column.
+/// Returns the rows at the given indices as items of one class, with their numbers in the column at index `amount`.
 fn items_of_piece(
     alloc: Global,
     rows: &SharedRows,
@@ -38,7 +38,8 @@ fn items_of_piece(
     Ok(items)
 }
 
-/// Rows as items of one class, with the numbers that they have at the place. Workers share them out by their places.
+/// Returns the rows as items of one class, with their numbers in the column at index `amount`. The workers partition
+/// them by index.
 fn items_of_rows<R: Threads + Sync, G>(
     crew: &Crew<'_, R, G>,
     rows: &SharedRows,
@@ -61,7 +62,7 @@ fn items_of_rows<R: Threads + Sync, G>(
     in_one_list(alloc, lists)
 }
 
-/// The rows of one group of all rows.
+/// Returns the aggregate of all rows as one group.
 pub(crate) fn rows_of_one_group<R: Threads + Sync, G: Gate>(
     crew: &Crew<'_, R, G>,
     asked: Asked,

@@ -16,40 +16,41 @@ use std::marker::Model;
 use std::thread::Threads;
 use work_core::{Crew, Gate};
 
-/// A group, and a maximal period at each instant of which some of its rows hold and come to one value.
+/// A group, and a maximal period in which some of its rows hold and their measured value is constant.
 #[derive(Debug, Drop, PartialEq, Eq)]
 pub struct AggRow {
-    /// The value of the group's rows in the column that they are grouped by; None where all rows are one group.
+    /// The group's value in the column that rows are grouped by; `None` if all rows are one group.
     pub group: Option<Value>,
-    /// The period: just before it, and just behind it, the group comes to another value, or none of its rows holds.
+    /// The period. Just before it and just after it, the group has another value, or none of its rows holds.
     pub period: Period,
-    /// How many of the group's rows hold, or the sum, the least or the greatest of their numbers.
+    /// The number of the group's rows that hold, or the sum, minimum or maximum of their numbers.
     pub value: i128,
 }
 
-/// A row as it stands among the others: its group's value is lent.
+/// A row of the answer whose group value is borrowed.
 #[derive(Clone, Copy)]
 pub struct AggRowRef<'a> {
-    /// The value of the group's rows in the column that they are grouped by; None where all rows are one group.
+    /// The group's value in the column that rows are grouped by; `None` if all rows are one group.
     pub group: Option<&'a Value>,
-    /// The period at each instant of which the group comes to the value, as long as can be.
+    /// The maximal period in which the group has the value.
     pub period: Period,
-    /// How many of the group's rows hold, or the sum, the least or the greatest of their numbers.
+    /// The number of the group's rows that hold, or the sum, minimum or maximum of their numbers.
     pub value: i128,
 }
 
-/// The rows of some groups, as what they are made of: each group's value stands once, however many rows it has.
+/// The rows of some groups, stored as constant intervals. Each group's value is stored once, however many rows it has.
 #[derive(Drop)]
 pub struct AggShare {
-    /// The groups by number: the value of each one's rows in the column that they are grouped by, or None where all rows
-    /// are one group.
+    /// The groups by number: each group's value in the column that rows are grouped by, or `None` if all rows are one
+    /// group.
     pub groups: Vec<Option<Value>>,
-    /// The plateaus of the groups' numbers, by group and start: the class of each is the number of its group.
+    /// The constant intervals of the groups, by group and start. The class of an interval is the number of its group.
     pub plateaus: Plateaus,
 }
 
 impl AggShare {
-    /// The value of the group of a plateau: None where all rows are one group, or no group has the plateau's class.
+    /// Returns the group value of a constant interval, or `None` if all rows are one group, or if no group has the
+    /// interval's class.
     pub fn group(&self, plateau: &Plateau) -> Option<&Value>
         ensures { option_copied result ≡ (agg_row_of self.now.groups.items plateau.now).group }
     {
@@ -60,7 +61,7 @@ impl AggShare {
         }
     }
 
-    /// The row at that place of the share.
+    /// Returns the row at index `place`.
     fn row_at(&self, place: usize) -> Option<AggRowRef<'_>>
         ensures { option_map lent_row result ≡ slice_get (rows_in self.now) place }
     {
@@ -75,8 +76,8 @@ impl AggShare {
     }
 }
 
-/// The rows of an aggregate, by group and start, in shares that were answered apart and stand behind one another.
-/// Contracts see the list of all.
+/// The rows of an aggregate, by group and start, in shares that were answered separately. Contracts see the list of
+/// all rows.
 #[derive(Drop)]
 pub struct AggRows {
     shares: Vec<AggShare>,
@@ -96,11 +97,11 @@ impl Model for AggRows {
 }
 
 impl AggRows {
-    /// The rows of some shares.
+    /// Returns the rows of some shares.
     ///
     /// # Errors
     ///
-    /// `NoMemory` where they are 2^64 or more, which no table's rows come to.
+    /// `NoMemory` if there are 2^64 rows or more, which no table's answer has.
     pub(crate) fn of_shares(shares: Vec<AggShare>) -> Result<AggRows, NoMemory>
         ensures { IfOk result (λ rows. rows ≡ rows_in_shares shares.items) }
     {
@@ -110,32 +111,32 @@ impl AggRows {
         Ok(AggRows { shares, len })
     }
 
-    /// How many they are.
+    /// Returns the number of rows.
     pub fn len(&self) -> usize
         ensures { result ≡ length self.now }
     {
         self.len
     }
 
-    /// The row at that place, from 0 on; None exactly behind the last. Shares before it are passed whole.
+    /// Returns the row at index `place`, or `None` past the last one. It skips whole shares before the row.
     pub fn get(&self, place: usize) -> Option<AggRowRef<'_>>
         ensures { option_map lent_row result ≡ slice_get self.now place }
     {
         row_in_shares(&self.shares, place)
     }
 
-    /// The shares, which have the rows of one group after the other.
+    /// Returns the shares. Together they have the rows in order.
     pub fn shares(&self) -> &[AggShare]
         ensures { rows_in_shares result.now ≡ self.now }
     {
         &self.shares
     }
 
-    /// All rows, each with a value of its group of its own.
+    /// Returns all rows, each with its own copy of the group value.
     ///
     /// # Errors
     ///
-    /// `NoMemory` where a growth is refused.
+    /// `NoMemory` if an allocation is refused.
     pub fn to_vec(&self, alloc: Global) -> Result<Vec<AggRow>, NoMemory>
         ensures { IfOk result (λ rows. rows.items ≡ self.now) }
     {
@@ -147,7 +148,7 @@ impl AggRows {
     }
 }
 
-/// How many rows the shares have, where a `usize` holds it.
+/// Returns the number of rows in the shares, or `None` if it doesn't fit `usize`.
 fn count_rows(shares: &[AggShare]) -> Option<usize>
     ensures { IfSome result (λ len. len ≡ length (rows_in_shares shares.now)) }
 {
@@ -158,7 +159,7 @@ fn count_rows(shares: &[AggShare]) -> Option<usize>
     Some(len)
 }
 
-/// The row at that place of all shares.
+/// Returns the row at index `place` of all shares.
 fn row_in_shares(shares: &[AggShare], place: usize) -> Option<AggRowRef<'_>>
     ensures { option_map lent_row result ≡ slice_get (rows_in_shares shares.now) place }
 {
@@ -183,7 +184,7 @@ fn push_share(alloc: Global, share: &AggShare, rows: &mut Vec<AggRow>) -> Result
     Ok(())
 }
 
-/// Adds the rows of some plateaus of a share.
+/// Adds the rows of some constant intervals of a share.
 fn push_chunk(
     alloc: Global,
     share: &AggShare,
@@ -203,7 +204,7 @@ fn push_chunk(
     Ok(())
 }
 
-/// The share of grouped rows: a row for each plateau of their items.
+/// Returns the share of grouped rows: a row for each constant interval of their items.
 pub(crate) fn share_of_groups<R: Threads + Sync, G: Gate>(
     crew: &Crew<'_, R, G>,
     measure: Measure,
@@ -219,7 +220,7 @@ pub(crate) fn share_of_groups<R: Threads + Sync, G: Gate>(
     Ok(AggShare { groups, plateaus })
 }
 
-/// The group with a value of its own.
+/// Returns a copy of the group value.
 fn copy_group(alloc: Global, group: Option<&Value>) -> Result<Option<Value>, NoMemory>
     ensures { IfOk result (λ copy. copy ≡ option_copied group.entry) }
 {

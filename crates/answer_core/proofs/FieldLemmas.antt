@@ -1,4 +1,4 @@
--- The text of fields, and of fields that call for no quotes.
+-- The text of fields, and which fields need no quotes.
 use Rattle.std.proofs.Common.{◌≡◌, ℕ, zero, suc, ◌+◌, ◌<◌, ◌≤◌, ◌/◌, ◌%◌, ◌^◌, ℤ, List, [], ◌∷◌, ◌++◌, Bool, true, false, cond, length, refl, sym, ap, ◌∙◌, arith, append_assoc, append-nil, map}
 use Rattle.std.proofs.Math.Seq.{take-suc}
 use Rattle.std.specs.Prelude.{take, get_or, All, ◌||◌, ◌==◌, decimal, Option, Some, None}
@@ -13,7 +13,7 @@ use Rattle.csv.proofs.WriteFacts.{escaped-append, escaped-double, escaped-other}
 use Rattle.period_core.specs.Point.{HourMinuteSecond, YearMonthDay, date_of_number, date_text, day_of, digits, point_text, second_of, text_behind, time_of_second, time_text}
 use Rattle.answer_core.specs.RecordBytes.{answer_writer, field_behind}
 
--- the fields of two lists, one behind the other
+-- The fields of two lists.
 pub fields_text-append : (xs ys : List (List ℕ))
     → fields_text answer_writer (xs ++ ys) ≡ fields_text answer_writer xs ++ fields_text answer_writer ys
 unfolding fields_text
@@ -26,7 +26,7 @@ fields_text-append (x ∷ xs) ys =
 neither : (a b : Bool) → a ≡ false → b ≡ false → (a || b) ≡ false
 neither a b x y = ap (λ (c : Bool). c || b) x ∙ y
 
--- bytes from `-` on call for no quotes
+-- Bytes from `-` on need no quotes.
 plain_byte : (b : ℕ) → 45 ≤ b → needs_byte answer_writer b ≡ false
 plain_byte b from =
     let other : (n : ℕ) → n < 45 → (b == n) ≡ false = λ n few. ne_eqb b n (omega (arith, from, few)) in
@@ -36,7 +36,7 @@ plain_byte b from =
 plain : (bytes : List ℕ) → All (λ b. 45 ≤ b) bytes → needs_quotes answer_writer bytes ≡ false
 plain bytes from = list_any_none (needs_byte answer_writer) bytes (λ k d within. plain_byte _ (from k d within))
 
--- digits call for no quotes
+-- Digits need no quotes.
 pub decimal_plain : (n : ℕ) → n < 2 ^ 64 → needs_quotes answer_writer (decimal n) ≡ false
 decimal_plain n few =
     plain (decimal n)
@@ -84,14 +84,14 @@ found_plain : (found : Option YearMonthDay) → All (λ b. 45 ≤ b) (option_map
 found_plain None = none_plain
 found_plain (Some d) = date_plain d
 
--- nor do points
+-- Points need no quotes.
 pub point_plain : (n : ℤ) → needs_quotes answer_writer (point_text n) ≡ false
 point_plain n =
     plain (point_text n)
     (both_plain (option_map_or date_text (date_of_number (day_of n)) []) (text_behind (second_of n))
     (found_plain (date_of_number (day_of n))) (behind_plain (second_of n == 0) (time_of_second (second_of n))))
 
--- one more field behind others
+-- One more field after others.
 fields_more : (front : List (List ℕ)) (field : List ℕ)
     → fields_text answer_writer (front ++ field ∷ []) ≡ fields_text answer_writer front ++ field_behind field
 unfolding fields_text
@@ -99,7 +99,7 @@ fields_more front field =
     fields_text-append front (field ∷ [])
     ∙ ap (λ t. fields_text answer_writer front ++ 44 ∷ t) (append-nil (field_text answer_writer field))
 
--- what is made of the items up to one more
+-- The texts of the items before index `i`, and of one more.
 pub fields_so_far : {T : Type 0} (text_of : T → List ℕ) (xs : List T) (i : ℕ) (d : T) → i < length xs
     → fields_text answer_writer (map text_of (take (i + 1) xs))
     ≡ fields_text answer_writer (map text_of (take i xs)) ++ field_behind (text_of (get_or xs i d))
@@ -110,7 +110,7 @@ fields_so_far text_of xs i d within =
     ∙ (ap (fields_text answer_writer) (map-append text_of (take i xs) (get_or xs i d ∷ []))
     ∙ fields_more (map text_of (take i xs)) (text_of (get_or xs i d))))
 
--- the same in a record, behind a word and a field
+-- The same in a record, after a word and a field.
 pub body_so_far : {T : Type 0} (text_of : T → List ℕ) (word field : List ℕ) (xs : List T) (i : ℕ) (d : T)
     (old mid new : List ℕ) → i < length xs
     → mid ≡ old ++ row_body answer_writer (word ∷ field ∷ map text_of (take i xs))
@@ -131,14 +131,14 @@ body_so_far text_of word field xs i d old mid new within first second =
     (append_assoc other (fields i) last
     ∙ ap (λ t. other ++ t) (sym (fields_so_far text_of xs i d within))))))
 
--- a quote between quotes is written twice, another byte once
+-- Between quotes, a quote is written twice and any other byte once.
 pub quote_twice : (b : ℕ) → b ≡ 34 → 34 ∷ 34 ∷ [] ≡ escaped answer_writer (b ∷ [])
 quote_twice b is = sym (ap (λ x. escaped answer_writer (x ∷ [])) is ∙ escaped-double answer_writer 34 refl refl)
 
 pub other_once : (b : ℕ) → (b ≡ 34 → ⊥) → b ∷ [] ≡ escaped answer_writer (b ∷ [])
 other_once b other = sym (escaped-other answer_writer b other)
 
--- one more byte between quotes
+-- One more byte between quotes.
 pub escaped_so_far : (bytes : List ℕ) (i : ℕ) → i < length bytes
     → escaped answer_writer (take (i + 1) bytes)
     ≡ escaped answer_writer (take i bytes) ++ escaped answer_writer (get_or bytes i 0 ∷ [])

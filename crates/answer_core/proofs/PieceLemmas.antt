@@ -1,4 +1,4 @@
--- Pieces of lists of records, and what answers of them come to.
+-- Ranges of record lists, and their bytes.
 use Rattle.std.proofs.Common.{◌≡◌, ◌∙◌, ℕ, ◌++◌, List, Option, None, Some, Result, Ok, append-nil, map, refl, sym, ap}
 use Rattle.std.specs.Global.{Vec}
 use Rattle.std.specs.Ordering.{nat_cmp}
@@ -27,14 +27,14 @@ from-map : {X Y : Type 0} (f : X → Y) (start : Option ℕ) (xs : List X)
 from-map f None xs = refl
 from-map f (Some start) xs = sym (drop-map f start xs)
 
--- what is made of a piece is that piece of what is made of all
+-- Mapping a range of a list gives the range of the mapped list.
 pub map-piece : {X Y : Type 0} (f : X → Y) (places : Range ℕ) (xs some : List X) → some ≡ piece places xs
     → map f some ≡ piece places (map f xs)
 map-piece f places xs some is =
     ap (map f) is ∙ from-map f places.from (piece_before places.before xs)
     ∙ ap (piece_from places.from) (before-map f places.before xs)
 
--- the bytes of the pieces of some records, one behind another, are the bytes of the records
+-- The bytes of consecutive ranges of records are the bytes of all records.
 pub texts-all : (records : List Record) (post : Range ℕ → ℕ → Result (Vec ℕ) AllocError → Type 0)
     (cuts : List (Cut ℕ)) (texts : List (Vec ℕ))
     → ((places : Range ℕ) (n : ℕ) (text : Vec ℕ) → post places n (Ok text)

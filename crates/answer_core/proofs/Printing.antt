@@ -29,19 +29,19 @@ use Rattle.command_core.specs.Records.{Record}
 use Rattle.answer_core.specs.RecordBytes.{answer_writer, bytes_of}
 use Rattle.command_core.specs.Words.{begins}
 
--- some records, and then some more
+-- Some records, and then some more.
 pub Adds-trans : (a b c : List ℕ) (xs ys : List Record) → Adds a b xs → Adds b c ys → Adds a c (xs ++ ys)
 Adds-trans a b c xs ys first second =
     let all : bytes_of (xs ++ ys) ≡ bytes_of xs ++ bytes_of ys = flat_map-append (row_text answer_writer) xs ys in
     second ∙ ap (λ t. t ++ bytes_of ys) first
     ∙ (append_assoc a (bytes_of xs) (bytes_of ys) ∙ ap (λ t. a ++ t) (sym all))
 
--- as many records as there are parts
+-- There is one record for each part.
 pub length-part_records : (k : ℕ) (parts : List (List Item)) → length (part_records k parts) ≡ length parts
 length-part_records k [] = refl
 length-part_records k (part ∷ parts) = ap suc (length-part_records (k + 1) parts)
 
--- the record of each part, by its place
+-- The record of the part at index `i`.
 part_records-at : (k : ℕ) (parts : List (List Item)) (i : ℕ) → i < length parts
     → get_or (part_records k parts) i [] ≡ part_record (k + i) (part_at parts i)
 part_records-at k [] i within = absurd (omega (arith, within))
@@ -51,7 +51,7 @@ part_records-at k (part ∷ parts) (suc i) within =
     let same : k + 1 + i ≡ k + suc i = omega arith in
     part_records-at (k + 1) parts i (omega (arith, within)) ∙ ap (λ n. part_record n (part_at parts i)) same
 
--- none of the records of parts is a refusal
+-- No part's record is a refusal.
 errors_in-part_records : (k : ℕ) (parts : List (List Item)) → errors_in (part_records k parts) ≡ 0
 errors_in-part_records k [] = refl
 errors_in-part_records k (c ∷ cs) =
@@ -72,7 +72,7 @@ errors_in-division rows parts instant =
       errors_in-part_records 0 parts,
     )
 
--- from a place on, the bytes of one more record
+-- The bytes of the records from index `from` on, and of one more.
 pub bytes-next : (a b c : List ℕ) (records : List Record) (from k : ℕ) (line : Record)
     → from ≤ k → slice_get records k ≡ Some line
     → b ≡ a ++ bytes_of (drop from (take k records))
@@ -92,7 +92,7 @@ bytes-next a b c records from k line le is first second =
     ∙ (sym (flat_map-append (row_text answer_writer) front (line ∷ []))
     ∙ ap bytes_of (sym all)))))
 
--- the record of a part stands at its place
+-- A part's record is at the part's index.
 pub part_records-get : (parts : List (List Item)) (k : ℕ) (items : List Item)
     → k < length parts → items ≡ part_at parts k
     → slice_get (part_records 0 parts) k ≡ Some (part_record k items)
@@ -103,7 +103,7 @@ part_records-get parts k items lt is =
     slice_get-get_or records k [] within
     ∙ ap Some (part_records-at 0 parts k lt ∙ ap (λ n. part_record n (part_at parts k)) same ∙ ap (part_record k) (sym is))
 
--- from a place on to another, the bytes of a range's records
+-- The bytes of the records of a range.
 pub bytes-piece : (a b : List ℕ) (records : List Record) (places : Range ℕ) (start end : ℕ)
     → b ≡ a ++ bytes_of (drop start (take end records))
     → end ≡ min (unwrap_or places.before (length records)) (length records)
@@ -112,7 +112,7 @@ pub bytes-piece : (a b : List ℕ) (records : List Record) (places : Range ℕ) 
 bytes-piece a b records places start end all before from =
     all ∙ ap (λ some. a ++ bytes_of some) (sym (piece-between places start end records before from))
 
--- a list of records of which none is a refusal, and its end
+-- A list of records without refusals, and its end.
 errors_in-list : {T : Type 0} (record_of : T → Record) → ((x : T) → begins (codes "error") (record_of x) ≡ false)
     → (xs : List T) (count : ℕ)
     → errors_in (map record_of xs ++ end_record count ∷ []) ≡ 0
@@ -146,7 +146,7 @@ errors_in-agg_records rows = errors_in-list agg_record (λ row. refl) rows (leng
 errors_in-commit_records : (entries : List Entry) → errors_in (commit_records entries) ≡ 0
 errors_in-commit_records entries = errors_in-list commit_record (λ e. refl) entries (length entries)
 
--- a verdict is no refusal, whichever it is
+-- A verdict isn't a refusal.
 errors_in-verdict : (v : Verdict) → errors_in (verdict_record v ∷ []) ≡ 0
 errors_in-verdict (WrongCount n) = refl
 errors_in-verdict (EmptyPart k) = refl
@@ -157,7 +157,7 @@ errors_in-verdict (Overlap a b) = refl
 errors_in-verdict (NotCrowded n) = refl
 errors_in-verdict Yes = refl
 
--- so does no answer but a refusal
+-- Only the answer `Refused` has a refusal among its records.
 pub errors_in-printed : (given : Answer) → ((fault : Fault) → given ≡ answer.Refused fault → ⊥)
     → (records : List Record) → IsPrintedAs given records → errors_in records ≡ 0
 errors_in-printed (answer.Refused fault) other records is = absurd (other fault refl)

@@ -1,4 +1,4 @@
--- Texts that are written one behind another.
+-- Several texts, written in order.
 use Rattle.std.proofs.Common.{◌≡◌, ◌∙◌, ℕ, suc, ◌+◌, ◌<◌, [], ◌∷◌, ◌++◌, List, Result, Ok, Err, OnErr, ap, arith, drop, length, length-append, sym, subst, take}
 use Rattle.std.specs.Global.{Vec}
 use Rattle.std.specs.Prelude.{get_or}
@@ -12,7 +12,7 @@ use Rattle.std.proofs.KnownBytes.{Appends-trans}
 use Rattle.stream_core.specs.Counted.{Sink}
 use Rattle.stream_core.specs.Faults.{WritesPartOf}
 
--- a part of some bytes is a part of these and more
+-- A prefix of some bytes is a prefix of these and more.
 pub part_of_front : (bytes more : List ℕ) (before after : Sink) → WritesPartOf bytes before after
     → WritesPartOf (bytes ++ more) before after
 part_of_front bytes more before after (taken, less, written) = (
@@ -21,7 +21,7 @@ part_of_front bytes more before after (taken, less, written) = (
   subst (Appends before.written after.written) (sym (take-append-le taken bytes more (omega (arith, less)))) written,
 )
 
--- some bytes and a part of others
+-- Some bytes, then a prefix of others.
 pub part_behind : (front bytes : List ℕ) (before between after : Sink)
     → Appends before.written between.written front → WritesPartOf bytes between after
     → WritesPartOf (front ++ bytes) before after
@@ -32,7 +32,7 @@ part_behind front bytes before between after first (taken, less, written) = (
       (Appends-trans before.written between.written after.written front (take taken bytes) first written),
 )
 
--- the texts before one, and a part of that one
+-- The texts before index `i`, then a prefix of that text.
 pub part_of_texts : (texts : List (Vec ℕ)) (i : ℕ) (text : Vec ℕ) (before between after : Sink) → i < length texts
     → text ≡ get_or texts i text → Appends before.written between.written (all_in (take i texts))
     → WritesPartOf text.items between after → WritesPartOf (all_in texts) before after
@@ -48,7 +48,7 @@ part_of_texts texts i text before between after within is first part =
     (part_of_front (all_in (take i texts) ++ text.items) back before after
     (part_behind (all_in (take i texts)) text.items before between after first part))
 
--- what holds anyhow holds on an error
+-- What holds always holds on an error.
 pub on_any_error : {T E : Type 0} {P : Type 0} (result : Result T E) → P → OnErr result P
 on_any_error (Ok value) p = tt
 on_any_error (Err why) p = p

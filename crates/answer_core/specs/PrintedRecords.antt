@@ -24,133 +24,133 @@ use Rattle.answer_core.specs.UnmatchedRows.{UnmatchedRows}
 use Rattle.answer_core.specs.declared.answer.Answer.{Answer}
 use Rattle.answer_core.specs.declared.answer.Answer.TheVariants as answer
 
--- a refusal: the number of the record that is refused, and the refusal's name
+-- A refusal: the number of the refused record, and the refusal's name.
 abbrev pub error_record : Fault → Record
 error_record wrong = codes "error" ∷ decimal wrong.number ∷ refusal_text wrong.refusal ∷ []
 
--- the commit of an accepted change
+-- The commit of an accepted change.
 abbrev pub ok_record : ℕ → Record
 ok_record commit = codes "ok" ∷ decimal commit ∷ []
 
--- a block of commands, whose queries read what this commit shows
+-- The beginning of a block of commands: the commit that its queries read.
 abbrev pub together_record : ℕ → Record
 together_record commit = codes "together" ∷ decimal commit ∷ []
 
--- the end of a list of so many
+-- The end of a list of `count` records.
 abbrev pub end_record : ℕ → Record
 end_record count = codes "end" ∷ decimal count ∷ []
 
 -- ---- rows and versions
 
--- a value as it is printed: a number in decimal, a text as it was read
+-- A value: a number in decimal, a text as it was read.
 abbrev pub value_text : Value → List ℕ
 value_text (Int number) = signed_decimal number
 value_text (Text bytes) = bytes
 
--- a row: its id, its period and its values
+-- A row: its id, its period and its values.
 abbrev pub row_record : Row → Record
 row_record row =
     codes "row" ∷ decimal row.id ∷ point_text row.period.from ∷ point_text row.period.to ∷ map value_text row.values
 
--- one record for each row, and how many there are
+-- One record for each row, then their number.
 abbrev pub row_records : List Row → List Record
 row_records rows = map row_record rows ++ end_record (length rows) ∷ []
 
--- an end as it is printed, `-` where it is open
+-- The end of a system period, `-` if it is open.
 abbrev pub end_text : Option ℕ → List ℕ
 end_text None = codes "-"
 end_text (Some commit) = decimal commit
 
--- a version: its row's id and period, the commits from which on and before which it is shown, and the values
+-- A version: its row's id and period, its system period, and the row's values.
 abbrev pub version_record : Version → Record
 version_record v =
     codes "version" ∷ decimal v.row.id ∷ point_text v.row.period.from ∷ point_text v.row.period.to
     ∷ decimal v.sysfrom ∷ end_text v.systo ∷ map value_text v.row.values
 
--- one record for each version, and how many there are
+-- One record for each version, then their number.
 abbrev pub version_records : List Version → List Record
 version_records versions = map version_record versions ++ end_record (length versions) ∷ []
 
--- two rows that were joined: the period that they share, and their ids
+-- A joined pair: the period that its rows share, and their ids.
 abbrev pub join_front : JoinRow → Record
 join_front row =
     codes "row" ∷ point_text row.period.from ∷ point_text row.period.to ∷ decimal row.left ∷ decimal row.right ∷ []
 
--- and the values of both
+-- A joined pair, with the values of both rows.
 abbrev pub join_record : List Row → List Row → JoinRow → Record
 join_record left right row =
     join_front row
     ++ (map value_text (values_with left row.left) ++ map value_text (values_with right row.right))
 
--- one record for each pair of rows that were joined, and how many there are
+-- One record for each joined pair, then their number.
 abbrev pub join_records : JoinedRows → List Record
 join_records joined = map (join_record joined.left joined.right) joined.rows ++ end_record (length joined.rows) ∷ []
 
--- a left row while no right row matched it: its id, the period for which none did, and its values
+-- A left row without a match: its id, the period without a match, and the row's values.
 abbrev pub anti_record : List Row → AntiRow → Record
 anti_record left row =
     codes "row" ∷ decimal row.id ∷ point_text row.period.from ∷ point_text row.period.to
     ∷ map value_text (values_with left row.id)
 
--- one record for each such row and period, and how many there are
+-- One record for each left row and period without a match, then their number.
 abbrev pub anti_records : UnmatchedRows → List Record
 anti_records unmatched = map (anti_record unmatched.left) unmatched.rows ++ end_record (length unmatched.rows) ∷ []
 
 -- ---- aggregates
 
--- a group as it is printed: its value, or no field where all rows are one group
+-- The value of a group; no field if all rows are one group.
 abbrev pub group_fields : Option Value → Record
 group_fields None = []
 group_fields (Some value) = value_text value ∷ []
 
--- what a group comes to: the group, a period, and the number that it comes to at each instant of the period
+-- A group's aggregate: the group, a period, and the value at each instant of the period.
 abbrev pub agg_record : AggRow → Record
 agg_record row =
     codes "row"
     ∷ (group_fields row.group
     ++ point_text row.period.from ∷ point_text row.period.to ∷ signed_decimal row.value ∷ [])
 
--- one record for each group and period, and how many there are
+-- One record for each group and period, then their number.
 abbrev pub agg_records : List AggRow → List Record
 agg_records rows = map agg_record rows ++ end_record (length rows) ∷ []
 
 -- ---- the log
 
--- a commit: its number, who made it, what kind of change it is, its table, and how many versions it added and closed
+-- A commit: its number, who made it, the kind of change, its table, and how many versions it added and closed.
 abbrev pub commit_record : Entry → Record
 commit_record e =
     codes "commit" ∷ decimal e.number ∷ decimal e.by ∷ word_of e.kind ∷ e.table ∷ decimal e.added
     ∷ decimal e.closed ∷ []
 
--- one record for each commit, and how many there are
+-- One record for each commit, then their number.
 abbrev pub commit_records : List Entry → List Record
 commit_records entries = map commit_record entries ++ end_record (length entries) ∷ []
 
 -- ---- divisions
 
--- an instant as it is printed, `-` where there is none
+-- An instant, or `-` for none.
 abbrev pub instant_text : Option ℤ → List ℕ
 instant_text None = codes "-"
 instant_text (Some instant) = point_text instant
 
--- the size of a division: how many rows and parts it has, and its instant
+-- The size of a division: the numbers of its rows and parts, and its instant.
 abbrev pub dip_record : ℕ → ℕ → Option ℤ → Record
 dip_record rows parts instant = codes "dip" ∷ decimal rows ∷ decimal parts ∷ instant_text instant ∷ []
 
--- a part: its number, and the ids of its items
+-- A part: its number, and the ids of its items.
 abbrev pub part_record : ℕ → List Item → Record
 part_record k part = codes "part" ∷ decimal k ∷ map (λ item. decimal item.id) part
 
--- one record for each part, numbered on from k
+-- One record for each part, numbered from `k` on.
 abbrev pub part_records : ℕ → List (List Item) → List Record
 part_records k [] = []
 part_records k (part ∷ parts) = part_record k part ∷ part_records (k + 1) parts
 
--- the size of a division of so many rows, and its parts
+-- The size of a division of `rows` rows, and its parts.
 abbrev pub division_records : ℕ → List (List Item) → Option ℤ → List Record
 division_records rows parts instant = dip_record rows (length parts) instant ∷ part_records 0 parts
 
--- a verdict as it is printed: `yes`, or `no`, its name and its numbers
+-- A verdict: `yes`, or `no` with its name and its numbers.
 abbrev pub verdict_record : Verdict → Record
 verdict_record (WrongCount n) = codes "no" ∷ codes "WrongCount" ∷ decimal n ∷ []
 verdict_record (EmptyPart k) = codes "no" ∷ codes "EmptyPart" ∷ decimal k ∷ []
@@ -163,7 +163,7 @@ verdict_record Yes = codes "yes" ∷ []
 
 -- ---- answers
 
--- the records of an answer; a division's have its instant too
+-- The records of an answer. A division's records include its instant.
 abbrev pub IsPrintedAs : Answer → List Record → Type 0
 IsPrintedAs (answer.Refused fault) records = records ≡ error_record fault ∷ []
 IsPrintedAs (answer.Committed commit) records = records ≡ ok_record commit ∷ []
@@ -177,6 +177,6 @@ IsPrintedAs (answer.Agg rows) records = records ≡ agg_records rows
 IsPrintedAs (answer.Verdict verdict) records = records ≡ verdict_record verdict ∷ []
 IsPrintedAs (answer.Log entries) records = records ≡ commit_records entries
 
--- how many of some records are refusals
+-- How many records are refusals.
 abbrev pub errors_in : List Record → ℕ
 errors_in records = count_by (begins (codes "error")) records

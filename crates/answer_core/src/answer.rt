@@ -1,4 +1,4 @@
-//! What a command is answered.
+//! The answer to a command.
 ghost use Rattle.std.specs.Prelude.{◌≡◌, ◌≤◌, List};
 ghost use Rattle.command_core.specs.Records.{Record};
 ghost use Rattle.answer_core.specs.PrintedRecords.{IsPrintedAs, errors_in};
@@ -12,33 +12,33 @@ use command_core::Fault;
 use dip_core::Division;
 use table_core::SharedRows;
 
-/// What a command is answered.
+/// The answer to a command.
 #[derive(Drop)]
 pub enum Answer {
-    /// It is refused.
+    /// The command is refused.
     Refused(Fault),
-    /// The change that it asked for was made, by the commit of this number.
+    /// The change was made, by the commit of this number.
     Committed(u64),
-    /// Rows, by rising id.
+    /// Rows, by ascending id.
     Rows(SharedRows),
-    /// Versions of rows, by rising id.
+    /// Versions of rows, by ascending id.
     Versions(SharedVersions),
-    /// A division of so many rows.
+    /// A division of `rows` rows.
     Division { rows: usize, division: Division },
-    /// Rows of two tables that held together.
+    /// Pairs of rows of two tables, with the period in which both hold.
     Join(Joined),
-    /// Rows of a table when none of another matched them.
+    /// Rows of a table, with the periods in which no row of another table matches them.
     Anti(Unmatched),
-    /// What the rows of a table come to, by group and start.
+    /// Aggregates, by group and start.
     Agg(AggRows),
-    /// What the check of a division says.
+    /// The verdict on a division.
     Verdict(Verdict),
-    /// What each commit did.
+    /// The log of commits.
     Log(Log),
 }
 
 impl Answer {
-    /// How many of its records are refusals: one where it is one, else none.
+    /// Returns how many of the answer's records are refusals: 1 if the command is refused, otherwise 0.
     pub fn refusals(&self) -> u64
         ensures counted { (records : List Record) → IsPrintedAs self.now records
             → errors_in records ≡ result }

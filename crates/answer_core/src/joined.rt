@@ -1,4 +1,4 @@
-//! Rows of two tables that held together.
+//! The answer to a join.
 ghost use Rattle.std.specs.Prelude.{◌≡◌, IfOk};
 ghost use Rattle.row_core.specs.Rows.{RowsRise};
 
@@ -9,7 +9,7 @@ use std::alloc::Global;
 use std::marker::Model;
 use table_core::SharedRows;
 
-/// The rows of two tables, by rising id, and which of them were joined.
+/// The rows of two tables, by ascending id, and the pairs of them that were joined.
 #[derive(Drop)]
 pub struct Joined {
     left: SharedRows,
@@ -29,7 +29,7 @@ impl Model for Joined {
 }
 
 impl Joined {
-    /// The rows of two tables, and which of them were joined.
+    /// Returns the answer of the rows of two tables and the pairs that were joined.
     pub fn new(left: SharedRows, right: SharedRows, rows: JoinRows) -> Joined
         requires { RowsRise left × RowsRise right }
         ensures { result ≡ record { left = left; right = right; rows = rows } }
@@ -37,21 +37,21 @@ impl Joined {
         Joined { left, right, rows }
     }
 
-    /// Those that were joined.
+    /// Returns the pairs that were joined.
     pub(crate) fn rows(&self) -> &[JoinRow]
         ensures { result.now ≡ self.now.rows }
     {
         self.rows.as_slice()
     }
 
-    /// The values of the left table's rows.
+    /// Returns the values of the left table's rows.
     pub(crate) fn left_values(&self, alloc: Global) -> Result<RowValues<'_>, NoMemory>
         ensures { IfOk result (λ values. values ≡ self.now.left) }
     {
         RowValues::new(alloc, &self.left)
     }
 
-    /// Those of the right table's.
+    /// Returns the values of the right table's rows.
     pub(crate) fn right_values(&self, alloc: Global) -> Result<RowValues<'_>, NoMemory>
         ensures { IfOk result (λ values. values ≡ self.now.right) }
     {

@@ -1,5 +1,5 @@
-//! The text of the last point that was printed, kept for the next one: records that follow each other often have a point
-//! in common, as those of a join do, which are by start and then by end.
+//! Caches the text of the last point that was printed. Consecutive records often have a point in common: a join's
+//! records, for example, are sorted by start and then by end.
 ghost use Rattle.std.specs.Prelude.{◌≡◌, IfOk};
 ghost use Rattle.period_core.specs.Point.{point_text};
 
@@ -7,7 +7,7 @@ use period_core::{NoMemory, Point};
 use std::alloc::Global;
 use std::marker::Model;
 
-/// A point and its text, where there is one. Contracts see the point.
+/// A point and its text, or nothing yet. Contracts see the point.
 #[derive(Drop)]
 pub(crate) struct KeptText {
     point: Option<Point>,
@@ -27,7 +27,7 @@ impl Model for KeptText {
 }
 
 impl KeptText {
-    /// The text of no point yet.
+    /// Returns an empty cache.
     pub(crate) fn new(alloc: Global) -> Self {
         KeptText {
             point: None,
@@ -35,7 +35,7 @@ impl KeptText {
         }
     }
 
-    /// The text of a point, which is written out where another one's is kept.
+    /// Returns the text of a point, and caches it.
     pub(crate) fn text_of(&mut self, point: Point) -> Result<&[u8], NoMemory>
         ensures { IfOk result (λ text. text.now ≡ point_text point) }
     {

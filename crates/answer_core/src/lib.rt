@@ -1,4 +1,4 @@
-//! Answers: what a command is answered, and the bytes that are written of it.
+//! Answers to commands, and the bytes that are written for them.
 #![tactic(auto)]
 
 mod answer;

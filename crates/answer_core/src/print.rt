@@ -1,4 +1,4 @@
-//! Prints answers: refusals, accepted changes, rows and versions here.
+//! Prints answers. This file has refusals, accepted changes, rows and versions.
 ghost use Rattle.std.specs.Prelude.{◌≡◌, [], ◌∷◌, ◌++◌, List, OnErr, OnOk, map};
 ghost use Rattle.csv.specs.Writing.{row_text};
 ghost use Rattle.share_core.specs.Pieces.{piece};
@@ -50,11 +50,11 @@ impl<'a> RecordList for VersionRecords<'a> {
 }
 
 impl AnswerWriter {
-    /// Adds the records of an answer. Many rows, versions or parts are shared out among workers.
+    /// Appends the records of an answer. Workers share long lists.
     ///
     /// # Errors
     ///
-    /// `NoMemory` where a growth is refused: then what was printed and is not yet written is lost.
+    /// `NoMemory` if an allocation fails. Then all bytes that weren't written are lost.
     pub fn print<R: Threads + Sync, G>(
         &mut self,
         crew: &Crew<'_, R, G>,
@@ -69,12 +69,11 @@ impl AnswerWriter {
         self.settled(printed)
     }
 
-    /// Adds the record that begins the answer to a block of commands, whose queries read what the commit of this
-    /// number shows.
+    /// Appends the record that begins the answer to a block of commands. `commit` is the commit that its queries read.
     ///
     /// # Errors
     ///
-    /// `NoMemory` where a growth is refused: then what was printed and is not yet written is lost.
+    /// `NoMemory` if an allocation fails. Then all bytes that weren't written are lost.
     pub fn together(&mut self, commit: u64) -> Result<(), NoMemory>
         ensures ok { OnOk result (Adds self.old self.new (together_record commit ∷ [])) }
         ensures err { OnErr result (self.new ≡ []) }
@@ -130,14 +129,14 @@ impl AnswerWriter {
         self.text.log(log)
     }
 
-    /// Ends the records of a list, of which there are so many.
+    /// Appends the record that ends a list of `count` records.
     pub(crate) fn end(&mut self, count: u64) -> Result<(), NoMemory>
         ensures { OnOk result (Adds self.old self.new (end_record count ∷ [])) }
     {
         self.text.end_of_list(count)
     }
 
-    /// Rows, and how many there are.
+    /// Appends rows, and their number.
     fn row_list<R: Threads + Sync, G>(
         &mut self,
         crew: &Crew<'_, R, G>,
@@ -149,7 +148,7 @@ impl AnswerWriter {
         self.end(rows.len() as u64)
     }
 
-    /// Versions, and how many there are.
+    /// Appends versions, and their number.
     fn version_list<R: Threads + Sync, G>(
         &mut self,
         crew: &Crew<'_, R, G>,
@@ -163,7 +162,7 @@ impl AnswerWriter {
 }
 
 impl RecordText {
-    /// The answer to a command that is refused.
+    /// Appends the answer to a refused command.
     fn refusal(&mut self, fault: Fault) -> Result<(), NoMemory>
         ensures { OnOk result (self.new ≡ self.old ++ row_text answer_writer (error_record fault)) }
     {
@@ -173,7 +172,7 @@ impl RecordText {
         self.end()
     }
 
-    /// The answer to a change that is accepted.
+    /// Appends the answer to an accepted change.
     fn accepted(&mut self, commit: u64) -> Result<(), NoMemory>
         ensures { OnOk result (self.new ≡ self.old ++ row_text answer_writer (ok_record commit)) }
     {
@@ -182,7 +181,7 @@ impl RecordText {
         self.end()
     }
 
-    /// The beginning of the answer to a block of commands.
+    /// Appends the first record of the answer to a block of commands.
     fn opening(&mut self, commit: u64) -> Result<(), NoMemory>
         ensures { OnOk result
             (self.new ≡ self.old ++ row_text answer_writer (together_record commit)) }
@@ -192,7 +191,7 @@ impl RecordText {
         self.end()
     }
 
-    /// The rows of a range of places.
+    /// Appends the rows of a range of indices.
     fn some_rows(&mut self, rows: &SharedRows, places: Range<usize>) -> Result<(), NoMemory>
         ensures { OnOk result (self.new ≡ self.old
             ++ bytes_of (piece places (map row_record rows.now))) }
@@ -215,7 +214,7 @@ impl RecordText {
         self.end()
     }
 
-    /// The versions of a range of places.
+    /// Appends the versions of a range of indices.
     fn some_versions(
         &mut self,
         versions: &SharedVersions,
@@ -255,7 +254,7 @@ impl RecordText {
         }
     }
 
-    /// Ends the records of a list, of which there are so many.
+    /// Appends the record that ends a list of `count` records.
     pub(crate) fn end_of_list(&mut self, count: u64) -> Result<(), NoMemory>
         ensures { OnOk result (self.new ≡ self.old ++ row_text answer_writer (end_record count)) }
     {

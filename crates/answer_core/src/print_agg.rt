@@ -1,4 +1,4 @@
-//! Prints what the rows of a table come to.
+//! Prints the answer to an aggregate.
 ghost use Rattle.std.specs.Prelude.{◌≡◌, ◌++◌, [], OnOk, map};
 ghost use Rattle.std.specs.Option.{option_copied};
 ghost use Rattle.csv.specs.Writing.{fields_text, row_text};
@@ -18,7 +18,7 @@ use share_core::{Range, piece};
 use std::thread::Threads;
 use work_core::Crew;
 
-/// The records of some plateaus of a share.
+/// The records of some constant intervals of a partition (`AggShare`).
 #[derive(Drop)]
 struct PlateauRecords<'a> {
     share: &'a AggShare,
@@ -35,7 +35,7 @@ impl<'a> RecordList for PlateauRecords<'a> {
 }
 
 impl AnswerWriter {
-    /// What the groups come to, and for how many periods.
+    /// Appends each group's values over time, and the number of records.
     pub(crate) fn aggregates<R: Threads + Sync, G>(
         &mut self,
         crew: &Crew<'_, R, G>,
@@ -80,7 +80,7 @@ impl AnswerWriter {
 }
 
 impl RecordText {
-    /// The rows of some plateaus of a share.
+    /// Appends the rows of some constant intervals of a partition.
     fn agg_rows(&mut self, share: &AggShare, plateaus: &[Plateau]) -> Result<(), NoMemory>
         ensures { OnOk result (self.new ≡ self.old
             ++ bytes_of (map agg_record (map (agg_row_of share.now.groups.items) plateaus.now))) }
@@ -105,7 +105,7 @@ impl RecordText {
         self.end()
     }
 
-    /// The value of a group; nothing where all rows are one group.
+    /// Appends the value of a group; nothing if all rows are one group.
     fn group(&mut self, group: Option<&Value>) -> Result<(), NoMemory>
         ensures { OnOk result (self.new ≡ self.old
             ++ fields_text answer_writer (group_fields (option_copied group.entry))) }

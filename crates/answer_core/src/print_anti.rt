@@ -1,4 +1,4 @@
-//! Prints rows of a table when none of another matched them.
+//! Prints the answer to an anti-join.
 ghost use Rattle.std.specs.Prelude.{◌≡◌, ◌++◌, [], OnOk, map};
 ghost use Rattle.csv.specs.Writing.{row_text};
 ghost use Rattle.list_core.specs.Chunks.{all_in};
@@ -17,7 +17,7 @@ use share_core::{Range, piece};
 use std::thread::Threads;
 use work_core::Crew;
 
-/// The records of rows that none matched.
+/// The records of rows without a match.
 #[derive(Drop)]
 struct AntiRecords<'a> {
     rows: &'a [AntiRow],
@@ -33,7 +33,7 @@ impl<'a> RecordList for AntiRecords<'a> {
 }
 
 impl AnswerWriter {
-    /// The rows with the periods in which none matched them, and how many there are.
+    /// Appends the rows, with the periods without a match, and their number.
     pub(crate) fn unmatched<R: Threads + Sync, G>(
         &mut self,
         crew: &Crew<'_, R, G>,

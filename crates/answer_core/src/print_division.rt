@@ -1,4 +1,4 @@
-//! Prints divisions, and the verdicts on claimed ones.
+//! Prints divisions, and verdicts on claimed ones.
 ghost use Rattle.std.specs.Prelude.{◌≡◌, ◌∷◌, ◌++◌, ℤ, OnOk, Option, codes, decimal, map};
 ghost use Rattle.csv.specs.Writing.{row_text};
 ghost use Rattle.share_core.specs.Pieces.{piece};
@@ -32,7 +32,7 @@ impl<'a> RecordList for PartRecords<'a> {
 }
 
 impl AnswerWriter {
-    /// A division of so many rows, and its instant.
+    /// Appends a division of `rows` rows, and its instant.
     pub(crate) fn division<R: Threads + Sync, G>(
         &mut self,
         crew: &Crew<'_, R, G>,
@@ -60,7 +60,7 @@ impl AnswerWriter {
         self.parts(crew, rows, division)
     }
 
-    /// The parts of a division of so many rows. Workers share them out as though all were as long.
+    /// Appends the parts of a division of `rows` rows. Workers share the parts as if all had the same length.
     fn parts<R: Threads + Sync, G>(
         &mut self,
         crew: &Crew<'_, R, G>,
@@ -76,7 +76,7 @@ impl AnswerWriter {
 }
 
 impl RecordText {
-    /// The parts of a range of places.
+    /// Appends the parts of a range of indices.
     fn some_parts(&mut self, division: &Division, places: Range<usize>) -> Result<(), NoMemory>
         ensures { OnOk result (self.new ≡ self.old
             ++ bytes_of (piece places (part_records 0 division.now))) }
@@ -120,7 +120,7 @@ impl RecordText {
         self.end()
     }
 
-    /// What a check of a claimed division says.
+    /// Appends the verdict on a claimed division.
     pub(crate) fn verdict(&mut self, verdict: Verdict) -> Result<(), NoMemory>
         ensures { OnOk result
             (self.new ≡ self.old ++ row_text answer_writer (verdict_record verdict)) }

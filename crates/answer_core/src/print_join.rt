@@ -1,4 +1,4 @@
-//! Prints rows of two tables that held together.
+//! Prints the answer to a join.
 ghost use Rattle.std.specs.Prelude.{◌≡◌, ◌++◌, OnOk, map};
 ghost use Rattle.csv.specs.Writing.{row_body, row_text};
 ghost use Rattle.answer_core.specs.PrintedRecords.{join_front, join_record, join_records};
@@ -16,7 +16,7 @@ use share_core::{Range, piece};
 use std::thread::Threads;
 use work_core::Crew;
 
-/// The records of rows that were joined.
+/// The records of joined pairs.
 #[derive(Drop)]
 struct JoinRecords<'a> {
     rows: &'a [JoinRow],
@@ -33,7 +33,7 @@ impl<'a> RecordList for JoinRecords<'a> {
 }
 
 impl AnswerWriter {
-    /// The rows that were joined, and how many there are.
+    /// Appends the joined pairs, and their number.
     pub(crate) fn joined<R: Threads + Sync, G>(
         &mut self,
         crew: &Crew<'_, R, G>,
@@ -84,7 +84,7 @@ impl RecordText {
         self.end()
     }
 
-    /// Begins the record of two rows, up to their values.
+    /// Begins the record of a pair, up to its values.
     fn join_front(&mut self, row: &JoinRow) -> Result<(), NoMemory>
         ensures { OnOk result (self.new ≡ self.old ++ row_body answer_writer (join_front row.now)) }
     {

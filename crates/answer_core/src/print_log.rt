@@ -10,7 +10,7 @@ use book_core::{Entry, Log};
 use period_core::NoMemory;
 
 impl RecordText {
-    /// The commits of a log, and how many there are.
+    /// Appends the commits of a log, and their number.
     pub(crate) fn log(&mut self, log: &Log) -> Result<(), NoMemory>
         ensures { OnOk result (self.new ≡ self.old ++ bytes_of (commit_records log.now)) }
     {

@@ -1,4 +1,4 @@
-//! Records that workers make, each those of a range of places.
+//! Prints a list of records on several workers, each of which prints a partition of it.
 ghost use Rattle.std.specs.Prelude.{◌≡◌, ◌++◌, List, length, IfOk, OnOk};
 ghost use Rattle.list_core.specs.Chunks.{all_in};
 ghost use Rattle.share_core.specs.Pieces.{piece};
@@ -14,18 +14,18 @@ use std::alloc::Global;
 use std::thread::Threads;
 use work_core::Crew;
 
-/// A list of records, of which those of some places can be made without the others.
+/// A list of records, any range of which can be printed by itself.
 pub(crate) trait RecordList: Sync {
     // The records.
     ghost records: { Self → List Record };
 
-    /// Adds those of a range of places.
+    /// Appends the records of a range of indices.
     fn print_piece(&self, text: &mut RecordText, places: Range<usize>) -> Result<(), NoMemory>
         ensures { OnOk result
             (text.new ≡ text.old ++ bytes_of (piece places (records self.now))) };
 }
 
-/// The text of the records of a range of places.
+/// Returns the text of the records of a range of indices.
 fn text_of<L: RecordList>(
     alloc: Global,
     list: &L,
@@ -38,7 +38,7 @@ fn text_of<L: RecordList>(
     Ok(text.into_bytes())
 }
 
-/// The records of a list in several texts, one for each of the ranges.
+/// Returns the records of a list as several texts, one for each partition.
 fn texts_of<R: Threads + Sync, G, L: RecordList>(
     crew: &Crew<'_, R, G>,
     shares: &Shares<usize>,
@@ -59,7 +59,7 @@ fn texts_of<R: Threads + Sync, G, L: RecordList>(
 }
 
 impl AnswerWriter {
-    /// Adds the records of a list, of which there are so many. Workers share them out by places.
+    /// Appends the `count` records of a list. Workers share them by index.
     pub(crate) fn by_places<R: Threads + Sync, G, L: RecordList>(
         &mut self,
         crew: &Crew<'_, R, G>,
@@ -73,7 +73,7 @@ impl AnswerWriter {
         self.by_ranges(crew, &shares, list)
     }
 
-    /// Adds the records of a list, those of each range by a worker of its own.
+    /// Appends the records of a list. Each partition has a worker of its own.
     pub(crate) fn by_ranges<R: Threads + Sync, G, L: RecordList>(
         &mut self,
         crew: &Crew<'_, R, G>,

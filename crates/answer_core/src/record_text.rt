@@ -1,5 +1,5 @@
-//! Makes the text of records field by field, as `csv` writes them: numbers and points as they are, other fields with
-//! the quotes that they call for.
+//! Makes the text of records field by field, as `csv` writes them: numbers and points without quotes, other fields in
+//! quotes if they need them.
 ghost use Rattle.std.specs.Prelude.{◌≡◌, ◌∷◌, ◌++◌, [], OnOk, decimal, false, map, true};
 ghost use Rattle.std.specs.Fmt.{signed_decimal};
 ghost use Rattle.std.specs.Option.{option_map_or};
@@ -18,11 +18,11 @@ use std::alloc::Global;
 use std::marker::Model;
 use table_core::RowRef;
 
-/// The text of records, one behind another, of which the last may not have ended. Contracts see its bytes.
+/// The text of consecutive records, the last of which may be unfinished. Contracts see its bytes.
 #[derive(Drop)]
 pub(crate) struct RecordText {
     bytes: Vec<u8>,
-    /// The starts and the ends of periods.
+    /// Caches of the text of the last start and of the last end.
     from: KeptText,
     to: KeptText,
 }
@@ -36,7 +36,7 @@ impl Model for RecordText {
 }
 
 impl RecordText {
-    /// No records.
+    /// Returns a text without records.
     pub(crate) fn new(alloc: Global) -> Self
         ensures { result ≡ [] }
     {
@@ -47,28 +47,28 @@ impl RecordText {
         }
     }
 
-    /// The bytes.
+    /// Returns the bytes.
     pub(crate) fn as_bytes(&self) -> &[u8]
         ensures { result.now ≡ self.now }
     {
         &self.bytes
     }
 
-    /// The bytes, where nothing more is added.
+    /// Returns the bytes, and ends the text.
     pub(crate) fn into_bytes(self) -> Vec<u8>
         ensures { result.items ≡ self }
     {
         self.bytes
     }
 
-    /// Drops all records. The room for them is kept.
+    /// Removes all records, and keeps the capacity.
     pub(crate) fn clear(&mut self)
         ensures { self.new ≡ [] }
     {
         self.bytes.clear();
     }
 
-    /// Begins a record by a first field, which calls for no quotes.
+    /// Begins a record with a first field, which must not need quotes.
     pub(crate) fn begin(&mut self, word: &[u8]) -> Result<(), NoMemory>
         ensures { OnOk result (self.new ≡ self.old ++ word.now) }
     {
@@ -82,14 +82,14 @@ impl RecordText {
         self.bytes.extend_from_slice(b"\n")
     }
 
-    /// Adds a field.
+    /// Appends a field.
     pub(crate) fn field(&mut self, field: &[u8]) -> Result<(), NoMemory>
         ensures { OnOk result (self.new ≡ self.old ++ field_behind field.now) }
     {
         push_field(&mut self.bytes, field)
     }
 
-    /// Adds a number.
+    /// Appends a number.
     pub(crate) fn number(&mut self, number: u64) -> Result<(), NoMemory>
         ensures { OnOk result (self.new ≡ self.old ++ field_behind (decimal number)) }
     {
@@ -97,7 +97,7 @@ impl RecordText {
         push_plain(&mut self.bytes, digits.format(number).as_bytes())
     }
 
-    /// Adds a number of up to 128 bits that may be negative.
+    /// Appends a signed number of up to 128 bits.
     pub(crate) fn wide(&mut self, number: i128) -> Result<(), NoMemory>
         ensures { OnOk result (self.new ≡ self.old ++ field_behind (signed_decimal number)) }
     {
@@ -105,14 +105,14 @@ impl RecordText {
         push_field(&mut self.bytes, digits.format(number).as_bytes())
     }
 
-    /// Adds a point.
+    /// Appends a point.
     pub(crate) fn point(&mut self, point: Point) -> Result<(), NoMemory>
         ensures { OnOk result (self.new ≡ self.old ++ field_behind (point_text point)) }
     {
         push_plain(&mut self.bytes, self.from.text_of(point)?)
     }
 
-    /// Adds the start and the end of a period.
+    /// Appends the start and the end of a period.
     pub(crate) fn period(&mut self, period: &Period) -> Result<(), NoMemory>
         ensures { OnOk result (self.new ≡ self.old
             ++ (field_behind (point_text period.now.from)
@@ -122,7 +122,7 @@ impl RecordText {
         push_plain(&mut self.bytes, self.to.text_of(period.to)?)
     }
 
-    /// Adds a value.
+    /// Appends a value.
     pub(crate) fn value(&mut self, value: ValueRef<'_>) -> Result<(), NoMemory>
         ensures { OnOk result
             (self.new ≡ self.old ++ field_behind (value_text (lent_value value.entry))) }
@@ -136,7 +136,7 @@ impl RecordText {
         }
     }
 
-    /// Adds the values of a row.
+    /// Appends the values of a row.
     pub(crate) fn values(&mut self, row: RowRef<'_>) -> Result<(), NoMemory>
         ensures { OnOk result (self.new ≡ self.old
             ++ fields_text answer_writer (map value_text (lent_row row.entry).values)) }
@@ -150,7 +150,7 @@ impl RecordText {
         Ok(())
     }
 
-    /// Adds the values of a row, where there is one.
+    /// Appends the values of a row, or nothing for `None`.
     pub(crate) fn values_of(&mut self, row: Option<RowRef<'_>>) -> Result<(), NoMemory>
         ensures { OnOk result (self.new ≡ self.old ++ fields_text answer_writer (map value_text
             (option_map_or (λ row. (lent_row row).values) row.entry []))) }
@@ -162,21 +162,21 @@ impl RecordText {
     }
 }
 
-/// Whether a field with this byte is written in quotes.
+/// Returns whether a field with this byte is written in quotes.
 fn needs_byte(byte: u8) -> bool
     ensures { result ≡ needs_byte answer_writer byte }
 {
     byte == b',' || byte == b'"' || byte == b'\r' || byte == b'\n'
 }
 
-/// Whether a field is written in quotes.
+/// Returns whether a field is written in quotes.
 fn needs_quotes(field: &[u8]) -> bool
     ensures { result ≡ needs_quotes answer_writer field.now }
 {
     field.iter().any(|byte| needs_byte(*byte))
 }
 
-/// Adds a field, in quotes where it calls for them.
+/// Appends a field, in quotes if it needs them.
 fn push_field(text: &mut Vec<u8>, field: &[u8]) -> Result<(), NoMemory>
     ensures { OnOk result (text.new.items ≡ text.old.items ++ field_behind field.now) }
 {
@@ -187,7 +187,7 @@ fn push_field(text: &mut Vec<u8>, field: &[u8]) -> Result<(), NoMemory>
     }
 }
 
-/// Adds a field that calls for no quotes.
+/// Appends a field that needs no quotes.
 fn push_plain(text: &mut Vec<u8>, field: &[u8]) -> Result<(), NoMemory>
     requires { needs_quotes answer_writer field.now ≡ false }
     ensures { OnOk result (text.new.items ≡ text.old.items ++ field_behind field.now) }
@@ -196,7 +196,7 @@ fn push_plain(text: &mut Vec<u8>, field: &[u8]) -> Result<(), NoMemory>
     text.extend_from_slice(field)
 }
 
-/// Adds a field in quotes.
+/// Appends a field in quotes.
 fn push_quoted(text: &mut Vec<u8>, field: &[u8]) -> Result<(), NoMemory>
     requires { needs_quotes answer_writer field.now ≡ true }
     ensures { OnOk result (text.new.items ≡ text.old.items ++ field_behind field.now) }
@@ -206,7 +206,7 @@ fn push_quoted(text: &mut Vec<u8>, field: &[u8]) -> Result<(), NoMemory>
     text.extend_from_slice(b"\"")
 }
 
-/// Adds what stands between the quotes of a field.
+/// Appends the text between the quotes of a field.
 fn push_escaped(text: &mut Vec<u8>, field: &[u8]) -> Result<(), NoMemory>
     ensures { OnOk result (text.new.items ≡ text.old.items ++ escaped answer_writer field.now) }
 {
@@ -216,7 +216,7 @@ fn push_escaped(text: &mut Vec<u8>, field: &[u8]) -> Result<(), NoMemory>
     Ok(())
 }
 
-/// Adds a byte between quotes.
+/// Appends a byte between quotes.
 fn push_byte(text: &mut Vec<u8>, byte: u8) -> Result<(), NoMemory>
     ensures { OnOk result (text.new.items ≡ text.old.items ++ escaped answer_writer (byte ∷ [])) }
 {

@@ -1,4 +1,4 @@
-//! The values of rows, by the rows' ids.
+//! The values of rows, found by the rows' ids.
 ghost use Rattle.std.specs.Prelude.{◌≡◌, [], All, IfOk, IsTrue};
 ghost use Rattle.std.specs.Option.{option_map_or};
 ghost use Rattle.row_core.specs.Rows.{RowsRise};
@@ -15,7 +15,7 @@ use table_core::{RowRef, SharedRows};
 #[derive(Drop)]
 pub(crate) struct RowValues<'a> {
     rows: RowsById<'a>,
-    /// No row has values, so that none is looked for.
+    /// Whether no row has values. Then no row is searched for.
     bare: bool,
 }
 
@@ -31,7 +31,7 @@ impl<'a> Model for RowValues<'a> {
 }
 
 impl<'a> RowValues<'a> {
-    /// The values of these rows.
+    /// Returns an index of the values of `rows`.
     pub(crate) fn new(alloc: Global, rows: &'a SharedRows) -> Result<RowValues<'a>, NoMemory>
         requires { RowsRise rows.now }
         ensures { IfOk result (λ values. values ≡ rows.entry.now) }
@@ -42,7 +42,7 @@ impl<'a> RowValues<'a> {
         })
     }
 
-    /// The row of that id, which has its values; none where no row has values, or none has that id.
+    /// Returns the row with this id, or `None` if it doesn't exist or no row has values.
     pub(crate) fn of(&self, id: u64) -> Option<RowRef<'a>>
         ensures { option_map_or (λ row. (lent_row row).values) result []
             ≡ values_with self.now id }
@@ -54,7 +54,7 @@ impl<'a> RowValues<'a> {
     }
 }
 
-/// Whether no row has values, as in a table without columns.
+/// Returns whether no row has values, like the rows of a table without columns.
 fn are_bare(rows: &SharedRows) -> bool
     ensures { IsTrue result → All (λ row. row.values ≡ []) rows.now }
 {

@@ -1,4 +1,4 @@
-//! Writes texts that stand behind one another.
+//! Writes several texts, in order.
 ghost use Rattle.std.specs.Prelude.{◌≡◌, ◌+◌, ◌≤◌, ◌++◌, IfErr, OnErr, OnOk};
 ghost use Rattle.std.specs.Io.KnownBytes.{Appends};
 ghost use Rattle.list_core.specs.Chunks.{all_in};
@@ -9,7 +9,7 @@ ghost use Rattle.stream_core.specs.Faults.{WritesPartOf, last_failures};
 use std::io::Write;
 use stream_core::{Counted, Patience, RunFault, write_all};
 
-/// Writes texts, one behind another. On a fault a front of them is written, which is less than all.
+/// Writes texts in order. On a fault a proper prefix of their bytes was written.
 fn write_each<W: Write>(
     writer: &mut Counted<W>,
     patience: &mut Patience,
@@ -31,8 +31,7 @@ fn write_each<W: Write>(
     Ok(())
 }
 
-/// Writes texts, one behind another, and a last one behind them. On a fault a front of them is
-/// written, which is less than all.
+/// Writes texts in order, then a last one. On a fault a proper prefix of their bytes was written.
 pub(crate) fn write_texts<W: Write>(
     writer: &mut Counted<W>,
     patience: &mut Patience,

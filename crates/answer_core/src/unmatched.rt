@@ -1,4 +1,4 @@
-//! Rows of a table when none of another matched them.
+//! The answer to an anti-join.
 ghost use Rattle.std.specs.Prelude.{◌≡◌, IfOk};
 ghost use Rattle.row_core.specs.Rows.{RowsRise};
 
@@ -9,7 +9,7 @@ use std::alloc::Global;
 use std::marker::Model;
 use table_core::SharedRows;
 
-/// The left table's rows, by rising id, and when each held with no right row that matched it.
+/// The left table's rows, by ascending id, and the periods when no right row matches them.
 #[derive(Drop)]
 pub struct Unmatched {
     left: SharedRows,
@@ -28,7 +28,7 @@ impl Model for Unmatched {
 }
 
 impl Unmatched {
-    /// The left table's rows, and when each held with no right row that matched it.
+    /// Returns the answer of the left table's rows and the periods when no right row matches them.
     pub fn new(left: SharedRows, rows: AntiRows) -> Unmatched
         requires { RowsRise left }
         ensures { result ≡ record { left = left; rows = rows } }
@@ -36,14 +36,14 @@ impl Unmatched {
         Unmatched { left, rows }
     }
 
-    /// When they held with no match.
+    /// Returns the rows' ids with the periods without a match.
     pub(crate) fn rows(&self) -> &AntiRows
         ensures { result.now ≡ self.now.rows }
     {
         &self.rows
     }
 
-    /// The values of the left table's rows.
+    /// Returns the values of the left table's rows.
     pub(crate) fn left_values(&self, alloc: Global) -> Result<RowValues<'_>, NoMemory>
         ensures { IfOk result (λ values. values ≡ self.now.left) }
     {

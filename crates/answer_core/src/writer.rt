@@ -15,14 +15,14 @@ use std::marker::Model;
 use std::mem;
 use stream_core::{Counted, Patience, RunFault};
 
-/// The bytes of an answer for which the room is kept for the next one.
+/// If the last text of an answer is longer, its memory is freed once it is written. In bytes.
 const KEPT: usize = 65_536;
 
 /// Makes the bytes of an answer, and writes them. Contracts see the bytes of its records so far.
 #[derive(Drop)]
 pub struct AnswerWriter {
     alloc: Global,
-    /// Texts that stand before the last: none is moved for another behind it.
+    /// The texts before the last. Appending to the answer moves none of them.
     done: Vec<Vec<u8>>,
     pub(crate) text: RecordText,
 }
@@ -36,7 +36,7 @@ impl Model for AnswerWriter {
     ghost view = { λ a. all_in a.done.items ++ a.text };
 }
 
-/// Puts a text behind others, and begins another.
+/// Moves a text to the end of `texts`, and begins an empty one.
 fn close(alloc: Global, texts: &mut Vec<Vec<u8>>, text: &mut RecordText) -> Result<(), NoMemory>
     ensures texts { OnOk result (all_in texts.new.items ≡ all_in texts.old.items ++ text.old) }
     ensures text { text.new ≡ [] }
@@ -47,7 +47,7 @@ fn close(alloc: Global, texts: &mut Vec<Vec<u8>>, text: &mut RecordText) -> Resu
 }
 
 impl AnswerWriter {
-    /// An answer without records.
+    /// Returns an answer without records.
     pub fn new(alloc: Global) -> Self
         ensures { result ≡ [] }
     {
@@ -58,14 +58,14 @@ impl AnswerWriter {
         }
     }
 
-    /// Drops what was not written.
+    /// Discards all bytes that weren't written.
     pub(crate) fn restart(&mut self)
         ensures { self.new ≡ [] }
     {
         *self = AnswerWriter::new(self.alloc);
     }
 
-    /// Adds texts of records.
+    /// Appends texts of records.
     pub(crate) fn add_texts(&mut self, mut texts: Vec<Vec<u8>>) -> Result<(), NoMemory>
         ensures { OnOk result (self.new ≡ self.old ++ all_in texts.items) }
     {
@@ -73,11 +73,11 @@ impl AnswerWriter {
         self.done.append(&mut texts)
     }
 
-    /// Adds the records of another answer.
+    /// Appends the records of another answer.
     ///
     /// # Errors
     ///
-    /// `NoMemory` where a growth is refused: then what was printed and is not yet written is lost.
+    /// `NoMemory` if an allocation fails. Then all bytes that weren't written are lost.
     pub fn append(&mut self, other: AnswerWriter) -> Result<(), NoMemory>
         ensures ok { OnOk result (self.new ≡ self.old ++ other) }
         ensures err { OnErr result (self.new ≡ []) }
@@ -86,7 +86,7 @@ impl AnswerWriter {
         self.settled(added)
     }
 
-    /// Adds the records of another answer behind those of this one.
+    /// Appends the records of another answer.
     fn put_behind(&mut self, mut other: AnswerWriter) -> Result<(), NoMemory>
         ensures { OnOk result (self.new ≡ self.old ++ other) }
     {
@@ -96,7 +96,7 @@ impl AnswerWriter {
         Ok(())
     }
 
-    /// What adding records gave. Where a growth was refused, nothing is kept.
+    /// Returns `added`, the outcome of adding records. If it is an error, all bytes are discarded.
     pub(crate) fn settled(&mut self, added: Result<(), NoMemory>) -> Result<(), NoMemory>
         ensures same { result ≡ added }
         ensures ok { OnOk result (self.new ≡ self.old) }
@@ -112,8 +112,8 @@ impl AnswerWriter {
     ///
     /// # Errors
     ///
-    /// `NoMemory` with none of the answer written: then it is lost. `WriteFault` with a front of it
-    /// written, which is less than the whole: then it is still all here.
+    /// - `NoMemory`: nothing was written, and the answer is lost.
+    /// - `WriteFault`: a proper prefix of the answer was written, and all of it is still here.
     pub fn write_to<W: Write>(
         &mut self,
         writer: &mut Counted<W>,

@@ -1,4 +1,4 @@
--- Any rows of two tables have an anti-join, and only one.
+-- Any rows of two tables have exactly one anti-join.
 use Rattle.std.proofs.Common.{◌≡◌, ◌⊎◌, inl, inr, ℤ, List, [], ◌∷◌, map, refl, sym, subst}
 use Rattle.std.specs.Prelude.{Contains}
 use Rattle.period_core.specs.declared.period.Period.{Period}
@@ -22,16 +22,16 @@ use Rattle.anti_core.proofs.MaximalLemmas.{AreMaximal, AreMaximal-same, AreMaxim
 use Rattle.anti_core.proofs.OrderLemmas.{AntiRow-same_fields, anti_total, tied_rows}
 
 module _ (Matches : Row → Row → Type 0) (decided : (x y : Row) → Matches x y ⊎ (Matches x y → ⊥)) where
-  -- without right rows all of a row is unmet
+  -- without right rows all instants of a row are unmet
   none-unmet : (x : Row) (t : ℤ) → Holds x.period t → IsUnmet Matches [] x t
   none-unmet x t h = record { held = h; unmet = λ m. Contains-none m.by m.by_in }
 
-  -- what is met is met with one right row more
+  -- a met instant stays met with one more right row
   pub met-more : (x y : Row) (right : List Row) (t : ℤ) → IsMet Matches right x t → IsMet Matches (y ∷ right) x t
   met-more x y right t is =
       record { by = is.by; by_in = Contains-cons y right is.by is.by_in; matches = is.matches; holds = is.holds }
 
-  -- what one right row more meets is what it meets itself, or was met before
+  -- an instant that is met with one more right row is met by that row, or was met before
   pub met-cases : (x y : Row) (right : List Row) (t : ℤ) → IsMet Matches (y ∷ right) x t
       → (Matches x y × Holds y.period t) ⊎ IsMet Matches right x t
   met-cases x y right t is = elim (Contains-cons_cases y right is.by is.by_in) [
@@ -42,7 +42,7 @@ module _ (Matches : Row → Row → Type 0) (decided : (x y : Row) → Matches x
     | inr later ↦ inr (record { by = is.by; by_in = later; matches = is.matches; holds = is.holds })
   ]
 
-  -- what is unmet with one right row more that matches is what it doesn't hold of what was unmet
+  -- an instant that is unmet with one more matching right row was unmet before, and the row doesn't hold it
   unmet-without : (x y : Row) (right : List Row) → Matches x y → (t : ℤ) → IsUnmet Matches (y ∷ right) x t
       → Without (IsUnmet Matches right x) y.period t
   unmet-without x y right same t is = (
@@ -50,7 +50,7 @@ module _ (Matches : Row → Row → Type 0) (decided : (x y : Row) → Matches x
     λ h. is.unmet (record { by = y; by_in = Contains-head y right; matches = same; holds = h }),
   )
 
-  -- and the other way round
+  -- and vice versa
   without-unmet : (x y : Row) (right : List Row) (t : ℤ) → Without (IsUnmet Matches right x) y.period t
       → IsUnmet Matches (y ∷ right) x t
   without-unmet x y right t is = record {
@@ -58,7 +58,7 @@ module _ (Matches : Row → Row → Type 0) (decided : (x y : Row) → Matches x
     unmet = λ m. elim (met-cases x y right t m) [ inl now ↦ is.1 now.1 | inr before ↦ is.0.unmet before ];
   }
 
-  -- one right row more that doesn't match changes nothing
+  -- one more right row that doesn't match changes nothing
   unmet-back : (x y : Row) (right : List Row) (t : ℤ) → IsUnmet Matches (y ∷ right) x t → IsUnmet Matches right x t
   unmet-back x y right t is = record { held = is.held; unmet = λ m. is.unmet (met-more x y right t m) }
 
@@ -69,7 +69,7 @@ module _ (Matches : Row → Row → Type 0) (decided : (x y : Row) → Matches x
     unmet = λ m. elim (met-cases x y right t m) [ inl now ↦ differ now.0 | inr before ↦ is.unmet before ];
   }
 
-  -- the maximal periods of what is unmet of a row
+  -- the maximal periods of a row's unmet instants
   some_periods : (x : Row) (right : List Row) → (periods : List Period) × AreMaximal (IsUnmet Matches right x) periods
   some_periods x [] = (
     x.period ∷ [],
@@ -92,12 +92,12 @@ module _ (Matches : Row → Row → Type 0) (decided : (x y : Row) → Matches x
         )
       ]
 
-  -- a row of one left row
+  -- A row of one left row.
   record IsRowOf (right : List Row) (x : Row) (row : AntiRow) : Type 0 where
     id : row.id ≡ x.id
     maximal : IsMaximal (IsUnmet Matches right x) row.period
 
-  -- that of a period
+  -- The row of a period.
   row_of : Row → Period → AntiRow
   row_of x p = record { id = x.id; period = p }
 
@@ -120,7 +120,7 @@ module _ (Matches : Row → Row → Type 0) (decided : (x y : Row) → Matches x
         ),
       )
 
-  -- rows whose matching is decided have an anti-join
+  -- rows with a decidable match have an anti-join
   some_anti_of : (left right : List Row) → (rows : List AntiRow) × IsAnti Matches left right rows
   some_anti_of left right =
       let (unordered, all) = some_unordered (IsRowOf right) (some_rows right) left in
@@ -131,13 +131,13 @@ module _ (Matches : Row → Row → Type 0) (decided : (x y : Row) → Matches x
             (λ row of. (of.x, of.x_in, record { id = of.id; maximal = of.maximal })) is,
       )
 
--- any rows have an anti-join, whatever the pairs of columns behind on
+-- any rows have an anti-join, for any pairs of columns
 pub some_anti : (left_columns right_columns : List Column) (on : List NamePair) (left right : List Row)
     → (rows : List AntiRow) × IsAnti (MatchesOn left_columns right_columns on) left right rows
 some_anti left_columns right_columns on left right =
     some_anti_of (MatchesOn left_columns right_columns on) (match_or_not left_columns right_columns on) left right
 
--- they have no other
+-- and no other one
 pub one_anti : (left_columns right_columns : List Column) (on : List NamePair) (left right : List Row)
     (one other : List AntiRow) → IsAnti (MatchesOn left_columns right_columns on) left right one
     → IsAnti (MatchesOn left_columns right_columns on) left right other → one ≡ other

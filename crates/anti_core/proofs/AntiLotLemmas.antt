@@ -1,4 +1,4 @@
--- The anti-joins of rows that are sent to lots, and the anti-join of all.
+-- The anti-joins of lots of rows, and the anti-join of all rows.
 use Rattle.std.proofs.Common.{◌≡◌, ℕ, ℤ, List, sym, ◌∙◌}
 use Rattle.std.specs.Prelude.{Contains}
 use Rattle.row_core.specs.declared.row.Row.{Row}
@@ -14,11 +14,11 @@ use Rattle.anti_core.specs.AntiLots.{LotAntiIsOfWhole, LotAntisAreApart, WholeAn
 use Rattle.anti_core.proofs.OrderLemmas.{anti_total}
 
 module _ (Matches : Row → Row → Type 0) (left right : List Row) (left_lot right_lot : Row → ℕ) where
-  -- a row of the anti-join of what is sent to a lot
+  -- A row of a lot's anti-join.
   abbrev IsLotRow : ℕ → AntiRow → Type 0
   IsLotRow lot = IsAntiRow Matches (rows_sent left_lot lot left) (rows_sent right_lot lot right)
 
-  -- what a row that is sent to a lot meets it is met by
+  -- an instant that a row of the lot meets is met by all rows together
   met_by_all : (lot : ℕ) (x : Row) (t : ℤ) → IsMet Matches (rows_sent right_lot lot right) x t
       → IsMet Matches right x t
   met_by_all lot x t m = record {
@@ -30,7 +30,7 @@ module _ (Matches : Row → Row → Type 0) (left right : List Row) (left_lot ri
 
   module _ (together : SendsTogether Matches left_lot right_lot left right) where
     module _ (lot : ℕ) (x : Row) (x_in : Contains left x) (to_lot : left_lot x ≡ lot) where
-      -- what meets a left row is sent to its lot
+      -- a right row that meets a left row goes to its lot
       met_by_sent : (t : ℤ) → IsMet Matches right x t → IsMet Matches (rows_sent right_lot lot right) x t
       met_by_sent t m = record {
         by = m.by;
@@ -40,14 +40,14 @@ module _ (Matches : Row → Row → Type 0) (left right : List Row) (left_lot ri
         holds = m.holds;
       }
 
-      -- so the same is unmet
+      -- so the same instants are unmet
       unmet_by_sent : (t : ℤ) → IsUnmet Matches right x t → IsUnmet Matches (rows_sent right_lot lot right) x t
       unmet_by_sent t u = record { held = u.held; unmet = λ m. u.unmet (met_by_all lot x t m) }
 
       unmet_by_all : (t : ℤ) → IsUnmet Matches (rows_sent right_lot lot right) x t → IsUnmet Matches right x t
       unmet_by_all t u = record { held = u.held; unmet = λ m. u.unmet (met_by_sent t m) }
 
-    -- a row of the anti-join of what is sent to a lot is one of the anti-join of all
+    -- a row of a lot's anti-join is a row of the whole anti-join
     whole_row : (lot : ℕ) (row : AntiRow) → IsLotRow lot row → IsAntiRow Matches left right row
     whole_row lot row is =
         let x_in : Contains left is.x = sent-in left_lot lot left is.x is.x_in in
@@ -60,7 +60,7 @@ module _ (Matches : Row → Row → Type 0) (left right : List Row) (left_lot ri
               row.period (unmet_by_all lot is.x x_in to_lot) (unmet_by_sent lot is.x x_in to_lot) is.maximal;
         }
 
-    -- a row of the anti-join of all is one of its left row's lot
+    -- a row of the whole anti-join is a row of its left row's lot
     lot_row : (lot : ℕ) (row : AntiRow) → (is : IsAntiRow Matches left right row) → left_lot is.x ≡ lot
         → IsLotRow lot row
     lot_row lot row is e = record {
@@ -71,12 +71,12 @@ module _ (Matches : Row → Row → Type 0) (left right : List Row) (left_lot ri
           row.period (unmet_by_sent lot is.x is.x_in e) (unmet_by_all lot is.x is.x_in e) is.maximal;
     }
 
--- the left row of a row of an anti-join
+-- The left row of an anti-join's row.
 abbrev left_of : (Matches : Row → Row → Type 0) (left right : List Row) (row : AntiRow) → IsAntiRow Matches left right row
     → (x : Row) × Contains left x × (row.id ≡ x.id)
 left_of Matches left right row is = (is.x, is.x_in, is.id)
 
--- so the laws of lots hold of anti-joins
+-- so the laws on lots hold for anti-joins
 pub lot_anti_is_of_whole : LotAntiIsOfWhole
 lot_anti_is_of_whole left_columns right_columns on left right left_lot right_lot lot whole rows rise together =
     let Matches = MatchesOn left_columns right_columns on in

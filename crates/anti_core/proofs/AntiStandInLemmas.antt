@@ -24,24 +24,24 @@ module _ (left_here right_here left_there right_there : List Column) (on_here on
     (rights : StandFor right_of right_id right)
     (alike : MatchAlike (MatchesOn left_here right_here on_here) (MatchesOn left_there right_there on_there) left_of right_of
     left right) where
-  -- a row of the anti-join of those that stand for others
+  -- A row of the anti-join of the rows that stand for others.
   abbrev IsRowHere : AntiRow → Type 0
   IsRowHere = IsAntiRow (MatchesOn left_here right_here on_here) left right
 
-  -- a row of the anti-join of these
+  -- A row of the anti-join of the others.
   abbrev IsRowThere : AntiRow → Type 0
   IsRowThere = IsAntiRow (MatchesOn left_there right_there on_there) (map left_of left) (map right_of right)
 
   module _ (x : Row) (x_in : Contains left x) where
-    -- what is unmet of a row
+    -- The unmet instants of a row.
     abbrev Here : ℤ → Type 0
     Here = IsUnmet (MatchesOn left_here right_here on_here) right x
 
-    -- what is unmet of the row that it stands for
+    -- The unmet instants of the row that it stands for.
     abbrev There : ℤ → Type 0
     There = IsUnmet (MatchesOn left_there right_there on_there) (map right_of right) (left_of x)
 
-    -- what is met here is met there
+    -- an instant that is met here is met there
     met_there : (t : ℤ) → IsMet (MatchesOn left_here right_here on_here) right x t
         → IsMet (MatchesOn left_there right_there on_there) (map right_of right) (left_of x) t
     met_there t m = record {
@@ -51,7 +51,7 @@ module _ (left_here right_here left_there right_there : List Column) (on_here on
       holds = subst (λ (p : Period). Holds p t) (sym (rights.period_is m.by m.by_in)) m.holds;
     }
 
-    -- and the other way round
+    -- and vice versa
     met_here : (t : ℤ) → IsMet (MatchesOn left_there right_there on_there) (map right_of right) (left_of x) t
         → IsMet (MatchesOn left_here right_here on_here) right x t
     met_here t m =
@@ -65,7 +65,7 @@ module _ (left_here right_here left_there right_there : List Column) (on_here on
           holds = subst (λ (p : Period). Holds p t) (rights.period_is y y_in) held;
         }
 
-    -- so the same is unmet
+    -- so the same instants are unmet
     unmet_there : (t : ℤ) → Here t → There t
     unmet_there t u = record {
       held = subst (λ (p : Period). Holds p t) (sym (lefts.period_is x x_in)) u.held;
@@ -78,7 +78,7 @@ module _ (left_here right_here left_there right_there : List Column) (on_here on
       unmet = λ m. u.unmet (met_there t m);
     }
 
-  -- the one is, with another id, the other
+  -- the first is, with a mapped id, the second
   row_there : (row : AntiRow) → IsRowHere row → IsRowThere (anti_row_of left_id row)
   row_there row is = record {
     x = left_of is.x;
@@ -88,7 +88,7 @@ module _ (left_here right_here left_there right_there : List Column) (on_here on
         (unmet_here is.x is.x_in) is.maximal;
   }
 
-  -- and the other comes of one
+  -- and each of the second comes from one of the first
   row_here : (row : AntiRow) → IsRowThere row → (some : AntiRow) × IsRowHere some × (anti_row_of left_id some ≡ row)
   row_here row is =
       let (x, x_in, x_is) = Contains-map_source left_of left is.x is.x_in in
@@ -109,13 +109,13 @@ module _ (left_here right_here left_there right_there : List Column) (on_here on
             (sym (lefts.id_is x x_in) ∙ ap (λ (v : Row). v.id) x_is ∙ sym is.id) refl,
       )
 
-  -- both are ordered alike
+  -- both are in the same order
   rows_alike : (a b : AntiRow) → anti_cmp (anti_row_of left_id a) (anti_row_of left_id b) ≡ anti_cmp a b
   rows_alike a b =
       λ i. ordering_then (ids_alike left_of left_id left lefts a.id b.id i)
       (ordering_then (int_cmp a.period.from b.period.from) (int_cmp a.period.to b.period.to))
 
--- whatever the columns
+-- for any columns
 pub anti_is_of_codes : AntiIsOfCodes
 anti_is_of_codes left_here right_here left_there right_there on_here on_there left right left_of right_of left_id
     right_id rows lefts rights alike =

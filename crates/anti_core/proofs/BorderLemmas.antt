@@ -1,4 +1,4 @@
--- The maximal periods of what is unmet of a row, by what lies at their ends.
+-- The maximal periods of a row's unmet instants, by their borders.
 use Rattle.std.proofs.Common.{◌⊎◌, ◌↔◌, List, [], ◌∷◌, inl, inr, arith}
 use Rattle.std.specs.Prelude.{ℤ, pos, ◌-ℤ◌, ◌≤ℤ◌, ◌<ℤ◌}
 use Rattle.std.proofs.lemmas.Int.{ints}
@@ -16,7 +16,7 @@ use Rattle.anti_core.specs.Anti.{IsMet, IsUnmet, IsBordered}
 use Rattle.anti_core.proofs.AntiExistence.{met-more, met-cases}
 
 module _ (Matches : Row → Row → Type 0) (decided : (x y : Row) → Matches x y ⊎ (Matches x y → ⊥)) where
-  -- a row holds an instant or not
+  -- it is decidable whether a period holds an instant
   holds_or_not : (p : Period) (t : ℤ) → Holds p t ⊎ (Holds p t → ⊥)
   holds_or_not p t = elim (by_order p.from t) [
     | inr early ↦ inr (λ h. let lo = h.0 in omega (arith, ints))
@@ -26,7 +26,7 @@ module _ (Matches : Row → Row → Type 0) (decided : (x y : Row) → Matches x
     ]
   ]
 
-  -- an instant is met or not
+  -- it is decidable whether an instant is met
   met_or_not : (right : List Row) (x : Row) (t : ℤ) → IsMet Matches right x t ⊎ (IsMet Matches right x t → ⊥)
   met_or_not [] x t = inr (λ m. Contains-none m.by m.by_in)
   met_or_not (y ∷ right) x t = elim (met_or_not right x t) [
@@ -77,7 +77,7 @@ module _ (Matches : Row → Row → Type 0) (decided : (x y : Row) → Matches x
         ];
       }
 
-  -- a period that has them is maximal
+  -- a period with these borders is maximal
   maximal-from_bordered : (right : List Row) (x : Row) (p : Period) → IsBordered Matches right x p
       → IsMaximal (IsUnmet Matches right x) p
   maximal-from_bordered right x p b = record {
@@ -92,7 +92,7 @@ module _ (Matches : Row → Row → Type 0) (decided : (x y : Row) → Matches x
     ];
   }
 
--- whatever the pairs of columns behind on
+-- for any pairs of columns
 pub maximal-bordered : (left_columns right_columns : List Column) (on : List NamePair) (right : List Row) (x : Row)
     (p : Period) → IsMaximal (IsUnmet (MatchesOn left_columns right_columns on) right x) p
     ↔ IsBordered (MatchesOn left_columns right_columns on) right x p

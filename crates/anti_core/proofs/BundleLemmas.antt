@@ -1,4 +1,4 @@
--- The rows of all items, from those of the items of some classes and of all higher ones.
+-- The rows of all items, from the rows of some classes and of all higher ones.
 use Rattle.std.proofs.Common.{◌≡◌, ◌≢◌, ◌⊎◌, ℕ, ◌+◌, ◌∷◌, ◌<◌, ◌≤◌, ℤ, All, Some, List, [], ◌++◌, length, get_or, sym, subst, ap, ◌∙◌, refl, inl, inr, arith, append-nil}
 use Rattle.std.specs.Prelude.{Contains, AllPairs, slice_get}
 use Rattle.std.proofs.lemmas.List.{append_assoc, length-append}
@@ -17,7 +17,7 @@ use Rattle.anti_core.specs.ItemAnti.{IsItemsAntiRow, AreItemsRows}
 use Rattle.anti_core.specs.United.{StandsBefore}
 use Rattle.anti_core.proofs.ItemLemmas.{AreItemsRows-none, covered-there}
 
--- united items rise by class
+-- coalesced items are in order of class
 pub united-rise : (items : List Item) → AllPairs StandsBefore items → ClassesRise items
 united-rise items ordered = λ i j d upto inside.
     (elim (equal_or_less i j upto) [
@@ -31,9 +31,9 @@ united-rise items ordered = λ i j d upto inside.
     equal_or_less : (m n : ℕ) → m ≤ n → (m ≡ n) ⊎ (m < n)
     equal_or_less m n h = grind arith
 
--- ---- the rows of a bundle, and of the items behind it
+-- ---- the rows of a bundle, and of the items after it
 
--- a row of one left item is one of the same item in another list, where right items cover it alike
+-- a row of one left item is a row of the same item in another list, if the right items cover the same instants of it
 row-moved : (xs ys right other : List Item) (row : AntiRow) (is : IsItemsAntiRow xs right row) → Contains ys is.x
     → ((t : ℤ) → IsCovered right is.x t → IsCovered other is.x t)
     → ((t : ℤ) → IsCovered other is.x t → IsCovered right is.x t) → IsItemsAntiRow ys other row
@@ -63,7 +63,7 @@ module _ (class : ℕ) (left low_left high_left right low_right high_right : Lis
         absurd (omega (arith, low, high, same))
   ]
 
-  -- nor the other way round
+  -- and vice versa
   covered-high : (x : Item) → Contains high_left x → (t : ℤ) → IsCovered (low_right ++ high_right) x t
       → IsCovered high_right x t
   covered-high x h t is = elim (Contains-append_cases low_right high_right is.by is.by_in) [
@@ -76,7 +76,7 @@ module _ (class : ℕ) (left low_left high_left right low_right high_right : Lis
     | inr k ↦ record { by = is.by; by_in = k; matches = is.matches; holds = is.holds }
   ]
 
-  -- what covers an item in one of both lists does so in both together
+  -- an instant that one of both lists covers is covered by both together
   low-covered : (x : Item) (t : ℤ) → IsCovered low_right x t → IsCovered (low_right ++ high_right) x t
   low-covered x t is =
       covered-there low_right (low_right ++ high_right) (Contains-append_left low_right high_right) x t is
@@ -119,7 +119,7 @@ module _ (class : ℕ) (left low_left high_left right low_right high_right : Lis
 
 module _ (class : ℕ) (left right high : List Item) (lefts : All (λ (x : Item). class ≤ x.class) left)
     (rights : AreFromClass class right high) where
-  -- those of lower classes cover no left item
+  -- right items of lower classes cover no left item
   covered-from : (x : Item) → Contains left x → (t : ℤ) → IsCovered right x t → IsCovered high x t
   covered-from x h t is =
       elim (Contains-append_cases rights.low high is.by (subst (λ (l : List Item). Contains l is.by) rights.whole is.by_in)) [
@@ -145,7 +145,7 @@ module _ (class : ℕ) (left right high : List Item) (lefts : All (λ (x : Item)
 
 -- ---- bundle by bundle
 
--- what the rows so far still lack are those of what is left
+-- The rows until now, followed by the rows of the remaining items, are all rows.
 pub record IsBundling (left right lefts rights : List Item) (rows : List AntiRow) : Type 0 where
   pub goes_on : (rest : List AntiRow) → AreItemsRows lefts rights rest → AreItemsRows left right (rows ++ rest)
   pub left_few : length lefts ≤ length left
@@ -154,7 +154,7 @@ pub record IsBundling (left right lefts rights : List Item) (rows : List AntiRow
   pub right_rise : ClassesRise rights
   pub ids : HasDistinctIds lefts
 
--- at first all are left
+-- at first all items remain
 pub bundling_start : (left right : List Item) (rows : List AntiRow) → rows ≡ [] → ClassesRise left → ClassesRise right
     → HasDistinctIds left → IsBundling left right left right rows
 bundling_start left right rows none left_rise right_rise ids =
@@ -167,7 +167,7 @@ bundling_start left right rows none left_rise right_rise ids =
       ids = ids;
     })
 
--- the right items of lower classes than the next left one's are left out
+-- right items of classes below the next left item's class are left out
 pub bundling_from : (left right lefts rights others : List Item) (first : Item) (rows : List AntiRow)
     → Some first ≡ slice_get lefts 0 → AreFromClass first.class rights others
     → IsBundling left right lefts rights rows → IsBundling left right lefts others rows
@@ -184,7 +184,7 @@ bundling_from left right lefts rights others first rows e are i = record {
   ids = i.ids;
 }
 
--- a bundle more
+-- one more bundle
 pub bundling_more : (left right lefts rights low_left high_left low_right high_right : List Item) (class : ℕ)
     (old found new : List AntiRow) → ArePartedAt class lefts low_left high_left
     → ArePartedAt class rights low_right high_right → AreItemsRows low_left low_right found → new ≡ old ++ found
@@ -207,7 +207,7 @@ bundling_more left right lefts rights low_left high_left low_right high_right cl
       ids = high-distinct class lefts low_left high_left one i.ids;
     })
 
--- at the end no left item is left
+-- at the end no left item remains
 pub bundling_end : (left right lefts rights : List Item) (rows : List AntiRow) → lefts ≡ []
     → IsBundling left right lefts rights rows → AreItemsRows left right rows
 bundling_end left right lefts rights rows none i =
@@ -215,7 +215,7 @@ bundling_end left right lefts rights rows none i =
     (i.goes_on []
     (subst (λ (xs : List Item). AreItemsRows xs rights []) (sym none) (AreItemsRows-none rights [] refl)))
 
--- behind the first item's class are fewer items
+-- fewer items remain after the first item's class
 pub fewer_behind : (class : ℕ) (first : Item) (items low high : List Item) → Some first ≡ slice_get items 0
     → first.class ≤ class → ArePartedAt (class + 1) items low high → length high < length items
 fewer_behind class first items (y ∷ low) high starts least parted =

@@ -1,4 +1,4 @@
--- Items that are united in their own place: those that are done stand in front.
+-- Coalescing items in the same list: the coalesced items are a prefix of it.
 use Rattle.std.proofs.Common.{◌≡◌, ℕ, ◌+◌, ◌<◌, ◌≤◌, List, [], ◌∷◌, length, take, drop, set, get_or, refl, sym, subst, ap, ◌∙◌, arith}
 use Rattle.std.specs.Prelude.{Some, slice_get}
 use Rattle.std.proofs.lemmas.List.{drop-set-lt, drop_all, drop_more, take_more_set}
@@ -7,7 +7,7 @@ use Rattle.dip_core.specs.declared.item.Item.{Item}
 use Rattle.anti_core.specs.United.{IsMerged, IsPlain, IsUnion, RunsInto, StandByClass}
 use Rattle.anti_core.proofs.UnitedLemmas.{IsUniting, uniting_cut, uniting_end, uniting_joined, uniting_start}
 
--- at first the last one is the first item, and none stands in front
+-- at first the last coalesced item is the first item, and the prefix is empty
 pub placed_start : (items slice : List Item) (first last : Item) → slice ≡ items → Some first ≡ slice_get slice 0
     → IsPlain first last → StandByClass items → (0 < length items) × IsUniting items (drop 1 items) last []
 placed_start items slice first last e got plain order =
@@ -17,7 +17,7 @@ placed_start items slice first last e got plain order =
     drop_more items 0 first some ∙ ap (λ x. x ∷ drop 1 items) (get_or_from_slice_get items 0 first first at) in
     (some, uniting_start items (drop 1 items) first last [] cut plain refl order)
 
--- what is left from a place on, and the item there
+-- the remaining items from an index on, and the item at the index
 next_left : (now : List Item) (i : ℕ) (x : Item) → i < length now → x ≡ get_or now i x
     → drop i now ≡ x ∷ drop (i + 1) now
 next_left now i x inside read = drop_more now i x inside ∙ ap (λ y. y ∷ drop (i + 1) now) (sym read)
@@ -29,7 +29,7 @@ pub placed_joined : (items now : List Item) (i count : ℕ) (last x both : Item)
 placed_joined items now i count last x both inside read =
     uniting_joined items (drop i now) (drop (i + 1) now) last x both (take count now) (next_left now i x inside read)
 
--- one that does not: the last one is put in front
+-- an item that doesn't: the last one is moved to the prefix
 pub placed_cut : (items now : List Item) (i count : ℕ) (last x next : Item) → count < i → i < length now
     → x ≡ get_or now i x → (RunsInto last x → ⊥) → IsPlain x next → IsUniting items (drop i now) last (take count now)
     → IsUniting items (drop (i + 1) (set now count last)) next (take (count + 1) (set now count last))
@@ -40,7 +40,7 @@ placed_cut items now i count last x next before inside read not plain u =
     (take (count + 1) (set now count last)) (next_left now i x inside read) not plain
     (take_more_set now count last (omega (arith, before, inside))) u)
 
--- at the end the last one is, too
+-- at the end the last one is moved, too
 pub placed_end : (items now : List Item) (i count : ℕ) (last : Item) → length now ≤ i → count < length now
     → IsUniting items (drop i now) last (take count now) → IsUnion items (take (count + 1) (set now count last))
 placed_end items now i count last all before =

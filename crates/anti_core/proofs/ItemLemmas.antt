@@ -1,4 +1,4 @@
--- The rows of items, part by part, and from the items of parts to the items that were divided.
+-- The rows of items, part by part, and for the items that were divided.
 use Rattle.std.proofs.Common.{◌≡◌, ◌≢◌, ℕ, ◌+◌, ◌<◌, ℤ, List, [], ◌++◌, Option, Some, None, length, map, take, drop, refl, sym, subst, ap, ◌∙◌, inl, inr, arith, append-nil}
 use Rattle.std.specs.Prelude.{◌<ℤ◌, Contains, IsPermutation}
 use Rattle.std.specs.Global.{Vec}
@@ -34,7 +34,7 @@ use Rattle.anti_core.proofs.PartLemmas.{parts-apart}
 
 -- ---- part by part
 
--- no items have no rows
+-- an empty list has no rows
 pub AreItemsRows-none : (right : List Item) (rows : List AntiRow) → rows ≡ [] → AreItemsRows [] right rows
 AreItemsRows-none right rows e =
     subst (AreItemsRows [] right) (sym e)
@@ -44,7 +44,7 @@ AreItemsRows-none right rows e =
 row-of_gap : (p right : List Item) (gap : Gap) → IsGap p right gap → IsItemsAntiRow p right (row_of_gap gap)
 row-of_gap p right gap is = record { x = gap.left; x_in = is.left_in; id = refl; maximal = is.maximal }
 
--- a row is that of a gap
+-- a row belongs to a gap
 row-from_gaps : (p right : List Item) (gaps : List Gap) → ListsGaps p right gaps → (row : AntiRow)
     → IsItemsAntiRow p right row → Contains (map row_of_gap gaps) row
 row-from_gaps p right gaps lists row is =
@@ -54,7 +54,7 @@ row-from_gaps p right gaps lists row is =
     let e : row_of_gap gap ≡ row = AntiRow-same_fields (row_of_gap gap) row (sym is.id) refl in
     subst (Contains (map row_of_gap gaps)) e (Contains-map row_of_gap gaps gap there)
 
--- the gaps of one part give its rows
+-- the gaps of one part are its rows
 AreItemsRows-from_gaps : (p right : List Item) (gaps : List Gap) → ListsGaps p right gaps
     → AreItemsRows p right (map row_of_gap gaps)
 AreItemsRows-from_gaps p right gaps lists = record {
@@ -71,12 +71,12 @@ AreItemsRows-from_gaps p right gaps lists = record {
   );
 }
 
--- a row of some items is one of more
+-- a row of some items is a row of more items
 row-of_more : (xs ys right : List Item) → ((x : Item) → Contains xs x → Contains ys x) → (row : AntiRow)
     → IsItemsAntiRow xs right row → IsItemsAntiRow ys right row
 row-of_more xs ys right more row is = record { x = is.x; x_in = more is.x is.x_in; id = is.id; maximal = is.maximal }
 
--- the rows of some items, and behind them those of others
+-- the rows of some items, followed by the rows of others
 AreItemsRows-both : (xs ys right : List Item) (rows more : List AntiRow)
     → ((x y : Item) → Contains xs x → Contains ys y → x.id ≡ y.id → ⊥) → AreItemsRows xs right rows
     → AreItemsRows ys right more → AreItemsRows (xs ++ ys) right (rows ++ more)
@@ -92,7 +92,7 @@ AreItemsRows-both xs ys right rows more apart one other =
       | inr k ↦ inr (record { x = is.x; x_in = k; id = is.id; maximal = is.maximal })
     ])
 
--- the rows of one left part more
+-- the rows of one more left part
 pub AreItemsRows-more : (ps : List (List Item)) (l : ℕ) (right : List Item) (old new : List AntiRow)
     (gaps slice : List Gap) → l < length ps → HasDistinctIds (all_of ps) → AreItemsRows (all_of (take l ps)) right old
     → ListsGaps (part_at ps l) right gaps → slice ≡ gaps → new ≡ old ++ map row_of_gap slice
@@ -105,9 +105,9 @@ AreItemsRows-more ps l right old new gaps slice inside distinct before lists sam
     (λ x y h k same. parts-apart ps l x y inside distinct h k same) before
     (AreItemsRows-from_gaps (part_at ps l) right gaps lists)))
 
--- ---- of the left items, piece by piece
+-- ---- the left items, partition by partition
 
--- ids that are distinct in all are so in a piece
+-- ids that are distinct in the list are distinct in a partition
 before-distinct : (end : Option ℕ) (items : List Item) → HasDistinctIds items → HasDistinctIds (piece_before end items)
 before-distinct None items ids = ids
 before-distinct (Some n) items ids =
@@ -122,11 +122,11 @@ pub piece-distinct : (places : Range ℕ) (items : List Item) → HasDistinctIds
 piece-distinct places items ids =
     from-distinct places.from (piece_before places.before items) (before-distinct places.before items ids)
 
--- what is known of an answer for a piece: the number of workers, its places when it is done, and what it gave
+-- The result for a partition: the number of workers, the partition's indices, and the rows.
 abbrev GivenRows : List Item → List Item → Range ℕ → Vec AntiRow → Type 0
 GivenRows left right places rows = ℕ × (Range ℕ × AreItemsRows (piece places left) right rows.items)
 
--- the rows of each piece, one behind another, are those of all left items
+-- the rows of all partitions together are the rows of all left items
 pub pieces-rows : (left right : List Item) (cuts : List (Cut ℕ)) (lists : List (Vec AntiRow)) → HasDistinctIds left
     → GivesFrom nat_cmp (GivenRows left right) None cuts lists → AreItemsRows left right (all_in lists)
 pieces-rows left right cuts lists ids given =
@@ -146,22 +146,22 @@ pieces-rows left right cuts lists ids given =
 
 -- ---- in order
 
--- all rows, put in order
+-- all rows, sorted
 pub IsItemsAnti-ordered : (left right : List Item) (found rows : List AntiRow) → AreItemsRows left right found
     → IsListOf AntiRowBefore (Contains found) rows → IsItemsAnti left right rows
 IsItemsAnti-ordered left right found rows all lists =
     IsListOf-same AntiRowBefore (Contains found) (IsItemsAntiRow left right) rows (λ row. (all.exactly row).0)
     (λ row. (all.exactly row).1) lists
 
--- ---- of the items that were divided
+-- ---- the items that were divided
 
--- what covers an instant is there in the other list too
+-- an item that covers an instant is in the other list, too
 pub covered-there : (right other : List Item) → ((y : Item) → Contains right y → Contains other y) → (x : Item) (t : ℤ)
     → IsCovered right x t → IsCovered other x t
 covered-there right other there x t is =
     record { by = is.by; by_in = there is.by is.by_in; matches = is.matches; holds = is.holds }
 
--- the rows of items are those of others that are the same but for their order
+-- permuted items have the same rows
 module _ (left other_left right other_right : List Item) (lefts : IsPermutation left other_left)
     (rights : IsPermutation right other_right) where
   uncovered-there : (x : Item) (t : ℤ) → IsUncovered right x t → IsUncovered other_right x t

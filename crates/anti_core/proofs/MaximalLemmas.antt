@@ -1,4 +1,4 @@
--- The maximal periods of a set of instants, and of what is left of it without a period.
+-- The maximal periods of a set of instants, and of the set without a period.
 use Rattle.std.proofs.Common.{◌≡◌, ◌⊎◌, ◌↔◌, List, [], ◌∷◌, ◌++◌, Option, Some, None, inl, inr, sym, subst, arith}
 use Rattle.std.specs.Prelude.{ℤ, pos, ◌-ℤ◌, ◌≤ℤ◌, ◌<ℤ◌, Contains}
 use Rattle.std.specs.Option.{option_to_list}
@@ -12,12 +12,12 @@ use Rattle.merge_core.specs.Gaps.{IsMaximal}
 use Rattle.merge_core.proofs.SharedLemmas.{by_order, first_held}
 use Rattle.merge_core.proofs.SweepLemmas.{IsMaximal-same}
 
--- the periods are maximal in the set, and together they hold all of it
+-- The periods are maximal in the set, and together they hold all of it.
 pub record AreMaximal (Within : ℤ → Type 0) (periods : List Period) : Type 0 where
   pub maximal : (p : Period) → Contains periods p → IsMaximal Within p
   pub all : (t : ℤ) → Within t → (p : Period) × Contains periods p × Holds p t
 
--- so they are of an equal set
+-- equal sets have the same maximal periods
 pub AreMaximal-same : (S R : ℤ → Type 0) (periods : List Period) → ((t : ℤ) → S t → R t) → ((t : ℤ) → R t → S t)
     → AreMaximal S periods → AreMaximal R periods
 AreMaximal-same S R periods to back are = record {
@@ -25,9 +25,9 @@ AreMaximal-same S R periods to back are = record {
   all = λ t w. are.all t (back t w);
 }
 
--- ---- all of a period
+-- ---- the instants of a period
 
--- a period is the one maximal period of its instants
+-- a period is the only maximal period of its instants
 pub AreMaximal-whole : (p : Period) → AreMaximal (Holds p) (p ∷ [])
 AreMaximal-whole p = record {
   maximal = λ q h. elim (Contains-cons_cases p [] q h) [
@@ -43,11 +43,11 @@ AreMaximal-whole p = record {
 
 -- ---- without a period
 
--- the instants of the set that the period doesn't hold
+-- The instants of the set that the period doesn't hold.
 abbrev pub Without : (ℤ → Type 0) → Period → ℤ → Type 0
 Without Within k t = Within t × (Holds k t → ⊥)
 
--- what is left of a maximal period before the other begins is maximal
+-- the rest of a maximal period before the other one begins is maximal
 before-maximal : (Within : ℤ → Type 0) (k p q : Period) → IsMaximal Within p
     → ((t : ℤ) → Holds q t ↔ (Holds p t × (t <ℤ k.from))) → IsMaximal (Without Within k) q
 before-maximal Within k p q m holds =
@@ -76,7 +76,7 @@ before-maximal Within k p q m holds =
       ];
     }
 
--- so is what is left from its end on
+-- so is the rest after its end
 after-maximal : (Within : ℤ → Type 0) (k p q : Period) → IsMaximal Within p
     → ((t : ℤ) → Holds q t ↔ (Holds p t × (k.to ≤ℤ t))) → IsMaximal (Without Within k) q
 after-maximal Within k p q m holds =
@@ -104,7 +104,7 @@ after-maximal Within k p q m holds =
       after = λ w. m.after (let e : q.to ≡ p.to = omega (arith, ints) in subst Within e w.0);
     }
 
--- a fact of the period that there may be is one of the period in its list
+-- a fact about an optional period is a fact about the period in its list
 in-list : (met : Option Period) (q : Period) → Contains (option_to_list met) q → (t : ℤ) → Holds q t ↔ HoldsIn met t
 in-list None q h t = absurd (Contains-none q h)
 in-list (Some p) q h t = elim (Contains-cons_cases p [] q h) [
@@ -112,22 +112,22 @@ in-list (Some p) q h t = elim (Contains-cons_cases p [] q h) [
   | inr none ↦ absurd (Contains-none q none)
 ]
 
--- an instant that it holds lies in its list
+-- an instant that an optional period holds is held in its list
 held-in_list : (met : Option Period) (t : ℤ) → HoldsIn met t
     → (q : Period) × Contains (option_to_list met) q × Holds q t
 held-in_list None t h = absurd h
 held-in_list (Some p) t h = (p, Contains-head p [], h)
 
--- one after the other
+-- equivalence is transitive
 both-ways : (A B C : Type 0) → A ↔ B → B ↔ C → A ↔ C
 both-ways A B C f g = (λ a. g.0 (f.0 a), λ c. f.1 (g.1 c))
 
--- what is left of each period without the other
+-- The rest of each period without the other one.
 cut : Period → List Period → List Period
 cut k [] = []
 cut k (p ∷ periods) = option_to_list (before p k) ++ (option_to_list (after p k) ++ cut k periods)
 
--- it is left of some period
+-- each result is the rest of some period
 cut-source : (k : Period) (periods : List Period) (q : Period) → Contains (cut k periods) q
     → (p : Period) × Contains periods p
     × (Contains (option_to_list (before p k)) q ⊎ Contains (option_to_list (after p k)) q)
@@ -142,7 +142,7 @@ cut-source k (p ∷ periods) q h =
       ]
     ]
 
--- what is left of some period is there
+-- the rest of each period is among the results
 cut-there : (k : Period) (periods : List Period) (p q : Period) → Contains periods p
     → Contains (option_to_list (before p k)) q ⊎ Contains (option_to_list (after p k)) q → Contains (cut k periods) q
 unfolding cut
@@ -163,7 +163,7 @@ cut-there k (r ∷ periods) p q h of =
       ]
     ]
 
--- they are the maximal periods of what is left of the set
+-- they are the maximal periods of the rest of the set
 cut-maximal : (Within : ℤ → Type 0) (k : Period) (periods : List Period) → AreMaximal Within periods
     → AreMaximal (Without Within k) (cut k periods)
 cut-maximal Within k periods are = record {
@@ -190,7 +190,7 @@ cut-maximal Within k periods are = record {
       ]);
 }
 
--- what is left of a set without a period has maximal periods that can be listed, where the set has
+-- the rest of a set without a period has a list of maximal periods if the set has one
 pub some_without : (Within : ℤ → Type 0) (k : Period) (periods : List Period) → AreMaximal Within periods
     → (left : List Period) × AreMaximal (Without Within k) left
 some_without Within k periods are = (cut k periods, cut-maximal Within k periods are)

@@ -1,4 +1,4 @@
--- The order of the rows of an anti-join, and lists of rows that are sorted by it.
+-- The order of an anti-join's rows, and sorted lists of rows.
 use Rattle.std.proofs.Common.{◌≡◌, ◌≢◌, List, AllPairs, sym, ap}
 use Rattle.std.specs.Prelude.{IsPermutation, IsSorted}
 use Rattle.std.specs.Bool.{Decides}
@@ -16,7 +16,7 @@ use Rattle.anti_core.specs.contracts.rows.AntiRowPartialEq.TheImpl.{eq-value}
 pub AntiRow-same_fields : (a b : AntiRow) → a.id ≡ b.id → a.period ≡ b.period → a ≡ b
 AntiRow-same_fields a b i p = λ k. record { id = i k; period = p k }
 
--- `==` of two rows decides whether they are one
+-- `==` decides whether two rows are equal
 row_eq-Decides : (a b : AntiRow) → Decides (eq-value.it a b) (a ≡ b)
 row_eq-Decides a b = Decides-like _
     (λ h. AntiRow-same_fields a b h.0 (Period-same a.period b.period h.1.0 h.1.1))
@@ -33,7 +33,7 @@ anti_total =
     then_total (on_total (λ x. x.id) nat_cmp_total)
     (then_total (on_total (λ x. x.period.from) int_cmp_total) (on_total (λ x. x.period.to) int_cmp_total))
 
--- rows that tie are one
+-- rows that compare as equal are equal
 pub tied_rows : (a b : AntiRow) → anti_cmp a b ≡ Equal → a ≡ b
 tied_rows a b e =
     let halves = both_tie _ _ e in
@@ -42,7 +42,7 @@ tied_rows a b e =
     (Period-same a.period b.period (int_ranked a.period.from b.period.from Equal (sym ends.0))
     (int_ranked a.period.to b.period.to Equal (sym ends.1)))
 
--- rows that differ are in order once they are sorted
+-- different rows are in strict order once they are sorted
 pub sorted_rows : (xs ys : List AntiRow) → AllPairs (λ x y. x ≢ y) xs → IsPermutation xs ys → IsSorted anti_cmp ys
     → AllPairs AntiRowBefore ys
 sorted_rows xs ys differ moved sorted =

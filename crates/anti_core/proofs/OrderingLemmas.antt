@@ -1,4 +1,4 @@
--- Rows that are gathered by their ids and sorted, range by range.
+-- Rows that are collected by id and sorted, range by range.
 use Rattle.std.proofs.Common.{◌≡◌, ◌≢◌, ◌⊎◌, ℕ, ◌+◌, ◌<◌, [], ◌∷◌, get_or, take, length, add-one, true, ◌&&◌, Bool, false, not, Option, Some, None, List, ◌++◌, filter, refl, sym, subst, ap, ◌∙◌, inl, inr, arith, append-nil}
 use mathlib.Core.Bool.{true≢false}
 use Rattle.std.specs.Prelude.{AllPairs, Contains, IsPermutation, IsSorted, flat_map}
@@ -30,21 +30,21 @@ use Rattle.anti_core.specs.Anti.{AntiRowBefore, anti_cmp}
 use Rattle.anti_core.specs.Ordering.{IsRowOf}
 use Rattle.anti_core.proofs.OrderLemmas.{sorted_rows}
 
--- ---- gathering
+-- ---- collecting
 
--- another row, which passes
+-- one more row, which passes the test
 pub kept-more : (test : AntiRow → Bool) (base list : List AntiRow) (i : ℕ) (row : AntiRow) (old new : List AntiRow)
     → i < length list → row ≡ get_or list i row → test row ≡ true → old ≡ base ++ filter test (take i list)
     → new ≡ old ++ row ∷ [] → new ≡ base ++ filter test (take (i + 1) list)
 kept-more test base list i row old new inside at pass was is = grind (arith, common_steps)
 
--- another row, which doesn't
+-- one more row, which doesn't
 pub kept-same : (test : AntiRow → Bool) (base list : List AntiRow) (i : ℕ) (row : AntiRow) (old new : List AntiRow)
     → i < length list → row ≡ get_or list i row → test row ≡ false → old ≡ base ++ filter test (take i list)
     → new ≡ old → new ≡ base ++ filter test (take (i + 1) list)
 kept-same test base list i row old new inside at fails was is = grind (arith, common_steps)
 
--- those of another list
+-- the rows of one more list
 pub kept_in-more : (test : AntiRow → Bool) (lists : List (Vec AntiRow)) (i : ℕ) (list : Vec AntiRow)
     (old new : List AntiRow) → i < length lists → list ≡ get_or lists i list → old ≡ filter test (all_in (take i lists))
     → new ≡ old ++ filter test list.items → new ≡ filter test (all_in (take (i + 1) lists))
@@ -56,7 +56,7 @@ kept_in-more test lists i list old new inside at was is =
 
 -- ---- the rows of one range
 
--- what a test keeps is there, and passes
+-- a kept row was there, and passes the test
 kept-there : (test : AntiRow → Bool) (rows : List AntiRow) (row : AntiRow) → Contains (filter test rows) row
     → Contains rows row × (test row ≡ true)
 kept-there test rows row h = (
@@ -66,7 +66,7 @@ kept-there test rows row h = (
   All-contains (λ x. test x ≡ true) (filter test rows) row (filter_passes test rows) h,
 )
 
--- what is there and passes is kept
+-- a row that was there and passes is kept
 kept-from : (test : AntiRow → Bool) (rows : List AntiRow) (row : AntiRow) → Contains rows row → test row ≡ true
     → Contains (filter test rows) row
 kept-from test rows row h pass =
@@ -81,7 +81,7 @@ kept-from test rows row h pass =
           absurd (true≢false (sym fails ∙ ap not pass))
     ]
 
--- rows that differ, sorted
+-- different rows, sorted
 pub all-sorted : (rows sorted : List AntiRow) → AllPairs (λ a b. a ≢ b) rows → IsPermutation rows sorted
     → IsSorted anti_cmp sorted → IsListOf AntiRowBefore (Contains rows) sorted
 all-sorted rows sorted differ moved order = record {
@@ -92,14 +92,14 @@ all-sorted rows sorted differ moved order = record {
   );
 }
 
--- those of a range differ too
+-- the rows of a range are different, too
 pub range-apart : (rows found : List AntiRow) (ids : Range ℕ) → found ≡ filter (λ row. has nat_cmp ids row.id) rows
     → AllPairs (λ a b. a ≢ b) rows → AllPairs (λ a b. a ≢ b) found
 range-apart rows found ids are differ =
     subst (AllPairs (λ a b. a ≢ b)) (sym are)
     (AllPairs-filter (λ a b. a ≢ b) (λ (row : AntiRow). has nat_cmp ids row.id) rows differ)
 
--- those of a range, sorted
+-- the rows of a range, sorted
 pub range-sorted : (rows found : List AntiRow) (ids : Range ℕ) (sorted : List AntiRow)
     → found ≡ filter (λ row. has nat_cmp ids row.id) rows → IsListOf AntiRowBefore (Contains found) sorted
     → IsListOf AntiRowBefore (IsRowOf rows ids) sorted
@@ -112,23 +112,23 @@ range-sorted rows found ids sorted are lists =
 
 -- ---- two ranges
 
--- an id of both parts is of one of them
+-- an id within a range is in one of the two halves
 id-cases : (b late : Bool) → (b && true) ≡ true → ((b && not late) ≡ true) ⊎ ((late && true) ≡ true)
 id-cases true true h = inr refl
 id-cases true false h = inl refl
 id-cases false late h = absurd (true≢false (sym h))
 
--- an id of the lower part is of both
+-- an id of the lower half is within the range
 id-low : (b late : Bool) → (b && not late) ≡ true → (b && true) ≡ true
 id-low true late h = refl
 id-low false late h = h
 
--- both are true where the second is
+-- a conjunction with `true`
 and-true : (b : Bool) → (b && true) ≡ true → b ≡ true
 and-true true h = refl
 and-true false h = h
 
--- an id of the lower part is below one of the higher part
+-- an id of the lower half is below an id of the higher half
 id-below : (from : Option ℕ) (at a b : ℕ) → has nat_cmp (range from (Some at)) a ≡ true
     → has nat_cmp (range (Some at) None) b ≡ true → a < b
 id-below from at a b low high =
@@ -137,13 +137,13 @@ id-below from at a b low high =
     let cut = low_has nat_cmp nat_cmp_total from at a in
     grind (arith, nat_tests, one, other, cut, low, high)
 
--- rows of lower ids come before those of higher ones
+-- rows with lower ids come before rows with higher ones
 lower-before : (a b : AntiRow) → a.id < b.id → AntiRowBefore a b
 lower-before a b lower =
     ap (λ (o : Ordering). ordering_then o (ordering_then (int_cmp a.period.from b.period.from)
     (int_cmp a.period.to b.period.to))) (sym (nat_cmp_is a.id b.id Less lower))
 
--- those of the lower ids, and behind them those of the higher ones
+-- the rows with lower ids, followed by the rows with higher ones
 range-cut : (rows : List AntiRow) (from : Option ℕ) (at : ℕ) (lows highs : List AntiRow)
     → has_begun nat_cmp from at ≡ true → IsListOf AntiRowBefore (IsRowOf rows (range from (Some at))) lows
     → IsListOf AntiRowBefore (IsRowOf rows (range (Some at) None)) highs
@@ -170,11 +170,11 @@ range-cut rows from at lows highs begun one other =
 
 -- ---- all ranges
 
--- what is known of an answer for a range: the number of workers, the range when it is done, and what it gave
+-- The result for a range: the number of workers, the range, and the rows.
 abbrev Given : List AntiRow → Range ℕ → List AntiRow → Type 0
 Given rows ids some = ℕ × (Range ℕ × IsListOf AntiRowBefore (IsRowOf rows ids) some)
 
--- the rows of each range of the ids, one behind another, are all
+-- the rows of all ranges of ids together are all rows
 pub ranges-ordered : (rows : List AntiRow) (cuts : List (Cut ℕ)) (lists : List (List AntiRow))
     → GivesFrom nat_cmp (Given rows) None cuts lists
     → IsListOf AntiRowBefore (Contains rows) (flat_map (λ (some : List AntiRow). some) lists)

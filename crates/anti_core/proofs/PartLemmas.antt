@@ -8,16 +8,16 @@ use Rattle.dip_core.proofs.StepLemmas.{contains-all_of}
 use Rattle.merge_core.specs.Meets.{IdsTell}
 use Rattle.dip_core.proofs.PartedLemmas.{distinct-earlier, ids-apart, one_item, all_of-more, all_of-split}
 
--- where ids are distinct, items of one id are one
+-- if ids are distinct, items with the same id are the same
 IdsTell-from_distinct : (items : List Item) → HasDistinctIds items → IdsTell items
 IdsTell-from_distinct items distinct x y h k e = one_item items x y distinct h k e
 
--- so it is in each part
+-- and so in each part
 pub IdsTell-part : (ps : List (List Item)) (l : ℕ) → HasDistinctIds (all_of ps) → IdsTell (part_at ps l)
 IdsTell-part ps l distinct x y h k e =
     IdsTell-from_distinct (all_of ps) distinct x y (contains-all_of ps l x h) (contains-all_of ps l y k) e
 
--- no item of a part has the id of an item of the parts before it
+-- no item of a part has the id of an item of an earlier part
 pub parts-apart : (ps : List (List Item)) (l : ℕ) (x y : Item) → l < length ps → HasDistinctIds (all_of ps)
     → Contains (all_of (take l ps)) x → Contains (part_at ps l) y → x.id ≡ y.id → ⊥
 parts-apart ps l x y inside distinct h k e =

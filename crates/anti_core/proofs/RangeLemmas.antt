@@ -1,4 +1,4 @@
--- The items of ranges of classes, and the rows of all from those of each range.
+-- The items of ranges of classes, and the rows of all items from the rows of each range.
 use Rattle.std.proofs.Common.{◌≡◌, ◌≢◌, ◌∙◌, ℕ, Bool, true, false, not, ◌&&◌, List, ◌++◌, Option, Some, None, filter, refl, sym, subst, arith, append-nil, slice_index_or}
 use Rattle.std.specs.Prelude.{IsPermutation}
 use Rattle.std.specs.Global.{Vec}
@@ -25,19 +25,19 @@ use Rattle.anti_core.specs.ItemAnti.{AreItemsRows}
 use Rattle.anti_core.proofs.BundleLemmas.{AreItemsRows-parted}
 use Rattle.anti_core.proofs.ItemLemmas.{rows-permutation}
 
--- all items are of all classes
+-- the range without ends contains all items
 in_all : (items : List Item) → items_in (range None None) items ≡ items
 in_all items = filter_all (λ (x : Item). has nat_cmp (range None None) x.class) items (λ k d within. refl)
 
--- what isn't not late is late
+-- double negation
 twice_not : (b : Bool) → b ≡ not (not b)
 twice_not true = refl
 twice_not false = refl
 
--- ---- a range without an end, cut at a class that it has begun at
+-- ---- a range without an end, split at a class within it
 
 module _ (from : Option ℕ) (at : ℕ) (begun : has_begun nat_cmp from at ≡ true) where
-  -- the items of both parts are all
+  -- the items of both halves are all items
   range_moved : (items : List Item)
       → IsPermutation (items_in (range from None) items)
       (items_in (range from (Some at)) items ++ items_in (range (Some at) None) items)
@@ -59,14 +59,14 @@ module _ (from : Option ℕ) (at : ℕ) (begun : has_begun nat_cmp from at ≡ t
       (subst (λ (zs : List Item). IsPermutation (filter all items) (filter early (filter all items) ++ zs)) highs
       (IsPermutation-filter_both early late (λ (x : Item). twice_not (late x)) (filter all items)))
 
-  -- those of the one part are of lower classes than those of the other
+  -- one half has lower classes than the other
   range_parted : (items : List Item)
       → ArePartedAt at (items_in (range from (Some at)) items ++ items_in (range (Some at) None) items)
       (items_in (range from (Some at)) items) (items_in (range (Some at) None) items)
   range_parted items =
       record { whole = refl; below = in-below from at items; from = in-from at items }
 
-  -- the rows of both parts
+  -- the rows of both halves
   rows-cut : (left right : List Item) (rows more : List AntiRow) → HasDistinctIds left
       → AreItemsRows (items_in (range from (Some at)) left) (items_in (range from (Some at)) right) rows
       → AreItemsRows (items_in (range (Some at) None) left) (items_in (range (Some at) None) right) more
@@ -81,11 +81,11 @@ module _ (from : Option ℕ) (at : ℕ) (begun : has_begun nat_cmp from at ≡ t
 
 -- ---- all ranges
 
--- what is known of an answer for a range: the number of workers, the range when it is done, and what it gave
+-- The result for a range: the number of workers, the range, and the rows.
 abbrev Given : List Item → List Item → Range ℕ → Vec AntiRow → Type 0
 Given left right r rows = ℕ × (Range ℕ × AreItemsRows (items_in r left) (items_in r right) rows.items)
 
--- the rows of each range, one behind another, are those of all items
+-- the rows of all ranges together are the rows of all items
 pub ranges-rows : (left right : List Item) (cuts : List (Cut ℕ)) (lists : List (Vec AntiRow)) → HasDistinctIds left
     → GivesFrom nat_cmp (Given left right) None cuts lists → AreItemsRows left right (all_in lists)
 ranges-rows left right cuts lists distinct given =

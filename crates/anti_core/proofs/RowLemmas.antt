@@ -1,4 +1,4 @@
--- From the anti-join of items to that of their rows.
+-- From the anti-join of items to the anti-join of their rows.
 use Rattle.std.proofs.Common.{◌≡◌, ◌≤◌, ◌<◌, ◌+◌, ◌++◌, ◌∷◌, [], ℕ, ℤ, List, length, map, take, get_or, add-one, append_assoc, ap, sym, subst, ◌∙◌}
 use Rattle.std.proofs.Math.Seq.{take-suc}
 use Rattle.std.proofs.lemmas.List.{map-append}
@@ -46,7 +46,7 @@ module _ (Matches : Row → Row → Type 0) (left right : List Row) (lefts right
         holds = subst (λ (p : Period). Holds p t) (sym b.1.period) is.holds;
       }
 
-  -- what is uncovered of an item is what is unmet of its row
+  -- an uncovered instant of an item is an unmet instant of its row
   unmet-from_uncovered : (r : Row) (x : Item) → IsItemAt left lefts r x → (t : ℤ)
       → IsUncovered (items_with right rights) x t → IsUnmet Matches right r t
   unmet-from_uncovered r x at t is = record {
@@ -54,7 +54,7 @@ module _ (Matches : Row → Row → Type 0) (left right : List Row) (lefts right
     unmet = λ m. is.uncovered (covered-from_met r x t at m);
   }
 
-  -- and the other way round
+  -- and vice versa
   uncovered-from_unmet : (r : Row) (x : Item) → IsItemAt left lefts r x → (t : ℤ) → IsUnmet Matches right r t
       → IsUncovered (items_with right rights) x t
   uncovered-from_unmet r x at t is = record {
@@ -62,7 +62,7 @@ module _ (Matches : Row → Row → Type 0) (left right : List Row) (lefts right
     uncovered = λ c. is.unmet (met-from_covered r x t at c);
   }
 
-  -- a row of the items' anti-join is one of the rows'
+  -- a row of the items' anti-join is a row of the rows' anti-join
   row-of_items : (row : AntiRow) → IsItemsAntiRow (items_with left lefts) (items_with right rights) row
       → IsAntiRow Matches left right row
   row-of_items row is =
@@ -75,7 +75,7 @@ module _ (Matches : Row → Row → Type 0) (left right : List Row) (lefts right
             (unmet-from_uncovered a.0 is.x a.1) (uncovered-from_unmet a.0 is.x a.1) is.maximal;
       }
 
-  -- a row of the rows' anti-join is one of the items'
+  -- a row of the rows' anti-join is a row of the items' anti-join
   row-of_rows : (row : AntiRow) → IsAntiRow Matches left right row
       → IsItemsAntiRow (items_with left lefts) (items_with right rights) row
   row-of_rows row is =
@@ -88,14 +88,14 @@ module _ (Matches : Row → Row → Type 0) (left right : List Row) (lefts right
             (uncovered-from_unmet is.x a.0 a.1) (unmet-from_uncovered is.x a.0 a.1) is.maximal;
       }
 
-  -- the anti-join of the items is that of the rows
+  -- the anti-join of the items is the anti-join of the rows
   pub IsAnti-of_items : (rows : List AntiRow) → IsItemsAnti (items_with left lefts) (items_with right rights) rows
       → IsAnti Matches left right rows
   IsAnti-of_items rows lists =
       IsListOf-same AntiRowBefore (IsItemsAntiRow (items_with left lefts) (items_with right rights))
       (IsAntiRow Matches left right) rows row-of_items row-of_rows lists
 
--- the row of another gap
+-- the row of one more gap
 pub rows-more : (base : List AntiRow) (gaps : List Gap) (i : ℕ) (gap : Gap) (old new : List AntiRow) → i < length gaps
     → gap ≡ get_or gaps i gap → old ≡ base ++ map row_of_gap (take i gaps) → new ≡ old ++ row_of_gap gap ∷ []
     → new ≡ base ++ map row_of_gap (take (i + 1) gaps)

@@ -1,4 +1,4 @@
--- The gaps of pairs as they are run, and those of one left part against more and more right parts.
+-- The gaps of pairs as they are run, and the gaps of one left part against more and more right parts.
 use Rattle.std.proofs.Common.{◌≡◌, ℕ, zero, suc, ◌+◌, ◌-◌, ◌*◌, ◌/◌, ◌%◌, ◌<◌, ◌≤◌, All, List, [], ◌∷◌, ◌++◌, length, take, drop, None, Option, Some, sym, subst, ap, ◌∙◌, arith, append-nil}
 use Rattle.std.specs.Prelude.{slice_get}
 use Rattle.std.proofs.Math.Seq.{take-add}
@@ -14,7 +14,7 @@ use Rattle.merge_core.proofs.GapExistence.{ListsGaps-opened}
 use Rattle.anti_core.specs.declared.supply.Supply.{Supply}
 use Rattle.anti_core.specs.PairGaps.{AreGapsFrom, AreGapsAgainst}
 
--- ---- as they are run
+-- ---- running
 
 -- each part of a division is a chain
 IsChain-part_at : (ps : List (List Item)) (k : ℕ) → All IsChain ps → IsChain (part_at ps k)
@@ -22,7 +22,7 @@ IsChain-part_at [] k all = λ i d h. absurd (omega arith)
 IsChain-part_at (p ∷ ps) zero all = all zero p (omega arith)
 IsChain-part_at (p ∷ ps) (suc k) all = IsChain-part_at ps k (λ i d h. all (suc i) d (omega arith))
 
--- gaps of pairs, from the bare fact that they are
+-- the gaps of pairs, from the truncated fact
 pub AreGapsFrom-opened : (ps qs : List (List Item)) (first : ℕ) (values : List (List Gap)) → All IsChain ps
     → All IsChain qs
     → ((i : ℕ) (gaps : List Gap) → slice_get values i ≡ Some gaps
@@ -33,7 +33,7 @@ AreGapsFrom-opened ps qs first values lefts rights bare i gaps at =
     (IsChain-part_at ps ((first + i) / length qs) lefts) (IsChain-part_at qs ((first + i) % length qs) rights)
     (bare i gaps at)
 
--- the gaps of pairs of one left part are those of the part against right parts
+-- the gaps of one left part's pairs are the part's gaps against right parts
 pub AreGapsAgainst-from_pairs : (ps qs : List (List Item)) (l done first from count : ℕ) (values : List (List Gap))
     → AreGapsFrom ps qs first values → first + from ≡ l * length qs + done → done + count ≤ length qs
     → AreGapsAgainst (part_at ps l) qs done values from count
@@ -49,7 +49,7 @@ AreGapsAgainst-from_pairs ps qs l done first from count values all e inside i ga
 
 -- ---- one list of gaps
 
--- the items of the one part from number `start` on
+-- the items of the right part with number `start`
 all_of-one : (qs : List (List Item)) (start : ℕ) → start < length qs
     → all_of (take 1 (drop start qs)) ≡ part_at qs start
 all_of-one [] start h = absurd (omega arith)
@@ -57,7 +57,7 @@ all_of-one (q ∷ []) zero h = append-nil q
 all_of-one (q ∷ (r ∷ qs)) zero h = append-nil q
 all_of-one (q ∷ qs) (suc start) h = all_of-one qs start (omega arith)
 
--- the first list is that of the first right part
+-- the first list is the gaps against the first right part
 against-first : (p : List Item) (qs : List (List Item)) (start : ℕ) (values : List (List Gap)) (from count : ℕ)
     (gaps : List Gap) → AreGapsAgainst p qs start values from count → 0 < count → slice_get values from ≡ Some gaps
     → ListsGaps p (part_at qs start) gaps
@@ -66,7 +66,7 @@ against-first p qs start values from count gaps all some at =
     let f : start + 0 ≡ start = omega arith in
     subst (λ n. ListsGaps p (part_at qs n) gaps) f (all 0 gaps some (subst (λ n. slice_get values n ≡ Some gaps) e at))
 
--- so it is of the items of one right part
+-- so it is the gaps against the items of one right part
 one-listed : (p : List Item) (qs : List (List Item)) (start : ℕ) (values : List (List Gap)) (from count : ℕ)
     (only : List Gap) → 0 < count → start < length qs → Some only ≡ slice_get values from
     → AreGapsAgainst p qs start values from count → ListsGaps p (all_of (take 1 (drop start qs))) only
@@ -85,13 +85,13 @@ only-listed ps qs l first from values only one e all at =
     subst (λ z. ListsGaps (part_at ps l) (all_of z) only) (take_all 1 qs (omega (arith, one)))
     (one-listed (part_at ps l) qs 0 values from 1 only (omega arith) (omega (arith, one)) at against)
 
--- a list has something at each of its places
+-- a list has an element at each index within it
 pub none_past : (values : List (List Gap)) (i : ℕ) → i < length values → None ≡ slice_get values i → ⊥
 none_past [] i h e = absurd (omega arith)
 none_past (v ∷ values) zero h e = absurd cc
 none_past (v ∷ values) (suc i) h e = none_past values i (omega arith) e
 
--- met with the whole periods of the part, it is so still
+-- intersecting it with the part's whole periods changes nothing
 pub one-met : (p : List Item) (qs : List (List Item)) (start : ℕ) (values : List (List Gap)) (from count : ℕ)
     (whole only met : List Gap) → count ≡ 1 → start + count ≤ length qs → Some only ≡ slice_get values from
     → AreGapsAgainst p qs start values from count → ListsGaps p [] whole
@@ -109,7 +109,7 @@ pub against-front : (p : List Item) (qs : List (List Item)) (start : ℕ) (value
     → half ≤ count → AreGapsAgainst p qs start values from count → AreGapsAgainst p qs start values from half
 against-front p qs start values from count half fewer all i gaps h at = all i gaps (omega (arith, fewer, h)) at
 
--- the lists of the other half
+-- the lists of the second half
 pub against-back : (p : List Item) (qs : List (List Item)) (start : ℕ) (values : List (List Gap)) (from count half : ℕ)
     → half ≤ count → AreGapsAgainst p qs start values from count
     → AreGapsAgainst p qs (start + half) values (from + half) (count - half)
@@ -119,7 +119,7 @@ against-back p qs start values from count half fewer all i gaps h at =
     subst (λ n. ListsGaps p (part_at qs n) gaps) f
     (all (half + i) gaps (omega (arith, fewer, h)) (subst (λ n. slice_get values n ≡ Some gaps) e at))
 
--- the items of more parts, from some number on
+-- the items of several parts, from some number on
 all_of-halves : (qs : List (List Item)) (start half rest count : ℕ) → half + rest ≡ count
     → all_of (take half (drop start qs)) ++ all_of (take rest (drop (start + half) qs))
     ≡ all_of (take count (drop start qs))
@@ -128,7 +128,7 @@ all_of-halves qs start half rest count e =
     ∙ sym (all_of-append (take half (drop start qs)) (take rest (drop half (drop start qs))))
     ∙ ap all_of (sym (take-add half rest (drop start qs))) ∙ ap (λ n. all_of (take n (drop start qs))) e
 
--- both halves met
+-- both halves intersected
 pub halves-met : (p : List Item) (qs : List (List Item)) (start count half : ℕ) (front back met : List Gap)
     → half ≤ count → ListsGaps p (all_of (take half (drop start qs))) front
     → ListsGaps p (all_of (take (count - half) (drop (start + half) qs))) back
@@ -138,7 +138,7 @@ halves-met p qs start count half front back met fewer one other both =
     subst (λ z. ListsGaps p z met) (all_of-halves qs start half (count - half) count (omega (arith, fewer)))
     (both (all_of (take half (drop start qs))) (all_of (take (count - half) (drop (start + half) qs))) one other)
 
--- two lists met
+-- two lists intersected
 pub two-met : (p : List Item) (qs : List (List Item)) (start : ℕ) (values : List (List Gap)) (from count : ℕ)
     (one other met : List Gap) → count ≡ 2 → start + count ≤ length qs → Some one ≡ slice_get values from
     → Some other ≡ slice_get values (from + 1) → AreGapsAgainst p qs start values from count
@@ -156,7 +156,7 @@ two-met p qs start values from count one other met two inside first second all b
 
 -- ---- more right parts
 
--- the gaps so far, met with those against more right parts
+-- the gaps until now, intersected with the gaps against more right parts
 pub more-met : (p : List Item) (qs : List (List Item)) (done count : ℕ) (gaps more met : List Gap)
     → ListsGaps p (all_of (take done qs)) gaps → ListsGaps p (all_of (take count (drop done qs))) more
     → ((right others : List Item) → ListsGaps p right gaps → ListsGaps p others more
@@ -167,7 +167,7 @@ more-met p qs done count gaps more met so_far new both =
     (sym (all_of-append (take done qs) (take count (drop done qs))) ∙ ap all_of (sym (take-add done count qs)))
     (both (all_of (take done qs)) (all_of (take count (drop done qs))) so_far new)
 
--- what is known of a supply is known of the one that it is
+-- equal supplies have the same gaps
 pub supply-held : (ps qs : List (List Item)) (s x : Supply) → ◌≡◌ {A = Option Supply} (Some s) (Some x)
     → AreGapsFrom ps qs s.first s.values → AreGapsFrom ps qs x.first x.values
 supply-held ps qs s x e are =

@@ -1,4 +1,4 @@
--- The unions of pieces of rows.
+-- Coalesced partitions of rows.
 use Rattle.std.proofs.Common.{◌∙◌, ℕ, List, ◌++◌, Some, None, sym, subst, ap, append-nil}
 use Rattle.std.specs.Global.{Vec}
 use Rattle.std.specs.Ordering.{nat_cmp}
@@ -19,12 +19,12 @@ use Rattle.grid_core.specs.Bundles.{items_in}
 use Rattle.anti_core.specs.United.{IsUnion}
 use Rattle.anti_core.proofs.UnitedLemmas.{AreUnions, unions_both}
 
--- what is known of an answer for a piece: the number of workers, the places when it is done, and what it gave
+-- The result for a partition: the number of workers, the partition's indices, and the coalesced items.
 abbrev GivenUnion : Range ℕ → List Row → List ℕ → Range ℕ → Vec Item → Type 0
 GivenUnion classed rows classes places union =
     ℕ × (Range ℕ × IsUnion (items_in_range classed (piece places rows) (piece places classes)) union.items)
 
--- what each piece is united to, one behind another, covers what all rows do
+-- the coalesced items of all partitions together cover the same instants as all rows
 pub pieces-unions : (classed : Range ℕ) (rows : List Row) (classes : List ℕ) (cuts : List (Cut ℕ))
     (unions : List (Vec Item)) → GivesFrom nat_cmp (GivenUnion classed rows classes) None cuts unions
     → AreUnions (items_in_range classed rows classes) (all_in unions)

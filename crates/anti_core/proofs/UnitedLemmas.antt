@@ -1,4 +1,4 @@
--- Items by class and start are united by a sweep.
+-- Coalescing items in order of class and start by a sweep.
 use Rattle.std.proofs.Common.{◌≡◌, ◌⊎◌, false, get_or, ℕ, ◌<◌, ◌≤◌, List, [], ◌∷◌, ◌++◌, length, inl, inr, refl, sym, subst, ap, ◌∙◌, arith, append_assoc}
 use Rattle.std.specs.Prelude.{ℤ, pos, ◌-ℤ◌, ◌≤ℤ◌, ◌<ℤ◌, Contains, IsPermutation, IsSortedBy}
 use Rattle.std.specs.declared.cmp.Ordering.{Ordering}
@@ -27,19 +27,19 @@ use Rattle.anti_core.specs.declared.rows.AntiRow.{AntiRow}
 use Rattle.anti_core.specs.ItemAnti.{IsItemsAntiRow}
 use Rattle.anti_core.specs.United.{IsUnited, IsUnion, StandsBefore, CoverAlike, StandByClass, RunsInto, IsPlain, IsMerged}
 
--- ---- what some items cover
+-- ---- the instants that some items cover
 
--- what the first one of a class covers
+-- instants that the first item covers
 covered_first : (y : Item) (ys : List Item) (x : Item) (t : ℤ) → y.class ≡ x.class → Holds y.period t
     → IsCovered (y ∷ ys) x t
 covered_first y ys x t same h = record { by = y; by_in = Contains-head y ys; matches = same; holds = h }
 
--- what later ones cover
+-- instants that later items cover
 covered_later : (y : Item) (ys : List Item) (x : Item) (t : ℤ) → IsCovered ys x t → IsCovered (y ∷ ys) x t
 covered_later y ys x t c =
     record { by = c.by; by_in = Contains-cons y ys c.by c.by_in; matches = c.matches; holds = c.holds }
 
--- there is nothing else
+-- there are no other covered instants
 covered_cases : (y : Item) (ys : List Item) (x : Item) (t : ℤ) → IsCovered (y ∷ ys) x t
     → ((y.class ≡ x.class) × Holds y.period t) ⊎ IsCovered ys x t
 covered_cases y ys x t c = elim (Contains-cons_cases y ys c.by c.by_in) [
@@ -50,12 +50,12 @@ covered_cases y ys x t c = elim (Contains-cons_cases y ys c.by c.by_in) [
   | inr later ↦ inr (record { by = c.by; by_in = later; matches = c.matches; holds = c.holds })
 ]
 
--- only the class counts
+-- only the class matters
 covered_class : (items : List Item) (x y : Item) (t : ℤ) → x.class ≡ y.class → IsCovered items x t → IsCovered items y t
 covered_class items x y t same c =
     record { by = c.by; by_in = c.by_in; matches = c.matches ∙ same; holds = c.holds }
 
--- one of the same class and period in place of the first one
+-- the first item can be replaced by one with the same class and period
 covered_swap : (x y : Item) (ys : List Item) → x.class ≡ y.class → x.period ≡ y.period → (z : Item) (t : ℤ)
     → IsCovered (x ∷ ys) z t → IsCovered (y ∷ ys) z t
 covered_swap x y ys same e z t c = elim (covered_cases x ys z t c) [
@@ -63,9 +63,9 @@ covered_swap x y ys same e z t c = elim (covered_cases x ys z t c) [
   | inr later ↦ covered_later y ys z t later
 ]
 
--- ---- united items, and that they cover alike
+-- ---- coalesced items, and covering the same instants
 
--- they are those of no fewer items that cover alike
+-- they are the coalesced items of any longer list that covers the same instants
 union_same : (items others united : List Item) → CoverAlike items others → length items ≤ length others
     → IsUnion items united → IsUnion others united
 union_same items others united same more u = record {
@@ -87,7 +87,7 @@ union_same items others united same more u = record {
   alike = λ x t. (λ c. (u.alike x t).0 ((same x t).1 c), λ c. (same x t).0 ((u.alike x t).1 c));
 }
 
--- no items are united to none
+-- an empty list coalesces to an empty list
 union_none : IsUnion [] []
 union_none = record {
   fewer = omega arith;
@@ -96,12 +96,12 @@ union_none = record {
   alike = λ x t. (λ c. c, λ c. c);
 }
 
--- ---- an item that nothing continues
+-- ---- an item that no other one continues
 
 module _ (x : Item) (l : List Item) (id : x.id ≡ 0) (amount : x.amount ≡ pos 0)
     (up : (y : Item) → Contains l y → x.class ≤ y.class)
     (off : (y : Item) → Contains l y → y.class ≡ x.class → x.period.to <ℤ y.period.from) where
-  -- what later items of its class hold is behind it
+  -- later items of its class start after its end
   behind : (k : Item) (t : ℤ) → x.class ≡ k.class → IsCovered l k t → x.period.to <ℤ t
   behind k t same c =
       let after : x.period.to <ℤ c.by.period.from = off c.by c.by_in (c.matches ∙ sym same) in
@@ -131,9 +131,9 @@ module _ (x : Item) (l : List Item) (id : x.id ≡ 0) (amount : x.amount ≡ pos
         };
       }
 
-  -- a united item that starts among the later ones
+  -- a coalesced item that starts among the later items
   module _ (k : Item) (starts : IsCovered l k k.period.from) where
-    -- x holds none of it, nor the instant before it
+    -- `x` doesn't hold any instant of it, nor the one before it
     apart : (t : ℤ) → (k.period.from -ℤ pos 1) ≤ℤ t → IsCovered (x ∷ l) k t → IsCovered l k t
     apart t late c = elim (covered_cases x l k t c) [
       | inl (same, h) ↦
@@ -168,11 +168,11 @@ module _ (x : Item) (l : List Item) (id : x.id ≡ 0) (amount : x.amount ≡ pos
       };
     }
 
-  -- where a united item starts
+  -- some item covers the start of a coalesced item
   starts_there : (items : List Item) (k : Item) → IsUnited items k → IsCovered items k k.period.from
   starts_there items k i = i.maximal.inside k.period.from (first_held k.period)
 
-  -- one that starts in x is x
+  -- a coalesced item that starts in `x` equals `x`
   united_first : (k : Item) → IsUnited (x ∷ l) k → x.class ≡ k.class → Holds x.period k.period.from → x ≡ k
   united_first k i same h =
       let one : IsMaximal (IsCovered (x ∷ l) x) k.period =
@@ -225,15 +225,15 @@ module _ (x : Item) (l : List Item) (id : x.id ≡ 0) (amount : x.amount ≡ pos
 
 -- ---- two items of a class that touch or overlap
 
--- a is not behind b by class and start
+-- `a` doesn't come after `b` by class and start.
 abbrev IsNotAfter : Item → Item → Type 0
 IsNotAfter a b = (a.class < b.class) ⊎ ((a.class ≡ b.class) × (a.period.from ≤ℤ b.period.from))
 
--- of the first one and a later one
+-- the first item and a later one
 not_after : (x : Item) (l : List Item) (y : Item) → StandByClass (x ∷ l) → Contains l y → IsNotAfter x y
 not_after x l y order h = AllPairs-head IsNotAfter x l y order h
 
--- so classes rise, and in a class the starts
+-- so classes are in ascending order, and within a class the starts
 upwards : (a b : Item) → IsNotAfter a b → a.class ≤ b.class
 upwards a b h = elim h [ inl less ↦ omega (arith, less) | inr (same, on) ↦ omega (arith, same) ]
 
@@ -279,7 +279,7 @@ module _ (x y j : Item) (l : List Item) (c : RunsInto x y) (i : IsMerged x y j)
         ],
       )
 
--- one of the same class and start in place of the first one
+-- the first item can be replaced by one with the same class and start
 order_swap : (x y : Item) (l : List Item) → x.class ≡ y.class → x.period.from ≡ y.period.from → StandByClass (x ∷ l)
     → StandByClass (y ∷ l)
 order_swap x y l same from order =
@@ -290,14 +290,14 @@ order_swap x y l same from order =
     ])
     (AllPairs-tail IsNotAfter x l order)
 
--- without the second one
+-- without the second item
 order_skip : (x y : Item) (l : List Item) → StandByClass (x ∷ (y ∷ l)) → StandByClass (x ∷ l)
 order_skip x y l order =
     AllPairs-before IsNotAfter x l
     (λ z h. not_after x (y ∷ l) z order (Contains-cons y l z h))
     (AllPairs-tail IsNotAfter y l (AllPairs-tail IsNotAfter x (y ∷ l) order))
 
--- what doesn't continue x has all later ones of its class behind x
+-- if the next item doesn't continue `x`, all later items of its class start after its end
 cut_off : (x y : Item) (l : List Item) → StandByClass (x ∷ (y ∷ l)) → (RunsInto x y → ⊥) → (z : Item)
     → Contains (y ∷ l) z → z.class ≡ x.class → x.period.to <ℤ z.period.from
 cut_off x y l order not z h same =
@@ -327,7 +327,7 @@ cut_off x y l order not z h same =
 
 -- ---- sorted by class and start
 
--- the order by class and start, which is total
+-- The order by class and start, which is total.
 class_cmp : Item → Item → Ordering
 class_cmp a b = ordering_then (nat_cmp a.class b.class) (int_cmp a.period.from b.period.from)
 
@@ -335,21 +335,21 @@ class_total : IsTotalOrder class_cmp
 unfolding class_cmp
 class_total = then_total (on_total (λ x. x.class) nat_cmp_total) (on_total (λ x. x.period.from) int_cmp_total)
 
--- what the answers of comparisons mean
+-- the meaning of a comparison's result
 nat_over : (m n : ℕ) → nat_cmp m n ≡ Greater → n < m
 nat_over m n e = grind (arith, nat_tests)
 
 int_upto : (a b : ℤ) → is_lt (int_cmp a b) ≡ false → b ≤ℤ a
 int_upto a b h = grind (arith, ints)
 
--- so what is not below an item comes not before it
+-- so an item that isn't below another one doesn't come before it
 not_after-by : (a b : Item) (r : Ordering) → nat_cmp b.class a.class ≡ r
     → is_lt (ordering_then r (int_cmp b.period.from a.period.from)) ≡ false → IsNotAfter a b
 not_after-by a b Less e h = cc
 not_after-by a b Equal e h = inr (sym (ranked b.class a.class Equal (sym e)), int_upto b.period.from a.period.from h)
 not_after-by a b Greater e h = inl (nat_over b.class a.class e)
 
--- so sorted items stand by class
+-- so sorted items are in order of class and start
 pub stand_sorted : (items : List Item)
     → IsSortedBy (λ (a b : Item). is_lt
     (ordering_then (nat_cmp a.class b.class) (int_cmp a.period.from b.period.from))) items
@@ -362,14 +362,14 @@ stand_sorted items sorted = λ i j d below inside.
 
 -- ---- the sweep
 
--- what the united items so far still lack are those of the last one and of what is left
+-- The coalesced items until now, followed by those of the last item and the remaining ones, are all of them.
 pub record IsUniting (items left : List Item) (last : Item) (united : List Item) : Type 0 where
   pub goes_on : (rest : List Item) → IsUnion (last ∷ left) rest → IsUnion items (united ++ rest)
   pub order : StandByClass (last ∷ left)
   pub id : last.id ≡ 0
   pub amount : last.amount ≡ pos 0
 
--- at first the last one is the first item
+-- at first the last item is the first one
 pub uniting_start : (items left : List Item) (first last : Item) (united : List Item) → items ≡ first ∷ left
     → IsPlain first last → united ≡ [] → StandByClass items → IsUniting items left last united
 uniting_start items left first last united e plain none order =
@@ -403,7 +403,7 @@ uniting_joined items left left' was x both united e c j i =
       amount = j.amount;
     }
 
--- one that does not
+-- an item that doesn't
 pub uniting_cut : (items left left' : List Item) (was x next : Item) (united new : List Item) → left ≡ x ∷ left'
     → (RunsInto was x → ⊥) → IsPlain x next → new ≡ united ++ was ∷ [] → IsUniting items left was united
     → IsUniting items left' next new
@@ -427,7 +427,7 @@ uniting_cut items left left' was x next united new e not plain g i =
       amount = plain.amount;
     })
 
--- at the end the last one is pushed too
+-- at the end the last item is appended, too
 pub uniting_end : (items left : List Item) (was : Item) (united new : List Item) → left ≡ [] → new ≡ united ++ was ∷ []
     → IsUniting items left was united → IsUnion items new
 uniting_end items left was united new e g i =
@@ -437,9 +437,9 @@ uniting_end items left was united new e g i =
     (union_cut was [] i'.id i'.amount (λ y h. absurd (Contains-none y h)) (λ y h same. absurd (Contains-none y h)) []
     union_none))
 
--- ---- in another order
+-- ---- permutations
 
--- items in another order cover alike
+-- permuted items cover the same instants
 covered_moved : (items moved : List Item) → IsPermutation items moved → CoverAlike moved items
 covered_moved items moved p x t = (
   λ c. record {
@@ -456,16 +456,16 @@ covered_moved items moved p x t = (
   },
 )
 
--- so they have the same united items
+-- so they have the same coalesced items
 pub union_moved : (items moved united : List Item) → IsPermutation items moved → IsUnion moved united
     → IsUnion items united
 union_moved items moved united p u =
     union_same moved items united (covered_moved items moved p)
     (let e = length_permutation items moved p in omega (arith, e)) u
 
--- ---- united apart, and then together
+-- ---- coalescing separately, and then together
 
--- what covers in one of two lists does so in both together
+-- an instant that one of two lists covers is covered by both together
 covered_front : (xs ys : List Item) (x : Item) (t : ℤ) → IsCovered xs x t → IsCovered (xs ++ ys) x t
 covered_front xs ys x t c = record {
   by = c.by;
@@ -482,7 +482,7 @@ covered_back xs ys x t c = record {
   holds = c.holds;
 }
 
--- so lists that cover alike do so together
+-- so lists that cover the same instants do so together
 covered_together : (xs ys us vs : List Item) (x : Item) (t : ℤ) → (IsCovered xs x t → IsCovered us x t)
     → (IsCovered ys x t → IsCovered vs x t) → IsCovered (xs ++ ys) x t → IsCovered (us ++ vs) x t
 covered_together xs ys us vs x t front back c = elim (Contains-append_cases xs ys c.by c.by_in) [
@@ -490,17 +490,17 @@ covered_together xs ys us vs x t front back c = elim (Contains-append_cases xs y
   | inr h ↦ covered_back us vs x t (back (record { by = c.by; by_in = h; matches = c.matches; holds = c.holds }))
 ]
 
--- items that cover what others do, and are no more
+-- The second list covers the same instants, and isn't longer.
 abbrev pub AreUnions : List Item → List Item → Type 0
 AreUnions items unions = CoverAlike items unions × (length unions ≤ length items)
 
--- united once more they are what the others are united to
+-- coalescing such a list gives the coalesced items of the first
 pub unions_again : (items unions united : List Item) → AreUnions items unions → IsUnion unions united
     → IsUnion items united
 unions_again items unions united are u =
     union_same unions items united (λ x t. ((are.0 x t).1, (are.0 x t).0)) are.1 u
 
--- those of two lists, one behind another
+-- two such lists together
 pub unions_both : (xs ys us vs : List Item) → AreUnions xs us → AreUnions ys vs → AreUnions (xs ++ ys) (us ++ vs)
 unions_both xs ys us vs u v = (
   λ x t. (
@@ -516,16 +516,16 @@ unions_both xs ys us vs u v = (
 
 -- ---- the anti-join
 
--- what covers alike uncovers alike
+-- lists that cover the same instants leave the same instants uncovered
 uncovered_alike : (items others : List Item) → CoverAlike items others → (x : Item) (t : ℤ) → IsUncovered items x t
     → IsUncovered others x t
 uncovered_alike items others same x t u = record { held = u.held; uncovered = λ c. u.uncovered ((same x t).1 c) }
 
--- the other way round
+-- and vice versa
 turned : (items others : List Item) → CoverAlike items others → CoverAlike others items
 turned items others same x t = ((same x t).1, (same x t).0)
 
--- a row against the one list is one against the other
+-- a row against one list is a row against the other
 row_alike : (left items others : List Item) → CoverAlike items others → (row : AntiRow) → IsItemsAntiRow left items row
     → IsItemsAntiRow left others row
 row_alike left items others same row is = record {

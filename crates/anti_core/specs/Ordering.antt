@@ -5,7 +5,7 @@ use Rattle.share_core.specs.Ranges.{has}
 use Rattle.share_core.specs.declared.range.Range.{Range}
 use Rattle.anti_core.specs.declared.rows.AntiRow.{AntiRow}
 
--- one of the rows, whose id is in a range
+-- One of the rows, with an id within the range.
 pub record IsRowOf (rows : List AntiRow) (ids : Range ℕ) (row : AntiRow) : Type 0 where
   pub there : Contains rows row
   pub of_range : has nat_cmp ids row.id ≡ true

@@ -16,15 +16,15 @@ use std::alloc::Global;
 use std::thread::Threads;
 use work_core::{Crew, Gate};
 
-/// When each left row holds and no right row does that is equal to it in each named pair of columns: the id of the
-/// left row and each such period that is as long as can be, by id and start, the same rows for every number of
-/// workers. Without names each right row matches. The periods of right rows that are equal in the named columns are
-/// united, then both sides are divided, the rows of some values of the columns at a time, and the gate is called before
-/// and after each pair of parts, which tests show. Pairs are numbered anew in each such bundle.
+/// Returns when each left row holds and no matching right row does: the row's id with each maximal such period, by id
+/// and start. Rows match if they are equal in each named pair of columns; without names each right row matches. The
+/// rows are the same for every number of workers. The periods of right rows that are equal in the named columns are
+/// coalesced. Then both sides are divided, one bundle of column values at a time. The gate is called before and after
+/// each pair of parts, as tests show. Pairs are numbered from 0 in each bundle.
 ///
 /// # Errors
 ///
-/// What refuses the columns, and `NoMemory` after it, where a growth is refused.
+/// Why the columns are refused; otherwise `NoMemory` if an allocation is refused.
 pub fn anti<R: Threads + Sync, G: Gate>(
     rt: &R,
     alloc: Global,
@@ -47,7 +47,7 @@ pub fn anti<R: Threads + Sync, G: Gate>(
     Ok(rows)
 }
 
-/// The anti-join, by columns that can be compared.
+/// Returns the anti-join by columns that can be compared.
 fn anti_rows<R: Threads + Sync, G: Gate>(
     crew: &Crew<'_, R, G>,
     left: Side<'_>,

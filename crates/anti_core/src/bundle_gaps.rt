@@ -1,6 +1,6 @@
-//! The rows of items, a bundle at a time: all items of some classes. Items of other classes don't match them, so the
-//! parts of a bundle are paired with each other alone. They are few: right items of one class don't hold at once, and
-//! a bundle of several classes has few items.
+//! The rows of items, one bundle at a time. A bundle is all items of some classes. Items of other classes don't match
+//! them, so only parts of the same bundle are paired. There are few right parts: right items of one class don't
+//! overlap, and a bundle of several classes has few items.
 
 ghost use Rattle.std.specs.Prelude.{◌<◌, ◌≤◌, length, IfOk};
 ghost use Rattle.std.specs.Thread.{IsSync};
@@ -19,10 +19,11 @@ use share_core::{Range, shared_out};
 use std::thread::Threads;
 use work_core::{Crew, Gate};
 
-/// Fewer items would be answered before another thread has started.
+/// With fewer items, one thread is done before another has started.
 const ITEMS_FOR_THREADS: usize = 16_384;
 
-/// The rows of all left items: where these are many and of several classes, some of the workers take a range of these.
+/// Returns the rows of all left items. If there are many, of several classes, the workers partition them by ranges of
+/// classes.
 pub(crate) fn rows_by_class<R: Threads + Sync, G: Gate>(
     crew: &Crew<'_, R, G>,
     left: &[Item],
@@ -58,7 +59,7 @@ pub(crate) fn rows_by_class<R: Threads + Sync, G: Gate>(
     in_one_list(alloc, lists)
 }
 
-/// How many workers find the rows of a bundle: one where it is small, and isn't all that there is.
+/// Returns how many workers find the rows of a bundle: one if it is small and isn't the only bundle.
 fn workers_for(bundle: &[Item], all: &[Item], workers: u32) -> u32
     requires { 0 < workers }
     ensures { (0 < result) × (result ≤ workers) }
@@ -70,7 +71,7 @@ fn workers_for(bundle: &[Item], all: &[Item], workers: u32) -> u32
     }
 }
 
-/// The rows of all left items, which are found bundle by bundle.
+/// Returns the rows of all left items, found bundle by bundle.
 fn rows_of_bundles<R: Threads + Sync, G: Gate>(
     crew: &Crew<'_, R, G>,
     left: &[Item],
@@ -87,7 +88,7 @@ fn rows_of_bundles<R: Threads + Sync, G: Gate>(
     let mut lefts = left;
     let mut rights = right;
     'bundles: while let Some(first) = lefts.first() {
-        // Right items of lower classes match no left item that is left.
+        // Right items of lower classes match none of the remaining left items.
         let matching = items_from(first.class, rights);
         let class = last_class(first, lefts, matching);
         let (low_lefts, high_lefts) = parted_behind(class, lefts);

@@ -1,5 +1,5 @@
-//! The rows of both sides by their classes: some of the workers take a range of these, and pick its rows out before they
-//! make them items.
+//! The rows of both sides by class. Some of the workers take each range of classes, and select its rows before they
+//! make items of them.
 
 ghost use Rattle.std.specs.Prelude.{◌+◌, ◌<◌, ◌≤◌, length, IfOk};
 ghost use Rattle.std.specs.Thread.{IsSync};
@@ -19,8 +19,8 @@ use share_core::{Range, Shares, shared_out};
 use std::thread::Threads;
 use work_core::{Crew, Gate};
 
-/// The anti-join of two sides, whose rows match where their classes are equal. The right items are united before they
-/// are divided: of those that hold at once each class has one, however many there were.
+/// Returns the anti-join of two sides, whose rows match if their classes are equal. The right items are coalesced
+/// before they are divided. So at any instant each class has at most one of them, however many rows hold.
 pub(crate) fn anti_sides<R: Threads + Sync, G: Gate>(
     crew: &Crew<'_, R, G>,
     left: &ClassedRows<'_>,
@@ -34,8 +34,8 @@ pub(crate) fn anti_sides<R: Threads + Sync, G: Gate>(
     ordered(crew, lists, left.rows)
 }
 
-/// The rows of all left items, in a list for each range of the classes. These are cut so that each worker has about as
-/// many rows of both sides.
+/// Returns the rows of all left items, in one list per range of classes. The ranges are cut so that each worker has
+/// about the same number of rows of both sides.
 fn rows_of_sides<R: Threads + Sync, G: Gate>(
     crew: &Crew<'_, R, G>,
     left: &ClassedRows<'_>,
@@ -71,7 +71,7 @@ fn rows_of_sides<R: Threads + Sync, G: Gate>(
     )
 }
 
-/// The class of a row: those of the left ones come first.
+/// Returns the class of row `i`, counting the left rows first.
 fn class_at(left: &ClassedRows<'_>, right: &ClassedRows<'_>, i: usize) -> u64
     requires { i < length left.now.rows.now + length right.now.rows.now }
 {
@@ -83,7 +83,7 @@ fn class_at(left: &ClassedRows<'_>, right: &ClassedRows<'_>, i: usize) -> u64
     }
 }
 
-/// The rows of the left items in a range of the classes.
+/// Returns the rows of the left items whose classes are within a range.
 fn rows_of_range<R: Threads + Sync, G: Gate>(
     crew: &Crew<'_, R, G>,
     left: &ClassedRows<'_>,

@@ -5,12 +5,12 @@ ghost use Rattle.dip_core.specs.Item.{item_limit};
 
 use table_core::SharedRows;
 
-/// The rows of a side, each of the class that stands at its place.
+/// The rows of a side, each with the class at its index.
 #[derive(Clone, Copy)]
 pub(crate) struct ClassedRows<'a> {
     /// The rows.
     pub rows: &'a SharedRows,
-    /// A class for each row at least.
+    /// The classes, at least one for each row.
     pub classes: &'a [u64],
     pub ghost enough: { length rows.now ≤ length classes.now },
     pub ghost few: { length rows.now ≤ item_limit },

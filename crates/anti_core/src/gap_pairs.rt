@@ -8,7 +8,7 @@ use merge_core::{Cursor, Gaps};
 use period_core::NoMemory;
 use std::alloc::Global;
 
-/// Finds the gaps of a left part against a right part alone.
+/// Finds the gaps of a left part against one right part.
 pub struct GapWork;
 
 impl PartWork for GapWork {
@@ -21,6 +21,6 @@ impl PartWork for GapWork {
     }
 }
 
-/// The pairs of parts of two divisions, and as the value of each the list of the gaps of its left part against its
-/// right part alone.
+/// The pairs of parts of two divisions. The value of a pair is the list of its left part's gaps against its right part
+/// only.
 pub type GapPairs<'a> = PartPairs<'a, GapWork>;

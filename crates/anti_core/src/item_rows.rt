@@ -25,7 +25,7 @@ use share_core::{Range, Shares, piece, shared_out};
 use std::thread::Threads;
 use work_core::{Crew, Gate};
 
-/// Adds the rows of the left part of that number.
+/// Adds the rows of the left part with that number.
 fn add_rows_of_part<R: Threads + Sync, G: Gate>(
     crew: &Crew<'_, R, G>,
     pairs: &GapPairs<'_>,
@@ -51,7 +51,7 @@ fn add_rows_of_part<R: Threads + Sync, G: Gate>(
     Ok(())
 }
 
-/// The rows of all left parts, part by part.
+/// Returns the rows of all left parts, part by part.
 fn rows_of_parts<R: Threads + Sync, G: Gate>(
     crew: &Crew<'_, R, G>,
     pairs: &GapPairs<'_>,
@@ -68,8 +68,8 @@ fn rows_of_parts<R: Threads + Sync, G: Gate>(
     Ok(rows)
 }
 
-/// The rows of some left items, against right items that are divided. Where left items are many, each worker takes a
-/// piece of them: so items of one class are shared out too.
+/// Returns the rows of some left items, against right items that are divided. If there are many left items, the
+/// workers partition them by index, so items of one class are shared among the workers, too.
 fn rows_of_lefts<R: Threads + Sync, G: Gate>(
     crew: &Crew<'_, R, G>,
     left: &[Item],
@@ -101,7 +101,7 @@ fn rows_of_lefts<R: Threads + Sync, G: Gate>(
     in_one_list(alloc, lists)
 }
 
-/// The rows of a piece of the left items, which is divided.
+/// Divides a partition of the left items and returns its rows.
 fn rows_of_piece<R: Threads + Sync, G: Gate>(
     crew: &Crew<'_, R, G>,
     left: &[Item],
@@ -115,7 +115,7 @@ fn rows_of_piece<R: Threads + Sync, G: Gate>(
     rows_of_parts(crew, &GapPairs::new(&lefts, rights))
 }
 
-/// The rows of some left items, which match right items of their classes. Both sides are divided.
+/// Returns the rows of some left items, against the right items of their classes. Both sides are divided.
 pub(crate) fn rows_of_items<R: Threads + Sync, G: Gate>(
     crew: &Crew<'_, R, G>,
     left: &[Item],

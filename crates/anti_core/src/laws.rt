@@ -1,4 +1,4 @@
-//! Laws of anti-joins.
+//! Laws on anti-joins.
 
 ghost use Rattle.std.specs.Prelude.{◌≡◌, ◌↔◌, List};
 ghost use Rattle.period_core.specs.declared.period.Period.{Period};
@@ -24,8 +24,8 @@ pub fn anti_has_one_list()
         → IsAnti (MatchesOn left_columns right_columns on) left right other → one ≡ other }
 {}
 
-/// The periods of a left row in its anti-join are those within its own that hold no instant that a matching right row
-/// holds, and at each end border on such an instant or end with the row.
+/// The periods of a left row in its anti-join are exactly these: periods within the row's own without an instant that
+/// a matching right row holds, each end of which borders on such an instant or is an end of the row's period.
 pub fn unmet_periods_are_bordered()
     ensures { (left_columns right_columns : List Column) (on : List NamePair) (right : List Row)
         (x : Row) (p : Period)
@@ -33,28 +33,29 @@ pub fn unmet_periods_are_bordered()
         ↔ IsBordered (MatchesOn left_columns right_columns on) right x p }
 {}
 
-/// What is sent to lots can be anti-joined lot by lot. A function sends each left row to a lot, and another each right
-/// row, so that rows that match are sent to one. Then the anti-join of all is the ordered list of what stands in those of
-/// the lots. Where the left rows' ids rise too, the anti-join of what is sent to a lot is just the rows of the anti-join of
-/// all whose left row is sent there, in their order. Where they rise, no row stands in two of them, whatever is sent where.
-/// A lot to which left rows are sent, and no right ones, has an anti-join too: leaving it out leaves rows out. Rows keep
-/// their ids and periods. Whether a program outside sends rows so is not said here.
+/// Rows can be anti-joined in lots, which partition them: one function sends each left row to a lot, another one each
+/// right row, and matching rows go to the same lot. Then the anti-join of all rows is the ordered list of the rows of
+/// all lots' anti-joins. If the left rows' ids are ascending, the anti-join of a lot is the rows of the whole
+/// anti-join whose left row goes to that lot, in the same order. If they are ascending, no row is in the anti-joins of
+/// two lots, whatever the functions are. A lot with left rows and no right rows also has an anti-join, and leaving it
+/// out would lose rows. Rows keep their ids and periods. The law doesn't say whether a program outside sends rows so.
 pub fn anti_is_that_of_its_lots()
     ensures lot { LotAntiIsOfWhole }
     ensures whole { WholeAntiIsOfLots }
     ensures apart { LotAntisAreApart }
 {}
 
-/// Rows can be anti-joined as others that stand for them: in a table of their own, with their periods and compared
-/// values alone, and with ids of their own that rise with theirs. The anti-join of those, with the ids given back, is
-/// the anti-join of these. So a run that numbers the rows of a lot anew, by their order, answers the lot's anti-join.
+/// Rows can be anti-joined through rows that stand for them, in a table of their own. These need the same periods, the
+/// same compared values, and ids in the same order. Their anti-join, with the ids mapped back, is the anti-join of the
+/// original rows. So a run that renumbers the rows of a lot in order answers the lot's anti-join.
 pub fn anti_is_that_of_stand_ins()
     ensures { AntiIsOfStandIns }
 {}
 
-/// Rows can be anti-joined as others with numbers in place of what is compared, where a left and a right row match exactly
-/// where those do that they stand for. They have the periods of these, and ids that rise with theirs. The anti-join of
-/// those, with the ids given back, is the anti-join of these. Whether a program outside numbers values so is not said here.
+/// Rows can be anti-joined through rows with numbers in place of the compared values, if a left and a right row match
+/// exactly if the rows they stand for match. They have the same periods, and ids in the same order. Their anti-join,
+/// with the ids mapped back, is the anti-join of the original rows. The law doesn't say whether a program outside
+/// numbers values so.
 pub fn anti_is_that_of_codes()
     ensures { AntiIsOfCodes }
 {}

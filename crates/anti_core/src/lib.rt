@@ -1,8 +1,8 @@
 #![tactic(auto)]
 
-//! When the rows of a table held with no row of another that matches them: the rows of the other are united, both are
-//! divided, some classes at a time, the gaps of each part of the one against each part of the other are made by many
-//! workers, and those of one left part are met.
+//! Finds when the rows of a table held and no matching row of another table did. The other table's rows are coalesced,
+//! and both sides are divided, some classes at a time. Workers find the gaps of each left part against each right
+//! part, and the gaps of one left part are intersected.
 
 mod anti_joins;
 mod bundle_gaps;

@@ -1,4 +1,4 @@
-//! The rows of an anti-join put in order: each worker gathers those of some left rows, from all lists, and sorts them.
+//! Sorting the rows of an anti-join: each worker collects the rows of some left ids from all lists, and sorts them.
 
 ghost use Rattle.std.specs.Prelude.{◌≡◌, ◌≢◌, ◌++◌, AllPairs, Contains, IfOk, OnOk, filter};
 ghost use Rattle.std.specs.Ordering.{nat_cmp};
@@ -17,7 +17,7 @@ use std::thread::Threads;
 use table_core::SharedRows;
 use work_core::Crew;
 
-/// The rows of some lists, in order. The left rows say where the ids are cut.
+/// Returns the rows of some lists, in order. The left rows determine at which ids the work is split.
 pub(crate) fn ordered<R: Threads + Sync, G>(
     crew: &Crew<'_, R, G>,
     lists: Vec<Vec<AntiRow>>,
@@ -35,7 +35,7 @@ pub(crate) fn ordered<R: Threads + Sync, G>(
     rows_by_id(rt, alloc, &lists, &shares, left.len() / shares.len())
 }
 
-/// These rows in order, as one chunk.
+/// Returns the rows in order, as one chunk.
 fn in_order(alloc: Global, mut rows: Vec<AntiRow>) -> Result<AntiRows, NoMemory>
     requires { AllPairs (λ a b. a ≢ b) rows.items }
     ensures { IfOk result (λ sorted. IsListOf AntiRowBefore (Contains rows.items) sorted) }
@@ -44,7 +44,7 @@ fn in_order(alloc: Global, mut rows: Vec<AntiRow>) -> Result<AntiRows, NoMemory>
     AntiRows::of(alloc, rows)
 }
 
-/// The rows of all ids, in order, a range of the ids by each worker, with room for so many of each at first.
+/// Returns the rows of all ids, in order. A worker takes each range of ids, with an initial capacity of `room` rows.
 fn rows_by_id<R: Threads + Sync>(
     rt: &R,
     alloc: Global,
@@ -68,7 +68,7 @@ fn rows_by_id<R: Threads + Sync>(
     AntiRows::of_all(alloc, sorted)
 }
 
-/// The rows of some ids, in order, with room for so many at first.
+/// Returns the rows of some ids, in order, with an initial capacity of `room` rows.
 fn sorted_rows(
     alloc: Global,
     lists: &[Vec<AntiRow>],
@@ -82,7 +82,7 @@ fn sorted_rows(
     in_order(alloc, rows)
 }
 
-/// The rows of some ids, list by list, with room for so many at first.
+/// Returns the rows of some ids, list by list, with an initial capacity of `room` rows.
 fn rows_of_ids(
     alloc: Global,
     lists: &[Vec<AntiRow>],

@@ -20,8 +20,8 @@ use std::alloc::Global;
 use std::thread::Threads;
 use work_core::{Crew, Gate, Outs};
 
-/// The gaps of a part against the items of `count` right parts: those against each of them are there, from place
-/// `from` on. Half is met with half, so that each list is gone through as often as their number can be halved.
+/// Returns the gaps of a part against the items of `count` right parts. `values` has the gaps against each of them,
+/// from index `from` on. Halves are intersected recursively, so each list is read about log2(`count`) times.
 fn meet_values(
     alloc: Global,
     part: Part<'_>,
@@ -36,10 +36,10 @@ fn meet_values(
         → AreGapsAgainst part.entry.items.now rights start values.now from count
         → IfOk result (ListsGaps part.entry.items.now (all_of (take count (drop start rights)))) }
 {
-    // How long the list is bounds its places.
+    // The length of the list bounds its indices.
     let _ = values.len();
     if count == 1 {
-        // What is there is only lent: met with the whole periods it makes an equal list of its own.
+        // The list is only borrowed. Intersecting it with the whole periods makes an owned equal list.
         let Some(only) = values.get(from) else {
             unreachable!()
         };
@@ -60,8 +60,8 @@ fn meet_values(
     meet_gaps(alloc, &front, &back)
 }
 
-/// The gaps of the left part of that number against the items of all right parts: those against the right parts so
-/// far are met with those against more of them, as they are supplied.
+/// Returns the gaps of the left part with that number against the items of all right parts. It intersects the gaps
+/// against the right parts until now with the gaps against more right parts, as they are supplied.
 pub(crate) fn gaps_of_part<R: Threads + Sync, G: Gate>(
     crew: &Crew<'_, R, G>,
     pairs: &GapPairs<'_>,
@@ -95,8 +95,8 @@ pub(crate) fn gaps_of_part<R: Threads + Sync, G: Gate>(
     Ok(gaps)
 }
 
-/// Adds the rows of the left part of that number, where there is one right part: their gaps are those of the one pair,
-/// and there is nothing to meet.
+/// Adds the rows of the left part with that number if there is only one right part: they are the gaps of one pair,
+/// without any intersection.
 pub(crate) fn add_rows_of_pair<R: Threads + Sync, G: Gate>(
     crew: &Crew<'_, R, G>,
     pairs: &GapPairs<'_>,

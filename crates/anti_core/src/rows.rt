@@ -8,24 +8,24 @@ use list_core::ChunkedList;
 use merge_core::Gap;
 use period_core::{NoMemory, Period};
 
-/// The id of a left row, and a period in which it holds and no matching right row does, as long as can be. Rows are
-/// ordered by id, start and end.
+/// The id of a left row, and a maximal period in which it holds and no matching right row does. Rows are ordered by
+/// id, start and end.
 #[derive(Clone, Copy, Debug, PartialEq, Eq, PartialOrd, Ord)]
 pub struct AntiRow {
     /// The id of the left row.
     pub id: u64,
-    /// Instants that it holds, and no matching right row does.
+    /// The instants that it holds and no matching right row does.
     pub period: Period,
 }
 
-/// The rows of an anti-join, in their order, in chunks that were sorted apart.
+/// The rows of an anti-join, in order, in chunks that were sorted separately.
 pub type AntiRows = ChunkedList<AntiRow>;
 
-/// Adds the rows of some gaps, in their order: each has the id of its gap's left item and the gap's period.
+/// Adds the rows of some gaps, in order. A row has the id of its gap's left item and the gap's period.
 ///
 /// # Errors
 ///
-/// `NoMemory` if a growth is refused.
+/// `NoMemory` if an allocation is refused.
 pub fn add_rows(gaps: &[Gap], rows: &mut Vec<AntiRow>) -> Result<(), NoMemory>
     ensures { OnOk result (rows.new.items ≡ rows.old.items ++ map row_of_gap gaps.now) }
 {

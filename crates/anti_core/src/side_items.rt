@@ -1,4 +1,4 @@
-//! The items of both sides in a range of classes.
+//! The items of both sides whose classes are within a range.
 
 ghost use Rattle.std.specs.Prelude.{◌<◌, ◌≤◌, length, IfOk, IsPermutation};
 ghost use Rattle.std.specs.Thread.{IsSync};
@@ -19,11 +19,11 @@ use std::thread::{Threads, join};
 use table_core::SharedRows;
 use work_core::Crew;
 
-/// Of fewer rows one side's items would be there before the other side's thread has started.
+/// With fewer rows, one side's items would be complete before the other side's thread has started.
 const ROWS_FOR_THREAD: usize = 4_096;
 
-/// The left items by class, and the right ones united: where rows are many, by one worker the left ones, and the right
-/// ones, which take longer, by all others.
+/// Returns the left items by class, and the right items coalesced. With many rows, one worker makes the left items,
+/// and all others the right items, which take longer.
 pub(crate) fn items_of_sides<R: Threads + Sync, G>(
     crew: &Crew<'_, R, G>,
     left: &ClassedRows<'_>,
@@ -66,7 +66,7 @@ pub(crate) fn items_of_sides<R: Threads + Sync, G>(
     Ok((lefts, united))
 }
 
-/// The left items, by class: one worker puts them so.
+/// Returns the left items by class. One worker sorts them.
 fn left_items<R: Threads + Sync>(
     rt: &R,
     alloc: Global,

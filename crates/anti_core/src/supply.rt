@@ -1,4 +1,4 @@
-//! The gaps of pairs of parts, made stretch by stretch and ahead of their use.
+//! The gaps of pairs of parts, found one stretch of pairs at a time and before they are used.
 
 ghost use Rattle.std.specs.Prelude.{◌<◌, ◌≤◌, ◌+◌, ◌*◌, length, IfOk};
 ghost use Rattle.std.specs.Option.{ForSome};
@@ -11,7 +11,7 @@ use period_core::NoMemory;
 use std::thread::Threads;
 use work_core::{Crew, Gate, Outs, run_stretch};
 
-/// The gaps of pairs that follow one another by number.
+/// The gaps of pairs with consecutive numbers.
 #[derive(Drop)]
 pub(crate) struct Supply {
     /// The number of the first pair.
@@ -20,8 +20,8 @@ pub(crate) struct Supply {
     pub values: Outs<Gaps>,
 }
 
-/// Gaps of some pairs, with that one among them: those that are there, or else those of a stretch from that pair on.
-/// What is there is given back before that stretch is run.
+/// Returns the gaps of consecutive pairs, among them pair `number`: the given ones if they contain it, otherwise those
+/// of a new stretch from that pair on. The given ones are freed before the stretch runs.
 pub(crate) fn supply_at<R: Threads + Sync, G: Gate>(
     crew: &Crew<'_, R, G>,
     pairs: &GapPairs<'_>,
@@ -43,7 +43,7 @@ pub(crate) fn supply_at<R: Threads + Sync, G: Gate>(
     run_from(crew, pairs, number)
 }
 
-/// The gaps of a stretch of pairs from number `first` on.
+/// Returns the gaps of a stretch of pairs from number `first` on.
 fn run_from<R: Threads + Sync, G: Gate>(
     crew: &Crew<'_, R, G>,
     pairs: &GapPairs<'_>,

@@ -1,4 +1,4 @@
-//! The right items of each class united, before they are divided: all that counts is which instants they hold.
+//! The right items of each class, coalesced before they are divided: it only matters which instants they hold.
 
 ghost use Rattle.std.specs.Prelude.{◌<◌, ◌≤◌, length, IfOk, MatchOption};
 ghost use Rattle.list_core.specs.Chunks.{all_in};
@@ -16,9 +16,9 @@ use std::alloc::Global;
 use std::thread::Threads;
 use table_core::SharedRows;
 
-/// The longest periods in which some row of each class of a range holds, as items of their class, by class and start.
-/// They have no ids: each has the id 0, and the amount 0. Where rows are many, each worker unites a piece of them, and
-/// what all find is united again: the more rows hold at once, the less that is.
+/// Returns the maximal periods in which some row of each class within a range holds, as items of that class, by class
+/// and start. They have id 0 and amount 0. With many rows, each worker coalesces a part of the rows, and the results
+/// are coalesced again: the more the rows overlap, the fewer results there are.
 pub(crate) fn united_rows<R: Threads + Sync>(
     rt: &R,
     alloc: Global,
@@ -48,7 +48,7 @@ pub(crate) fn united_rows<R: Threads + Sync>(
     united_again(alloc, unions)
 }
 
-/// The union of the items of the rows at some places, those of a range's classes.
+/// Returns the coalesced items of the rows at the given indices whose classes are within a range.
 fn united_piece(
     alloc: Global,
     rows: &SharedRows,
@@ -64,8 +64,8 @@ fn united_piece(
     Ok(united_items(items))
 }
 
-/// Returns the longest periods in which some item of each class holds, as items of their class with the id 0 and the
-/// amount 0, by class and start. The items' own list is used again: no memory is needed.
+/// Returns the maximal periods in which some item of each class holds, as items of that class with id 0 and amount 0,
+/// by class and start. It reuses the items' list and allocates nothing.
 pub fn united_items(mut items: Vec<Item>) -> Vec<Item>
     ensures { IsUnion items.items result.items }
 {
@@ -74,7 +74,7 @@ pub fn united_items(mut items: Vec<Item>) -> Vec<Item>
     items
 }
 
-/// The union of unions. Each is in order, so the sort, which finds that, only merges them.
+/// Coalesces lists that are coalesced already. Each list is in order, so the sort detects that and only merges them.
 fn united_again(alloc: Global, unions: Vec<Vec<Item>>) -> Result<Vec<Item>, NoMemory>
     ensures { IfOk result (λ united. IsUnion (all_in unions.items) united.items) }
 {
@@ -84,7 +84,7 @@ fn united_again(alloc: Global, unions: Vec<Vec<Item>>) -> Result<Vec<Item>, NoMe
     Ok(items)
 }
 
-/// Makes each item one with those behind it that continue it, without ids and amounts.
+/// Coalesces each item with the following ones that continue it. Ids and amounts are removed.
 fn unite(items: &mut Vec<Item>)
     requires { StandByClass items.old.items }
     ensures { IsUnion items.old.items items.new.items }
@@ -93,7 +93,7 @@ fn unite(items: &mut Vec<Item>)
         return;
     };
     let mut last = plain(first);
-    // So many united ones stand in front.
+    // The first `count` items are coalesced.
     let mut count = 0;
     for i in 1..items.len() {
         let item = items[i];
@@ -109,7 +109,7 @@ fn unite(items: &mut Vec<Item>)
     items.truncate(count + 1);
 }
 
-/// An item's class and period.
+/// Returns an item with only the class and period of `item`.
 fn plain(item: &Item) -> Item
     ensures { IsPlain item.now result }
 {
@@ -121,7 +121,8 @@ fn plain(item: &Item) -> Item
     }
 }
 
-/// Both as one, where the second is of the first one's class and starts no later than it ends. It may end sooner.
+/// Returns both items as one if the second has the first one's class and starts no later than the first one ends. It
+/// may end earlier.
 fn merged(last: &Item, next: &Item) -> Option<Item>
     ensures { MatchOption result (RunsInto last.now next.now → ⊥)
         (λ both. RunsInto last.now next.now × IsMerged last.now next.now both) }

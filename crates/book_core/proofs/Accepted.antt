@@ -1,4 +1,4 @@
--- What is refused for its keys, and what is not.
+-- Which changes are refused for overlaps of keys.
 use Rattle.std.proofs.Common.{◌≡◌, ℕ, Bool, true, false, Option, Some, None, refl, ap, ◌∙◌, inl, inr}
 use Rattle.std.specs.Prelude.{Result, Err, IfNone, IfSome, IsOkUnless, ◌≢◌}
 use Rattle.row_core.specs.Refusals.{map_refused}
@@ -19,7 +19,7 @@ none-of_overlap None true h = cc
 none-of_overlap None false h = refl
 none-of_overlap (Some refused) overlap h = cc
 
--- what is accepted is not refused by the tests before that of keys, and leaves no overlap
+-- an accepted change is not refused by the earlier tests, and leaves no overlap
 pub first-none : (n : ℕ) (s : State) (c : Change) → refusal_of n s c ≡ None → first_refusal n s c ≡ None
 first-none n s c h = first-of_none (first_refusal n s c) (leaves_overlap c (table_of s (table_named c))) h
 
@@ -27,13 +27,13 @@ pub overlap-none : (n : ℕ) (s : State) (c : Change) → refusal_of n s c ≡ N
     → leaves_overlap c (table_of s (table_named c)) ≡ false
 overlap-none n s c h = none-of_overlap (first_refusal n s c) (leaves_overlap c (table_of s (table_named c))) h
 
--- what neither refuses is accepted
+-- a change that neither refuses is accepted
 pub accepted-both : (n : ℕ) (s : State) (c : Change) → first_refusal n s c ≡ None
     → leaves_overlap c (table_of s (table_named c)) ≡ false → refusal_of n s c ≡ None
 accepted-both n s c h k =
     ap (λ o. or_overlap o (leaves_overlap c (table_of s (table_named c)))) h ∙ ap (or_overlap None) k
 
--- rows of one key overlap
+-- rows with the same key overlap
 overlap-refused : (n : ℕ) (s : State) (c : Change) → first_refusal n s c ≡ None
     → leaves_overlap c (table_of s (table_named c)) ≡ true → refusal_of n s c ≡ Some KeyOverlap
 overlap-refused n s c h k =

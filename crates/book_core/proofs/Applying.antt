@@ -21,7 +21,7 @@ use Rattle.book_core.specs.declared.refusal.BookRefused.TheVariants.{Full, Table
 use Rattle.book_core.proofs.Reading.{table_of-map}
 use Rattle.book_core.proofs.Shown.{newest-kept}
 
--- a table by its place
+-- a table by its index
 
 pub record Found (o : Option StoredTable) (g : (StoredTable → StoredTable) → List StoredTable) (ts : List StoredTable)
     (j : ℕ) : Type 0 where
@@ -119,7 +119,7 @@ unit_if : {X : Type 0} (o : Option X) → IfSome o (λ x. Unit {0})
 unit_if None = tt
 unit_if (Some x) = tt
 
--- an accepted change has room
+-- an accepted change doesn't exceed the limit on versions
 pub room : (n : ℕ) (s : State) (ts : List StoredTable) (c : Change) → s ≡ map (table_at n) ts
     → first_refusal n s c ≡ None → HasRoom n c ts
 room n s ts (Make name schema) e h = unit_if (kept_table name ts)
@@ -137,7 +137,7 @@ room n s ts (Delete name portion conds) e h =
     (λ t. (changed (Delete name portion conds) t).used)
     (ap (λ o. with_table o (λ t. first_of (tests_of n (Delete name portion conds) t))) (found_in n s ts name e) ∙ h)
 
--- a place
+-- an index
 
 pub place : (name : List ℕ) (ts : List StoredTable) (at : ℕ) → position (λ t. bytes_eq t.name name) ts ≡ Some at
     → Found (kept_table name ts) (λ f. at_kept name f ts) ts at
@@ -146,7 +146,7 @@ place name ts at e =
     let same : r.0 ≡ at = omega (arith, r.1) in
     subst (λ j. Found (kept_table name ts) (λ f. at_kept name f ts) ts j) same r.2
 
--- kept histories
+-- stored histories
 
 kept-push : (n : ℕ) (ts : List StoredTable) (h : History) (c : Commit)
     → kept_tables_from n ts (h ++ c ∷ []) ≡ kept_tables_after (n + length h) (kept_tables_from n ts h) c.change
@@ -191,7 +191,7 @@ AreKept-push h now new ts us c k v r e n =
           ∙ ap (kept_tables_from 0 []) (sym n);
     }
 
--- what a book's tables show is the newest state
+-- the book's tables are those of the newest state
 pub newest_of : (h now : History) (ts : List StoredTable) → AreKept h ts → h ≡ now
     → state_after now ≡ map (table_at (length now)) ts
 newest_of h now ts k v =

@@ -1,4 +1,4 @@
--- Names that are bound to places.
+-- Names that are bound to column indexes.
 use Rattle.std.proofs.Common.{◌≡◌, ℕ, ◌+◌, ◌<◌, List, [], ◌∷◌, ◌++◌, Bool, true, false, ◌&&◌, Option, Some, None, length, take, get_or, set, refl, ap, sym, ◌∙◌}
 use Rattle.std.specs.Prelude.{fold, filter, flat_map, is_some, option_and_then, option_map, slice_get, unwrap_or}
 use Rattle.std.specs.List.{list_all}
@@ -39,7 +39,7 @@ pub equal-at_column : (schema : List Column) (pair : Pair) (column : ℕ) (value
 equal-at_column schema pair column values e =
     sym (ap (λ o. unwrap_or (option_map (same_value pair.1) (option_and_then (slice_get values) o)) false) e)
 
--- a setting more
+-- one setting more
 pub settings-more : (schema : List Column) (pairs : List Pair) (sets : List (Option Value)) (i column : ℕ) (pair : Pair)
     → i < length pairs → pair ≡ get_or pairs i pair → column_of schema pair.0 ≡ Some column → column < length sets
     → ((values : List Value) → with_set sets values ≡ fold (set_at schema) values (take i pairs))
@@ -53,7 +53,7 @@ settings-more schema pairs sets i column pair inside_pairs is named room so_far 
     ∙ sym (fold-append (set_at schema) values (take i pairs) (get_or pairs i pair ∷ []))
     ∙ ap (fold (set_at schema) values) (sym (take_more pairs i pair inside_pairs))
 
--- a condition more
+-- one condition more
 all-push : (test : Pair → Bool) (xs : List Pair) (x : Pair) → list_all test (xs ++ x ∷ []) ≡ (list_all test xs && test x)
 all-push test [] x = and_one (test x) where
   and_one : (b : Bool) → (b && true) ≡ (true && b)
@@ -87,7 +87,7 @@ conds-more schema pairs wanted more agree r i column pair inside_pairs is named 
     ∙ sym (all-push (is_equal_at schema values) (take i pairs) (get_or pairs i pair))
     ∙ ap (list_all (is_equal_at schema values)) (sym (take_more pairs i pair inside_pairs))
 
--- a value that is wanted where another was
+-- a value is required where another was
 pub want-again : (wanted : List (Option Value)) (values : List Value) (i : ℕ) (one other : Value) (r : Bool)
     → get_or wanted i None ≡ Some one → r ≡ same_value one other
     → (r && are_wanted wanted values)

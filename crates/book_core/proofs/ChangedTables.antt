@@ -35,22 +35,22 @@ find-absent_from name (t ∷ ts) i =
       | false ↦ λ h. find-absent_from name ts (i + 1) h
     ]
 
--- without a place there is no table
+-- without an index, the table doesn't exist
 pub find-absent : (name : List ℕ) (ts : List StoredTable) → position (λ t. bytes_eq t.name name) ts ≡ None
     → kept_table name ts ≡ None
 find-absent name ts e = find-absent_from name ts 0 (sym (position_from-zero (λ t. bytes_eq t.name name) ts) ∙ e)
 
--- the table at the place is the one that is found
+-- the table at the index is the one that is found
 pub find-place : (name : List ℕ) (ts : List StoredTable) (at : ℕ) (t : StoredTable)
     → position (λ t. bytes_eq t.name name) ts ≡ Some at → t ≡ get_or ts at t → kept_table name ts ≡ Some t
 find-place name ts at t e g = (place name ts at e).found t ∙ ap Some (sym g)
 
--- what holds of the table of that name
+-- a fact about the table with that name
 pub holds-place : (P : StoredTable → Type 0) (name : List ℕ) (ts : List StoredTable) (at : ℕ) (t : StoredTable)
     → position (λ t. bytes_eq t.name name) ts ≡ Some at → t ≡ get_or ts at t → IfSome (kept_table name ts) P → P t
 holds-place P name ts at t e g h = at_some P (kept_table name ts) t (find-place name ts at t e g) h
 
--- a table that is written in its place
+-- a table is replaced at its index
 pub at_kept-place : (name : List ℕ) (f : StoredTable → StoredTable) (ts : List StoredTable) (at : ℕ)
     (t new : StoredTable) → position (λ t. bytes_eq t.name name) ts ≡ Some at → t ≡ get_or ts at t → new ≡ f t
     → set ts at new ≡ at_kept name f ts
@@ -65,7 +65,7 @@ pub closed_in-make : (n : ℕ) (name : List ℕ) (schema : List Column) (o : Opt
 closed_in-make n name schema None = refl
 closed_in-make n name schema (Some t) = none_counted (shown n t.versions)
 
--- ---- a change by places that does the same
+-- ---- a change by column indexes with the same effect
 
 closed-same : (n : ℕ) (p q : Row → Bool) → ((row : Row) → p row ≡ q row) → (vs : List Version)
     → map (closed n p) vs ≡ map (closed n q) vs
@@ -82,7 +82,7 @@ count-same p q same (row ∷ rows) =
     ∙ ap (λ n. cond (q row) 1 0 + n) (count-same p q same rows)
     ∙ sym (count-cons q row rows)
 
--- the open versions are those that the newest commit shows
+-- the open versions are the ones visible as of the newest commit
 pub versions_after-kept : (n : ℕ) (c : Change) (r : RowsChange) (t : StoredTable) → DoesTheSame c t.schema r
     → IsWellKept n t → record t { versions = versions_after (n + 1) r t.versions } ≡ kept_table_after n c t
 versions_after-kept n c r t same well =
@@ -96,7 +96,7 @@ versions_after-kept n c r t same well =
     })
     (same.new (current t.versions) ∙ ap (drafts_of c t.schema) (sym (shown-current n t.versions well.times)))
 
--- how many they are that a change adds and closes
+-- how many versions a change adds and closes
 pub added-current : (n : ℕ) (c : Change) (r : RowsChange) (t : StoredTable) (o : Option StoredTable)
     → DoesTheSame c t.schema r → IsWellKept n t → o ≡ Some t
     → length (by_place.drafts_of r (current t.versions)) ≡ added_in n c o
@@ -112,7 +112,7 @@ taken-current n c r t o same well e =
     count-same (by_place.removes r) (removes c t.schema) same.out (current t.versions)
     ∙ ap (count_by (removes c t.schema)) (sym (shown-current n t.versions well.times)) ∙ ap (closed_in n c) (sym e)
 
--- there is room for them where there is room in the table that is shown
+-- they don't exceed the limit if they don't in the table as it is read
 pub room-current : (n : ℕ) (c : Change) (r : RowsChange) (o : Option StoredTable)
     → IfSome o (λ t. DoesTheSame c t.schema r) → IfSome o (IsWellKept n)
     → IfSome o (λ t. (changed c (table_at n t)).used ≤ version_limit)

@@ -1,4 +1,4 @@
--- An id stands for one row for ever, and a row that is gone does not come back, whatever the changes were.
+-- An id belongs to one row for ever, and a row that is no longer visible doesn't return, whatever the changes were.
 use Rattle.std.proofs.Common.{◌≡◌, ℕ, ◌≤◌, List, [], length, min, true, cond, Option, Some, None}
 use Rattle.std.proofs.Common.{refl, ap, sym, ◌∙◌, arith, subst}
 use Rattle.std.specs.Prelude.{Contains, IfSome, option_map, unwrap_or}
@@ -16,9 +16,9 @@ use Rattle.book_core.proofs.Past.{row_when, shown_when, unique, when_shown}
 use Rattle.book_core.proofs.Reading.{rows_at-found, table_of-map}
 use Rattle.book_core.proofs.Shown.{rows_at-kept}
 
--- of numbered versions
+-- facts about numbered versions
 
--- the version whose row commit n shows
+-- the version whose row is visible as of commit n
 record IsShownOf (n : ℕ) (vs : List Version) (r : Row) (v : Version) : Type 0 where
   listed : In v vs
   shows_it : shows n v ≡ true
@@ -30,7 +30,7 @@ shown_version n vs r c =
     let (shows_it, has_row) = row_when n v r some in
     (v, record { listed = listed; shows_it = shows_it; has_row = has_row })
 
--- two versions whose rows have the same id are one
+-- two versions are equal if their rows have the same id
 one_version : (n m : ℕ) (vs : List Version) (r s : Row) (v w : Version)
     → IsNumbered 0 vs → IsShownOf n vs r v → IsShownOf m vs s w → r.id ≡ s.id → v ≡ w
 one_version n m vs r s v w numbered first second same =
@@ -62,14 +62,14 @@ lasts_shown n m k vs r numbered low high c d =
     in_filtered (row_shown m) vs v v.row first.listed (ap (λ b. cond b (Some v.row) None) now) in
     contains_from (shown m vs) r (subst (λ (row : Row). In row (shown m vs)) first.has_row here)
 
--- of histories
+-- facts about histories
 
--- the versions of a table's rows: what a commit shows of them is what it shows of the table
+-- the versions of a table's rows: the table's rows as of a commit are read from them
 record AreAllVersions (h : History) (name : List ℕ) (vs : List Version) : Type 0 where
   numbered : IsNumbered 0 vs
   rows : (n : ℕ) → rows_at h n name ≡ shown (min n (length h)) vs
 
--- a commit past the newest shows what the newest shows
+-- a commit after the newest reads the same as the newest
 rows-min : (h : History) (n : ℕ) (name : List ℕ) → rows_at h n name ≡ rows_at h (min n (length h)) name
 rows-min h n name = ap (λ h. rows_of (state_after h) name) (sym (take_min n h))
 

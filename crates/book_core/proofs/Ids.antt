@@ -1,4 +1,4 @@
--- The ids of versions and rows, and the times of versions.
+-- The ids of versions and rows, and the commits of versions.
 use Rattle.std.proofs.Common.{◌≡◌, ℕ, ◌+◌, ◌<◌, ◌≤◌, List, [], ◌∷◌, ◌++◌, length, map, Bool, true, false, ◌&&◌, ◌||◌, not, cond, Option, Some, None, refl, ap, sym, ◌∙◌, arith, suc, subst}
 use Rattle.std.specs.Prelude.{filter, count_by, is_none, IfSome, nat_eq, bytes_eq}
 use Rattle.std.specs.List.{cons_option, list_any, AllByRecursion}
@@ -49,7 +49,7 @@ numbered_rise used (d ∷ ds) =
           (numbered_rise (used + 1) ds),
     )
 
--- what is shown of numbered versions
+-- the visible rows of numbered versions
 shown_rise : (n k : ℕ) (vs : List Version) → IsNumbered k vs → RiseIn k (k + length vs) (shown n vs)
 shown_rise n k [] s = tt
 shown_rise n k (v ∷ vs) s =
@@ -148,7 +148,7 @@ none_counted g (r ∷ rs) h =
     count-cons (λ x. not (g x)) r rs ∙ ap (λ b. cond (not b) 1 0 + count_by (λ x. not (g x)) rs) h.0
     ∙ ap (λ k. 0 + k) (none_counted g rs h.1)
 
--- each row has its id among the rows
+-- each row's id is among the ids of the rows
 one_more : (r : Row) (ys rows : List Row) → AllByRecursion (λ (x : Row). has x.id ys ≡ true) rows
     → AllByRecursion (λ (x : Row). has x.id (r ∷ ys) ≡ true) rows
 one_more r ys [] h = tt
@@ -175,7 +175,7 @@ all_new lo hi used rows [] s k = tt
 all_new lo hi used rows (d ∷ ds) s k =
     (has-high lo hi (used + 1) rows s (omega arith), all_new lo hi (used + 1) rows ds s (omega arith))
 
--- how many ids a change adds to rows, and how many it takes
+-- how many ids a change adds to rows, and how many it removes
 pub ids_added : (q : Row → Bool) (used : ℕ) (rows : List Row) (ds : List Draft) → RiseIn 0 used rows
     → new_ids (filter (λ r. not (q r)) rows ++ numbered used ds) rows ≡ length ds
 ids_added q used rows ds s =

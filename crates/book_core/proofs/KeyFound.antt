@@ -25,7 +25,7 @@ use Rattle.book_core.proofs.KeyLaw.{breaks-changed, found-unbroken, rows_left, u
 use Rattle.book_core.proofs.Shown.{shown-current}
 use Rattle.book_core.proofs.Tables.{well_named}
 
--- the rows that the change leaves and makes of a table, by the rows that are there
+-- the test of the rows that the change keeps and adds, given a table's rows
 tested : Change → List Column → List Row → Bool
 tested c schema rows = break_key (key_of schema) (rows_left c schema rows ++ drafts_of c schema rows)
 
@@ -33,7 +33,7 @@ left-same : (p q : Row → Bool) → ((row : Row) → p row ≡ q row) → (rows
     → filter (λ row. not (p row)) rows ≡ filter (λ row. not (q row)) rows
 left-same p q same rows = filter_agree (λ row. not (p row)) (λ row. not (q row)) (λ row. ap not (same row)) rows
 
--- those of a change by places that does the same
+-- the test for a change by column indexes with the same effect
 after-bound : (c : Change) (r : RowsChange) (t : StoredTable) → DoesTheSame c t.schema r
     → overlap_after r (key_of t.schema) t.versions ≡ tested c t.schema (current t.versions)
 unfolding tested
@@ -43,7 +43,7 @@ after-bound c r t same =
     (left-same (by_place.removes r) (removes c t.schema) same.out rows)
     ∙ ap (λ l. break_key (key_of t.schema) (rows_left c t.schema rows ++ l)) (same.new rows)
 
--- what is tested shows whether the change leaves rows of one key that share an instant
+-- the test decides whether the change leaves overlapping rows with the same key
 overlap-found : (n : ℕ) (c : Change) (t : StoredTable) → IsOfRows c → IsWellKept n t → IsUnbroken t
     → tested c t.schema (current t.versions) ≡ leaves_overlap c (Some (table_at n t))
 unfolding tested
@@ -63,9 +63,9 @@ pub overlap-in : (n : ℕ) (c : Change) (r : RowsChange) (t : StoredTable) (o : 
 overlap-in n c r t o of same well none e =
     after-bound c r t same ∙ overlap-found n c t of well none ∙ ap (overlap_in n c) (sym e)
 
--- ---- what a book keeps
+-- ---- the tables of a book
 
--- its tables are those of the newest state, in which no two rows of one key share an instant
+-- they are the tables of the newest state, where no rows with the same key overlap
 unbroken-shown : (n : ℕ) (o : Option StoredTable)
     → IfSome (option_map (table_at n) o) (λ (t : Table). breaks_key t ≡ false) → IfSome o (IsWellKept n)
     → IfSome o IsUnbroken
@@ -84,7 +84,7 @@ unbroken-named h now ts name k v =
     unbroken-shown n (kept_table name ts) (rw (found_in n (state_after now) ts name (newest_of h now ts k v)) shown)
     (rw (sym v) (well_named h ts name k))
 
--- the test of keys of the table of that name is the one of the newest state
+-- the test of keys of the table with that name is the test of the newest state
 pub overlap-named : (h now : History) (ts : List StoredTable) (c : Change) (n : ℕ) → AreKept h ts → h ≡ now
     → n ≡ length h
     → overlap_in n c (kept_table (table_named c) ts) ≡ leaves_overlap c (table_of (state_after now) (table_named c))

@@ -1,4 +1,4 @@
--- No state of a legal history has rows of one key that share an instant.
+-- No state of a legal history has overlapping rows with the same key.
 use Rattle.std.proofs.Common.{◌≡◌, ℕ, ◌+◌, List, [], ◌∷◌, ◌++◌, map, take, zero, suc, Bool, true, false, not, cond, Option, Some, None, refl, ap, ◌∙◌, arith}
 use Rattle.std.specs.Prelude.{◌≢◌, All, IfSome, filter, fold, bytes_eq}
 use Rattle.std.specs.List.{AllByRecursion}
@@ -28,11 +28,11 @@ unnumbered-numbered : (used : ℕ) (ds : List Draft) → map unnumbered (numbere
 unnumbered-numbered used [] = refl
 unnumbered-numbered used (d ∷ ds) = ap (λ l. d ∷ l) (unnumbered-numbered (used + 1) ds)
 
--- the rows that the change leaves
+-- the rows that the change keeps
 abbrev pub rows_left : Change → List Column → List Row → List Draft
 rows_left c schema rows = map unnumbered (filter (λ row. not (removes c schema row)) rows)
 
--- a table breaks its key applied a change exactly where the rows do that are left and made
+-- a table breaks its key after a change if and only if the kept and added rows do
 pub breaks-changed : (c : Change) (t : Table)
     → breaks_key (changed c t) ≡ break_key (key_of t.schema)
     (rows_left c t.schema t.rows ++ drafts_of c t.schema t.rows)

@@ -77,7 +77,7 @@ log_of-push h c =
     ∙ ap (λ l. l ++ entry_at (h ++ c ∷ []) (0 + length h) c ∷ []) (entries_from-append h (c ∷ []) 0 h (omega arith))
     ∙ (let e : 0 + length h ≡ length h = omega arith in ap (λ m. log_of h ++ entry_at (h ++ c ∷ []) m c ∷ []) e)
 
--- the rows of the table of the change
+-- the rows of the change's table
 
 rows-at_table : (name : List ℕ) (c : Change) (s : State)
     → rows_of (at_table name (changed c) s) name ≡ unwrap_or (option_map (λ t. (changed c t).rows) (table_of s name)) []
@@ -93,7 +93,7 @@ rows-at_table name c (t ∷ ts) = by_test (rows-at_table name c ts) (bytes_eq t.
       ap (λ b. unwrap_or
       (option_map (λ (u : Table). u.rows) (cond b (Some t) (table_of (at_table name (changed c) ts) name))) []) e ∙ rest
 
--- how many ids a change of rows adds and takes, of the table that was found
+-- how many ids a change of rows adds to the table that was found, and how many it removes
 
 added_of : (n : ℕ) (c : Change) (o : Option StoredTable) → IfSome o (IsWellKept n)
     → new_ids (unwrap_or (option_map (λ t. (changed c t).rows) (option_map (table_at n) o)) [])
@@ -133,7 +133,7 @@ portion_closed n c name s ts e w =
     (unwrap_or (option_map (λ t. (changed c t).rows) o) [])) there
     ∙ closed_of n c (kept_table name ts) w
 
--- a table that was not there has no rows before and applied it is made
+-- a new table has no rows, before and after it is made
 
 table_absent : (n : ℕ) (s : State) (name : List ℕ) (schema : List Column) → first_refusal n s (Make name schema) ≡ None
     → is_none (table_of s name) ≡ true
@@ -206,7 +206,7 @@ entry_added n s ts (Delete name portion conds) e r w = (
       (Delete name portion conds) name s ts e w,
 )
 
--- the state applied one more commit
+-- the state after one more commit
 
 rows_at-new : (h : History) (c : Commit) (name : List ℕ)
     → rows_at (h ++ c ∷ []) (length h + 1) name ≡ rows_of (applied (state_after h) c.change) name
@@ -244,7 +244,7 @@ named_entry n by added took c kind table entry k t h =
     ∙ ap (λ w. record { number = n + 1; by = by; kind = w; table = table; added = added; closed = took }) k
     ∙ ap (λ w. record { number = n + 1; by = by; kind = change_kind c; table = w; added = added; closed = took }) t
 
--- an entry of those counts
+-- an entry with those counts
 pub entry_same : (n m by added took : ℕ) (c : Change) (ts : List StoredTable) (entry : Entry) → n ≡ m
     → added ≡ added_in n c (kept_table (table_named c) ts) → took ≡ closed_in n c (kept_table (table_named c) ts)
     → entry

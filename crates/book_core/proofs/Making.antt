@@ -34,7 +34,7 @@ use Rattle.book_core.proofs.KeyFound.{overlap-in}
 abbrev pub with_versions : StoredTable → List Version → StoredTable
 with_versions t versions = record t { versions = versions }
 
--- ---- a change of no rows
+-- ---- a change that affects no rows
 
 none-closed : (n : ℕ) (vs : List Version) → map (closed n (by_place.removes (rows.Load []))) vs ≡ vs
 none-closed n [] = refl
@@ -50,7 +50,7 @@ all-left : (now : List Row) → filter (λ row. not (by_place.removes (rows.Load
 all-left [] = refl
 all-left (row ∷ now) = ap (λ l. row ∷ l) (all-left now)
 
--- what it leaves of a table, if there is one
+-- it leaves the table, if there is one, unchanged
 record IsUntouched (n : ℕ) (c : Change) (o : Option StoredTable) : Type 0 where
   after : IfSome o (λ t. kept_table_after n c t ≡ t)
   added : 0 ≡ added_in n c o
@@ -74,7 +74,7 @@ untouched n c (Some t) of same well unbroken = record {
       ∙ unbroken;
 }
 
--- the tables with one that is left as it is
+-- the tables are unchanged if the table is
 kept-same : (name : List ℕ) (f : StoredTable → StoredTable) (ts : List StoredTable)
     → IfSome (kept_table name ts) (λ t. f t ≡ t) → at_kept name f ts ≡ ts
 kept-same name f [] = λ h. refl
@@ -111,7 +111,7 @@ made-absent n c ts counts of none none_added none_closed =
 
 -- ---- a change of a table's rows
 
--- the versions of the table are those after a change by places that does the same
+-- the table's versions after a change by column indexes with the same effect
 pub made-place : (n : ℕ) (c : Change) (r : RowsChange) (ts : List StoredTable) (at : ℕ) (t : StoredTable)
     (versions : List Version) (result : Result VersionCounts (Failure KeyOverlap)) → IsOfRows c
     → position (λ t. bytes_eq t.name (table_named c)) ts ≡ Some at → t ≡ get_or ts at t → IsWellKept n t → IsUnbroken t
@@ -161,13 +161,13 @@ made-new n name schema ts now counts e none_added none_closed = record {
     nothing-overlaps None = refl
     nothing-overlaps (Some t) = refl
 
--- what is said of a table, if there is one
+-- a fact about a table, if there is one
 pub of-some : (P Q : StoredTable → Type 0) (o : Option StoredTable) → ((t : StoredTable) → P t → Q t) → IfSome o P
     → IfSome o Q
 of-some P Q None f h = tt
 of-some P Q (Some t) f h = f t h
 
--- the room for a change of rows
+-- a change of rows doesn't exceed the limit
 pub room-rows : (n : ℕ) (c : Change) → IsOfRows c → (t : StoredTable) → HasRoomIn n c t
     → (changed c (table_at n t)).used ≤ version_limit
 room-rows n (Make table made) of t room = absurd of
@@ -177,7 +177,7 @@ room-rows n (Delete table portion conds) of t room = room
 
 -- ---- what a change is bound to in a book
 
--- of the table that is kept
+-- for the stored table
 pub kept-bound : (h now : History) (ts : List StoredTable) (c : Change) (bound : Option PortionChange) → AreKept h ts
     → h ≡ now
     → MatchOption (table_of (state_after now) (table_named c)) (bound ≡ None) (λ t. IsBound c t.schema bound)
@@ -209,13 +209,13 @@ portion-of (Update table p sets conds) (Some t) portion m = record { of = tt; sa
 portion-of (Delete table p conds) None portion m = record { of = tt; same = tt }
 portion-of (Delete table p conds) (Some t) portion m = record { of = tt; same = m }
 
--- one that isn't
+-- a change that isn't
 pub bound-none : (c : Change) (o : Option StoredTable) (bound : Option PortionChange) → bound ≡ None
     → MatchOption o (bound ≡ None) (λ t. IsBound c t.schema bound) → IfSome o (λ t. IsBound c t.schema None)
 bound-none c None bound e m = tt
 bound-none c (Some t) bound e m = subst (λ b. IsBound c t.schema b) e m
 
--- there is room for its parts
+-- its new rows don't exceed the limit
 pub room-portion : (n : ℕ) (c : Change) (ts : List StoredTable) (portion : PortionChange)
     → IsOfPortion c (kept_table (table_named c) ts) portion → IfSome (kept_table (table_named c) ts) (IsWellKept n)
     → HasRoom n c ts

@@ -1,4 +1,4 @@
--- The versions that are seen are those of the history.
+-- The versions that a query returns are the history's.
 use Rattle.std.proofs.Common.{◌≡◌, ℕ, ◌+◌, ◌<◌, ◌≤◌, List, [], ◌∷◌, length, map, Bool, true, false, ◌&&◌, cond, Option, Some, None, refl, ap, sym, ◌∙◌, arith, get_or, leb, ltb, suc, zero, subst, inl, inr}
 use Rattle.std.specs.Prelude.{IfSome, ◌⊎◌, Contains, MatchOption, AllPairs}
 use Rattle.std.specs.List.{filter_map, cons_option, AllByRecursion}
@@ -60,7 +60,7 @@ from_filtered {X} {Y} f (x ∷ xs) y h = split (f x) (filter_map f xs) refl h (f
   split (Some z) ys e (inl w) rest = (x, inl refl, e ∙ ap Some w)
   split (Some z) ys e (inr r) rest = let g = rest r in (g.0, inr g.1, g.2)
 
--- when a version is shown
+-- when a version is visible
 
 after_from : (to : Option ℕ) (n : ℕ) → is_behind to n ≡ true → IsAfter to n
 after_from None n h = tt
@@ -105,14 +105,14 @@ timely_in n [] u a h = absurd h
 timely_in n (v ∷ vs) u a (inl e) = subst (IsTimely n) e a.0
 timely_in n (v ∷ vs) u a (inr r) = timely_in n vs u a.1 r
 
--- a version is shown at its first commit
+-- a version is visible as of its first commit
 begins : (n : ℕ) (u : Version) → IsTimely n u → shows u.sysfrom u ≡ true
 begins n u t = when_shown u.sysfrom u (omega arith) (later u.systo t.ended) where
   later : (to : Option ℕ) → IfSome to (λ t. (u.sysfrom < t) × (t ≤ n)) → IsAfter to u.sysfrom
   later None k = tt
   later (Some t) k = k.0
 
--- of the history's rows
+-- facts about the history's rows
 
 module _ (h : History) (name : List ℕ) (t : StoredTable) (table : IsTableOf h name t) where
   has_id : (n : ℕ) (u : Version) → n ≤ length h → In u t.versions → shows n u ≡ true → HasId h name n u.row.id
@@ -143,7 +143,7 @@ module _ (h : History) (name : List ℕ) (t : StoredTable) (table : IsTableOf h 
   shown_open : (n : ℕ) (u : Version) → u.systo ≡ None → u.sysfrom ≤ n → shows n u ≡ true
   shown_open n u e b = when_shown n u b (subst (λ (o : Option ℕ). IsAfter o n) (sym e) tt)
 
-  -- how the version that is seen ends
+  -- the end of a returned version
   end_holds : (at : ℕ) (u : Version) → at ≤ length h → In u t.versions → (o : Option ℕ) → u.systo ≡ o
       → IfSome o (λ to. (u.sysfrom < to) × (to ≤ length h)) → MatchOption (end_at at o)
       ((n : ℕ) → u.sysfrom ≤ n → n ≤ at → HasId h name n u.row.id)
@@ -310,7 +310,7 @@ seen_above at m last k (v ∷ vs) s =
       lower a b [] h s = tt
       lower a b (v ∷ vs) h s = (let x = s.0 in omega (arith, x), lower a b vs h s.1)
 
--- what is seen of the table of that name is what is asked for
+-- the versions returned for the table with that name are the selected ones
 pub seen_are : (h : History) (name : List ℕ) (t : StoredTable) (at m last : ℕ) (Selected : Version → Type 0)
     (vs : List Version) → IsTableOf h name t → at ≤ length h
     → ((v : Version) → Selected v → (v.sysfrom ≤ last) × IsAfter v.systo m)
@@ -324,7 +324,7 @@ seen_are h name t at m last Selected vs table k to from e = rw e (record {
   );
 })
 
--- seen at one commit
+-- the versions as of one commit
 
 same_behind : (at n : ℕ) (to : Option ℕ) → n ≤ at → is_behind (end_at at to) n ≡ is_behind to n
 same_behind at n None k = refl

@@ -1,4 +1,4 @@
--- What a change of a portion makes of the versions.
+-- A change of a portion, and the versions.
 use Rattle.std.proofs.Common.{◌≡◌, ℕ, ◌+◌, List, ◌++◌, Bool, cond, length, Option, Some, None, ap, refl, sym, ◌∙◌, ◌||◌, ltb, leb}
 use Rattle.std.specs.Prelude.{flat_map}
 use Rattle.std.proofs.lemmas.Grind.{flat_map-append}
@@ -20,7 +20,7 @@ pub pairs-refused : (a b : List (Bool × BookRefused)) (e : BookRefused) → Som
     → Some e ≡ first_of (a ++ b)
 pairs-refused a b e h = sym (first_of-some_then a b e (sym h))
 
--- none is, and there is room or not
+-- no pair is refused, and the limit decides
 pub conds_then : (a : List (Bool × BookRefused)) (o : Option BookRefused) (n used : ℕ) (full : Bool) → o ≡ first_of a
     → o ≡ None → full ≡ (leb commit_limit n || ltb version_limit used)
     → cond full (Some Full) None ≡ first_of (a ++ full_tests n used)
@@ -35,7 +35,7 @@ sets-refused schema sets conds e h =
     sym (ap first_of (flat_map-append (pair_tests schema) sets conds)
     ∙ first_of-some_then (flat_map (pair_tests schema) sets) (flat_map (pair_tests schema) conds) e (sym h))
 
--- none is, and the conditions are tested
+-- no setting is refused, and the conditions are tested
 pub sets-then : (schema : List Column) (sets conds : List Pair) (o : Option BookRefused)
     → None ≡ first_of (flat_map (pair_tests schema) sets) → o ≡ first_of (flat_map (pair_tests schema) conds)
     → o ≡ first_of (flat_map (pair_tests schema) (sets ++ conds))
@@ -43,7 +43,7 @@ sets-then schema sets conds o h k =
     k ∙ sym (ap first_of (flat_map-append (pair_tests schema) sets conds)
     ∙ first_of-none_then (flat_map (pair_tests schema) sets) (flat_map (pair_tests schema) conds) (sym h))
 
--- where none is, it turns on the room for its parts
+-- if no test applies, the number of new rows decides
 pub parts-then : (tests : List (Bool × BookRefused)) (n used : ℕ) (now parts : List Draft) (full b : Bool)
     → None ≡ first_of tests → now ≡ parts
     → full ≡ (leb commit_limit n || ltb version_limit (used + length now)) → full ≡ b

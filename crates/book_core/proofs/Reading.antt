@@ -9,7 +9,7 @@ use Rattle.book_core.specs.History.{History, state_after, rows_at}
 use Rattle.book_core.specs.StoredTables.{kept_table, StoredTable, table_at, kept_tables_from, AreKept}
 use Rattle.book_core.proofs.Shown.{rows_at-kept, newest-kept}
 
--- a look-up in what commit n shows
+-- a lookup of a table as of commit n
 pub table_of-map : (n : ℕ) (ts : List StoredTable) (name : List ℕ)
     → table_of (map (table_at n) ts) name ≡ option_map (table_at n) (kept_table name ts)
 table_of-map n [] name = refl
@@ -18,7 +18,7 @@ table_of-map n (t ∷ ts) name =
     (λ b. cond b (Some (table_at n t)) (table_of (map (table_at n) ts) name) ≡ option_map (table_at n)
     (cond b (Some t) (kept_table name ts))) [ true ↦ refl | false ↦ table_of-map n ts name ]
 
--- a look-up in the newest state
+-- a lookup in the newest state
 pub table_of-newest : (h : History) (ts : List StoredTable) (name : List ℕ) (o : Option StoredTable)
     → ts ≡ kept_tables_from 0 [] h → o ≡ kept_table name ts
     → table_of (state_after h) name ≡ option_map (table_at (length h)) o
@@ -26,7 +26,7 @@ table_of-newest h ts name o e f =
     ap (λ s. table_of s name) (sym (newest-kept h)) ∙ ap (λ l. table_of (map (table_at (length h)) l) name) (sym e)
     ∙ table_of-map (length h) ts name ∙ ap (option_map (table_at (length h))) (sym f)
 
--- the rows that commit n shows of the table of that name
+-- the rows as of commit n of the table with that name
 pub rows_at-found : (h : History) (ts : List StoredTable) (name : List ℕ) (n : ℕ) (t : StoredTable)
     → ts ≡ kept_tables_from 0 [] h → n ≤ length h → Some t ≡ kept_table name ts → shown n t.versions ≡ rows_at h n name
 rows_at-found h ts name n t e k f =
@@ -40,7 +40,7 @@ pub rows_at-append : (h more : History) (n : ℕ) (name : List ℕ) → n ≤ le
     → rows_at (h ++ more) n name ≡ rows_at h n name
 rows_at-append h more n name k = ap (λ l. rows_of (state_after l) name) (take-append-le n h more k)
 
--- where none is found there is none
+-- if no table is found, none exists
 pub table_of-absent : (h now : History) (ts asked : List StoredTable) (name : List ℕ) (o : Option (Bor StoredTable))
     → AreKept h ts → h ≡ now → asked ≡ ts → option_copied o ≡ kept_table name asked
     → IfNone o (table_of (state_after now) name ≡ None)

@@ -1,4 +1,4 @@
--- What the tests of a change come to.
+-- The results of a change's tests.
 use Rattle.std.proofs.Common.{◌≡◌, ℕ, ◌+◌, ◌<◌, ◌≤◌, List, [], ◌∷◌, length, true, false, ◌||◌, not, Option, Some, None, ap, sym, ◌∙◌, ltb, leb}
 use Rattle.std.specs.Prelude.{IfNone, is_none, is_some}
 use Rattle.std.specs.List.{list_all}
@@ -72,7 +72,7 @@ make_taken n s name schema h k f =
     ∙ ap (λ b. first_of ((b, TooMany) ∷ (leb commit_limit n, Full) ∷ [])) (lt-leb table_limit (length s) k)
     ∙ ap (λ b. first_of ((b, Full) ∷ [])) (lt-leb commit_limit n f))
 
--- a book keeps as many tables as the newest state has
+-- a book has as many tables as the newest state
 pub length-state : (h now : History) (ts : List StoredTable) → AreKept h ts → h ≡ now
     → length (state_after now) ≡ length ts
 length-state h now ts kept v = ap length (newest_of h now ts kept v) ∙ length-map ts (table_at (length now))

@@ -1,4 +1,4 @@
--- The rows of every state are by rising id, whatever the changes were.
+-- The rows of every state are ordered by rising id, whatever the changes were.
 use Rattle.std.proofs.Common.{ℕ, ◌+◌, ◌≤◌, List, [], ◌∷◌, ◌++◌, length, take, true, false, not, cond, Some, arith}
 use Rattle.std.specs.Prelude.{filter, fold, option_map, unwrap_or, bytes_eq}
 use Rattle.std.specs.List.{AllByRecursion}
@@ -20,7 +20,7 @@ RiseIn-append lo mid hi (r ∷ rs) ys low high first second =
     let within : r.id ≤ mid = first.1 in
     (first.0, omega (arith, within, high), RiseIn-append r.id mid hi rs ys within high first.2 second)
 
--- a table's rows are by rising id, up to the number of the ids that it has used
+-- a table's rows are ordered by rising id, up to the number of ids that it has used
 abbrev Rises : Table → Type 0
 Rises t = RiseIn 0 t.used t.rows
 

@@ -1,4 +1,4 @@
--- What the kept versions show is what the states of the history have.
+-- The stored versions, read as of a commit, have the rows of the history's states.
 use Rattle.std.proofs.Common.{◌≡◌, ℕ, ◌+◌, ◌<◌, ◌≤◌, List, [], ◌∷◌, ◌++◌, Bool, true, false, ◌&&◌, cond, Option, Some, None, length, map, take, zero, suc, refl, ap, sym, ◌∙◌, arith, length-append, leb, not, add-zero}
 use Rattle.std.specs.Prelude.{filter, fold, unwrap_or, option_map, is_none, IfSome, bytes_eq}
 use Rattle.std.specs.List.{cons_option, AllByRecursion}
@@ -23,7 +23,7 @@ use Rattle.book_core.specs.History.{History, state_after}
 
 -- lists
 
--- only what passes
+-- an element if it passes
 keep : {X : Type 0} → (X → Bool) → Option X → Option X
 keep p None = None
 keep p (Some x) = cond (p x) (Some x) None
@@ -42,11 +42,11 @@ filter-cons_option p (Some x) xs =
 
 -- versions
 
--- the version's times are not past n
+-- the version's commits aren't after n
 InTime : ℕ → Version → Type 0
 InTime n v = (v.sysfrom ≤ n) × IfSome v.systo (λ to. to ≤ n)
 
--- closing at a later commit does not change what commit n shows
+-- closing at a later commit does not change the version as of commit n
 stays : (n m from : ℕ) (row : Row) (to : Option ℕ) (b : Bool) → n ≤ m
     → row_shown n
     (cond (is_none to && b) (record { row = row; sysfrom = from; systo = Some (m + 1) })
@@ -79,7 +79,7 @@ shown-made n (r ∷ rs) =
     ap (λ b. cons_option (cond (b && true) (Some r) None) (shown n (made n rs))) (le-leb n n (omega arith))
     ∙ ap (λ l. r ∷ l) (shown-made n rs)
 
--- a later commit leaves what commit n shows of a table
+-- a later commit does not change the rows of a table as of commit n
 shown-kept_table_after_later : (n m : ℕ) (c : Change) (t : StoredTable) → n ≤ m
     → shown n (kept_table_after m c t).versions ≡ shown n t.versions
 shown-kept_table_after_later n m c t h =
@@ -89,7 +89,7 @@ shown-kept_table_after_later n m c t h =
     ∙ append-nil _
     ∙ shown-closed_later n m (removes c t.schema) t.versions h
 
--- nothing, where the second test fails
+-- nothing, if the second test fails
 none_shown : (a : Bool) (row : Row) → cond (a && false) (Some row) None ≡ None
 none_shown true row = refl
 none_shown false row = refl
@@ -102,7 +102,7 @@ kept_none : (b : Bool) → cond {A = Option Row} b None None ≡ None
 kept_none true = refl
 kept_none false = refl
 
--- the commit applied n shows the row that n shows, unless it goes
+-- the row visible as of commit n is visible as of the next, unless it is removed
 goes_on : (n from : ℕ) (row : Row) (to : Option ℕ) (b : Bool) → from ≤ n → IfSome to (λ t. t ≤ n) →
     row_shown (n + 1)
     (cond (is_none to && b) (record { row = row; sysfrom = from; systo = Some (n + 1) })
@@ -139,7 +139,7 @@ shown-closed_next n goes (v ∷ vs) h =
     ∙ ap (cons_option (keep (λ r. not (goes r)) (row_shown n v))) (shown-closed_next n goes vs h.1)
     ∙ sym (filter-cons_option (λ r. not (goes r)) (row_shown n v) (shown n vs))
 
--- where nothing changes, the next commit shows what n shows
+-- if nothing changes, the row visible as of commit n is visible as of the next
 same_shown : (n from : ℕ) (row : Row) (to : Option ℕ) → from ≤ n → IfSome to (λ t. t ≤ n)
     → row_shown (n + 1) (record { row = row; sysfrom = from; systo = to }) ≡ row_shown n
     (record { row = row; sysfrom = from; systo = to })
@@ -147,7 +147,7 @@ same_shown n from row None h k =
     ap (λ b. cond (b && true) (Some row) None) (le-leb from (n + 1) (omega arith) ∙ sym (le-leb from n h))
 same_shown n from row (Some t) h k = past_none (n + 1) from t row (omega (arith, k)) ∙ sym (past_none n from t row k)
 
--- where nothing changes, the next commit shows the same
+-- if nothing changes, the rows as of the next commit are the same
 shown-next : (n : ℕ) (vs : List Version) → AllByRecursion (InTime n) vs → shown (n + 1) vs ≡ shown n vs
 unfolding InTime
 shown-next n [] h = refl
@@ -228,7 +228,7 @@ tables_at-at_kept n c name (t ∷ ts) h =
           ∙ ap (λ l. table_at n t ∷ l) (tables_at-at_kept n c name ts h.1)
     ]
 
--- one more commit: the newest state
+-- one commit more: the newest state
 tables_at-kept_tables_after : (n : ℕ) (c : Change) (ts : List StoredTable) → AllInTime n ts
     → map (table_at (n + 1)) (kept_tables_after n ts c) ≡ applied (map (table_at n) ts) c
 tables_at-kept_tables_after n (Make table schema) ts h =
@@ -240,7 +240,7 @@ tables_at-kept_tables_after n (Update table portion sets conds) ts h =
 tables_at-kept_tables_after n (Delete table portion conds) ts h =
     tables_at-at_kept n (Delete table portion conds) table ts h
 
--- times stay in time
+-- versions keep their commits in time
 
 InTime-next : (n : ℕ) (v : Version) → InTime n v → InTime (n + 1) v
 unfolding InTime
@@ -304,7 +304,7 @@ kept_tables_after_in_time n (Update table portion sets conds) ts h =
 kept_tables_after_in_time n (Delete table portion conds) ts h =
     at_kept_in_time n (Delete table portion conds) table ts h
 
--- the past: what commit n shows is not changed by a later commit
+-- the past: a later commit doesn't change the rows as of commit n
 
 rows_at-at_kept_later : (n m : ℕ) (c : Change) (name asked : List ℕ) (ts : List StoredTable) → n ≤ m
     → rows_of (map (table_at n) (at_kept name (kept_table_after m c) ts)) asked ≡ rows_of (map (table_at n) ts) asked
@@ -377,7 +377,7 @@ rows_at-kept_tables_from_later n m asked ts (c ∷ cs) h =
 
 -- whole histories
 
--- the tables applied n commits show that state
+-- the tables after n commits have the rows of that state
 pub record Ties (n : ℕ) (s : State) (ts : List StoredTable) : Type 0 where
   pub newest : map (table_at n) ts ≡ s
   pub in_time : AllInTime n ts
@@ -407,7 +407,7 @@ past-from n (suc k) s ts (c ∷ cs) asked t h =
     rw e (past-from (n + 1) k (applied s c.change) (kept_tables_after n ts c.change) cs asked
     (Ties-after n s ts c.change t) (omega arith))
 
--- what commit n shows of a book's tables is what the state applied n changes has
+-- a book's tables as of commit n have the rows of the state after n changes
 pub rows_at-kept : (h : History) (n : ℕ) (asked : List ℕ) → n ≤ length h
     → rows_of (map (table_at n) (kept_tables_from 0 [] h)) asked ≡ rows_of (state_after (take n h)) asked
 unfolding AllInTime
@@ -421,14 +421,14 @@ newest-from n s ts (c ∷ cs) t =
     let e : n + suc (length cs) ≡ n + 1 + length cs = omega arith in
     rw e (newest-from (n + 1) (applied s c.change) (kept_tables_after n ts c.change) cs (Ties-after n s ts c.change t))
 
--- what the newest commit shows of a book's tables is the newest state
+-- a book's tables as of the newest commit are the newest state
 pub newest-kept : (h : History) → map (table_at (length h)) (kept_tables_from 0 [] h) ≡ state_after h
 unfolding AllInTime
 newest-kept h =
     let e : 0 + length h ≡ length h =
     omega arith in rw e at (newest-from 0 [] [] h (record { newest = refl; in_time = tt }))
 
--- open versions are those that the newest commit shows
+-- the open versions are the ones visible as of the newest commit
 
 shown_when_open : (n : ℕ) (row : Row) (from : ℕ) (to : Option ℕ) (rows : List Row) (opened : List Version) → from ≤ n
     → IfSome to (λ t. (from < t) × (t ≤ n)) → rows ≡ map (λ (v : Version). v.row) opened

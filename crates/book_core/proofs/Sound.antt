@@ -1,4 +1,4 @@
--- Rows fit their table's columns and are at most a million, since each change was accepted.
+-- Rows fit their table's columns, and there are at most a million, since each change was accepted.
 use Rattle.std.proofs.Common.{◌≡◌, ℕ, ◌+◌, ◌≤◌, List, [], ◌∷◌, ◌++◌, length, map, Bool, true, false, ◌&&◌, ◌||◌, not, cond, Option, Some, None, refl, ap, ◌∙◌, arith, zero, suc, take, get_or, leb, ltb}
 use Rattle.std.specs.Prelude.{All, IfSome, IsTrue, filter, flat_map, fold, is_none, option_map, option_and_then, slice_get, slice_set, unwrap_or, bytes_eq}
 use Rattle.std.specs.List.{AllByRecursion, cons_option, list_all}
@@ -39,7 +39,7 @@ use Rattle.book_core.proofs.Applying.{few, first_of-none, last_of}
 use Rattle.book_core.proofs.Ids.{RiseIn, RiseIn-filter, shown_rise_all}
 use Rattle.book_core.proofs.Shown.{Ties, Ties-after, Ties-none, length-kept_table_after}
 
--- a list's values fit the columns
+-- the rows of a list fit the columns
 abbrev FitRows : List Column → List Row → Type 0
 FitRows columns rows = AllByRecursion (λ (row : Row). fits columns row.values ≡ true) rows
 
@@ -49,7 +49,7 @@ FitVersions columns vs = AllByRecursion (λ (v : Version). fits columns v.row.va
 abbrev FitDrafts : List Column → List Draft → Type 0
 FitDrafts columns ds = AllByRecursion (λ (d : Draft). fits columns d.values ≡ true) ds
 
--- a value of its column's kind keeps the fit
+-- a value of its column's kind still fits
 fits-set : (columns : List Column) (values : List Value) (i : ℕ) (column : Column) (value : Value)
     → fits columns values ≡ true → slice_get columns i ≡ Some column → same_kind column.kind (kind_of value) ≡ true
     → fits columns (slice_set values i value) ≡ true
@@ -91,7 +91,7 @@ fits-sets columns values [] h k = h
 fits-sets columns values (pair ∷ sets) h k =
     fits-sets columns (set_at columns values pair) sets (fits-set_at columns values pair h k.0) k.1
 
--- what passed the tests
+-- facts from the tests
 
 pairs-of_kind : (columns : List Column) (pairs : List Pair)
     → AllByRecursion (λ (t : Bool × BookRefused). t.0 ≡ false) (flat_map (pair_tests columns) pairs)
@@ -169,7 +169,7 @@ drafts-fit n (Delete name portion conds) t h k =
     (later row.period portion) row.values row.values fit fit)
     k
 
--- a table applied a change
+-- a table after a change
 
 made-fits : (n used : ℕ) (columns : List Column) (ds : List Draft) → FitDrafts columns ds
     → FitVersions columns (made n (numbered used ds))
@@ -239,7 +239,7 @@ sound_after n (Delete name portion conds) ts h s = sound_at_kept n (Delete name 
 
 -- whole histories
 
--- each change that follows is accepted
+-- each later change is accepted
 unfoldable pub LegalFrom : ℕ → State → History → Type 0
 LegalFrom n s [] = Unit {0}
 LegalFrom n s (c ∷ cs) = (refusal_of n s c.change ≡ None) × LegalFrom (n + 1) (applied s c.change) cs
@@ -285,7 +285,7 @@ few_commits (c ∷ cs) legal =
           (first-none (length cs) (state_after (take (length cs) (c ∷ cs))) last.change accepted),
     )
 
--- what is shown of a sound table
+-- the rows of a sound table
 
 pub found_sound : (name : List ℕ) (ts : List StoredTable) → AllByRecursion IsSound ts
     → IfSome (kept_table name ts) IsSound
@@ -311,7 +311,7 @@ rising-rows lo hi (r ∷ s ∷ rows) h zero d lt = h.2.0
 rising-rows lo hi (r ∷ s ∷ rows) h (suc k) d lt =
     let e : suc k + 1 ≡ suc (k + 1) = omega arith in rw e (rising-rows r.id hi (s ∷ rows) h.2 k d (omega arith))
 
--- of the rows that a commit shows: at most a million, by rising ids, and they fit the columns
+-- the rows as of a commit: at most a million, by rising id, and they fit the columns
 pub rows-few : (h : History) (name : List ℕ) (t : StoredTable) (n : ℕ) (rows : List Row) → IsTableOf h name t
     → rows ≡ shown n t.versions → length rows ≤ version_limit
 rows-few h name t n rows table e = omega (arith, ap length e, few_shown n t.versions, table.sound.few)
@@ -330,7 +330,7 @@ rows-fit h name t n rows table e =
     (All-from_recursion (λ (row : Row). fits t.schema row.values ≡ true) (shown n t.versions)
     (shown-fits n t.schema t.versions table.sound.fit))
 
--- of the rows that a commit shows and that pass a test: the same
+-- the same of the rows that also pass a test
 pub held-few : (h : History) (name : List ℕ) (t : StoredTable) (n : ℕ) (test : Row → Bool) (rows : List Row)
     → IsTableOf h name t → rows ≡ filter test (shown n t.versions) → length rows ≤ version_limit
 held-few h name t n test rows table e =

@@ -1,4 +1,4 @@
--- What proofs by hand cite, step by step.
+-- Names for proofs that are written step by step.
 pub use Rattle.std.proofs.Common.{[], ◌∷◌, ◌++◌, refl}
 pub use Rattle.std.proofs.raw_atomic.Walks.{proved}
 pub use mir.Syntax.{named}

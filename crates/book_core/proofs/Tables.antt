@@ -8,7 +8,7 @@ use Rattle.book_core.proofs.Reading.{table_of-newest, rows_at-found}
 use Rattle.book_core.proofs.Ids.{found_well, all_well_kept}
 use Rattle.book_core.proofs.Sound.{all_sound, found_sound}
 
--- the table that was found is the one of that name
+-- the table that was found is the one with that name
 pub IsTableOf-found : (h now : History) (ts asked : List StoredTable) (name : List ℕ) (o : Option (Bor StoredTable))
     → AreKept h ts → h ≡ now → asked ≡ ts → option_copied o ≡ kept_table name asked
     → IfSome o (λ t. IsTableOf now name t.now)
@@ -25,7 +25,7 @@ IsTableOf-found h now ts asked name (Some t) k v e f =
           rw (← f) at here;
     }
 
--- the table of a name is well kept
+-- the table with a name is well kept
 pub well_named : (h : History) (ts : List StoredTable) (name : List ℕ) → AreKept h ts
     → IfSome (kept_table name ts) (IsWellKept (length h))
 well_named h ts name k = rw k.tables (found_well (length h) name (kept_tables_from 0 [] h) (all_well_kept h))

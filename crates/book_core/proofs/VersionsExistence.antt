@@ -1,4 +1,4 @@
--- Where the versions of a table may be read, there are some.
+-- If the versions of a table may be read, they exist.
 use Rattle.std.proofs.Common.{◌≡◌, ℕ, ◌-◌, ◌<◌, ◌≤◌, List, [], ◌∷◌, length, Bool, false, Option, Some, None, refl, sym, ap, arith, subst}
 use Rattle.std.specs.Prelude.{IfSome, is_none, nat_le, nat_lt}
 use Rattle.std.proofs.lemmas.Bool.{both_ways, leb-false, ltb-false}
@@ -15,7 +15,7 @@ use Rattle.book_core.proofs.Past.{seen_are}
 use Rattle.book_core.proofs.Reading.{rows_at-found, table_of-newest}
 use Rattle.book_core.proofs.Sound.{all_sound, found_sound}
 
--- the table of a name that a legal history has
+-- the table with a name, in a legal history
 some_table : (h : History) (name : List ℕ) → IsLegal h → is_none (table_of (state_after h) name) ≡ false
     → (t : StoredTable) × IsTableOf h name t
 some_table h name legal there = by_kept (kept_table name (kept_tables_from 0 [] h)) refl where
@@ -35,7 +35,7 @@ some_table h name legal there = by_kept (kept_table name (kept_tables_from 0 [] 
     },
   )
 
--- what is known where versions may be read
+-- the premises under which versions may be read
 record MayRead (h : History) (at : ℕ) (is_bad : Bool) (name : List ℕ) : Type 0 where
   within : at ≤ length h
   right : is_bad ≡ false

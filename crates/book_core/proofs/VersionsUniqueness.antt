@@ -1,4 +1,4 @@
--- One list is that of all versions that are selected, by rising id.
+-- The list of all selected versions, by rising id, is unique.
 use Rattle.std.proofs.Common.{◌≡◌, ℕ, ◌<◌, List, arith}
 use Rattle.list_core.proofs.RisingLemmas.{IsListOf-unique}
 use Rattle.version_core.specs.declared.version.Version.{Version}

@@ -1,4 +1,4 @@
--- Histories: what was accepted, oldest first, and what it shows.
+-- Histories: the accepted changes, oldest first, and what can be read from them.
 use Rattle.std.specs.Prelude.{◌≡◌, ℕ, List, [], ◌∷◌, length, fold, take, Bool, Option, Some, None, is_none, option_map, slice_get, nat_lt, Result}
 use Rattle.row_core.specs.Refusals.{first_of, refused_or}
 use Rattle.row_core.specs.declared.row.Row.{Row}
@@ -14,15 +14,15 @@ use Rattle.book_core.specs.declared.refusal.VersionsRefused.TheVariants as no_ve
 abbrev pub History : Type 0
 History = List Commit
 
--- the state applied all changes of a history
+-- the state after all changes of a history
 abbrev pub state_after : History → State
 state_after h = fold (λ s c. applied s c.change) [] h
 
--- each change was accepted in its place
+-- each change was accepted in the state before it
 abbrev pub IsLegal : History → Type 0
 IsLegal h = (n : ℕ) (c : Commit) → slice_get h n ≡ Some c → refusal_of n (state_after (take n h)) c.change ≡ None
 
--- the rows of a table in the state applied the first n changes
+-- the rows of a table in the state after the first n changes
 abbrev pub rows_at : History → ℕ → List ℕ → List Row
 rows_at h n name = rows_of (state_after (take n h)) name
 
@@ -30,13 +30,13 @@ rows_at h n name = rows_of (state_after (take n h)) name
 abbrev pub schema_in : History → List ℕ → Option (List Column)
 schema_in h name = option_map (λ t. t.schema) (table_of (state_after h) name)
 
--- the rows of a table that commit n shows, or why they are not given
+-- the rows of a table as of commit n, or the reason to refuse the query
 abbrev pub rows_given : History → ℕ → List ℕ → Result (List Row) RowsRefused
 rows_given h n name =
     refused_or (first_of ((nat_lt (length h) n, Future) ∷ (is_none (table_of (state_after h) name), NoTable) ∷ []))
     (rows_at h n name)
 
--- why versions are not given, if they are not
+-- the reason to refuse a query of versions, if there is one
 abbrev pub between_refusal : History → ℕ → Bool → List ℕ → Option VersionsRefused
 between_refusal h at is_bad name =
     first_of ((nat_lt (length h) at, no_versions.Future) ∷ (is_bad, no_versions.BadPeriod) ∷

@@ -1,4 +1,4 @@
--- Versions and the log, read from a history alone.
+-- Versions and the log, defined by a history only.
 use Rattle.std.specs.Prelude.{ℕ, ◌+◌, ◌≤◌, ◌<◌, List, [], ◌∷◌, map, Option, MatchOption, Contains, count_by, not, nat_eq}
 use Rattle.std.specs.List.{list_any}
 use Rattle.list_core.specs.Wanted.{IsListOf}
@@ -13,12 +13,12 @@ use Rattle.book_core.specs.declared.log.ChangeKind.{ChangeKind}
 use Rattle.book_core.specs.declared.log.ChangeKind.TheVariants as kind
 use Rattle.book_core.specs.declared.log.Entry.{Entry}
 
--- commit n shows a row of the table with the id
+-- a row of the table as of commit n has the id
 abbrev pub HasId : History → List ℕ → ℕ → ℕ → Type 0
 HasId h name n id = Contains (map (λ row. row.id) (rows_at h n name)) id
 
--- the version of the first `at` commits: its first commit is the least that has its id, its end the
--- least later one that lacks it, and open where there is none
+-- the version as of commit `at`: it starts at the least commit with its id, and ends at the least later commit without
+-- the id, or is open if there is no such commit
 pub record IsVersion (h : History) (at : ℕ) (name : List ℕ) (v : Version) : Type 0 where
   pub within : v.sysfrom ≤ at
   pub row : Contains (rows_at h v.sysfrom name) v.row
@@ -32,19 +32,19 @@ pub record IsVersion (h : History) (at : ℕ) (name : List ℕ) (v : Version) : 
 abbrev pub IsAfter : Option ℕ → ℕ → Type 0
 IsAfter systo m = MatchOption systo (Unit {0}) (λ to. m < to)
 
--- the versions of the first `at` commits that are selected, each once, by rising id
+-- the selected versions as of commit `at`, each once, by rising id
 abbrev pub AreVersions : History → ℕ → List ℕ → (Version → Type 0) → List Version → Type 0
 AreVersions h at name Selected vs = IsListOf (λ v w. v.row.id < w.row.id) (λ v. IsVersion h at name v × Selected v) vs
 
--- those that some commit from m to n shows
+-- the versions visible as of some commit from m to n
 abbrev pub AreBetween : History → ℕ → ℕ → ℕ → List ℕ → List Version → Type 0
 AreBetween h at m n name vs = AreVersions h at name (λ v. (v.sysfrom ≤ n) × IsAfter v.systo m) vs
 
--- those that some commit from m on and before n shows
+-- the versions visible as of some commit from m on and before n
 abbrev pub AreFromTo : History → ℕ → ℕ → ℕ → List ℕ → List Version → Type 0
 AreFromTo h at m n name vs = AreVersions h at name (λ v. (v.sysfrom < n) × IsAfter v.systo m) vs
 
--- how many of the ids of xs are not among those of ys
+-- how many rows of xs have an id that no row of ys has
 abbrev pub new_ids : List Row → List Row → ℕ
 new_ids xs ys = count_by (λ x. not (list_any (λ y. nat_eq y.id x.id) ys)) xs
 
@@ -55,7 +55,7 @@ change_kind (Load table rows) = kind.Load
 change_kind (Update table portion sets conds) = kind.Update
 change_kind (Delete table portion conds) = kind.Delete
 
--- what the log has of commit n + 1: whose it is, and how many versions it made and closed
+-- the log's entry of commit n + 1: its caller, and the numbers of versions that it added and closed
 abbrev pub entry_at : History → ℕ → Commit → Entry
 entry_at h n c = let table = table_named c.change in record {
   number = n + 1;

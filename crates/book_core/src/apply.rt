@@ -1,4 +1,4 @@
-//! Tests a change of a table, and makes it.
+//! Testing a change of a table, and making it.
 
 ghost use Rattle.std.specs.Arc.{arc_value};
 ghost use Rattle.std.specs.Option.{option_copied};
@@ -39,7 +39,7 @@ use version_core::{
 /// The most commits of a book.
 pub(crate) const COMMIT_LIMIT: usize = 1_000_000;
 
-/// What refuses a load, after the first commits.
+/// Returns the reason to refuse a load after `commits` commits, if there is one.
 pub(crate) fn load_refusal(table: &Table, commits: usize, rows: &Drafts) -> Option<BookRefused>
     ensures { (name : List ℕ) → result
         ≡ first_of (tests_of commits (Load name rows.now) (table_at commits table.now)) }
@@ -53,8 +53,8 @@ pub(crate) fn load_refusal(table: &Table, commits: usize, rows: &Drafts) -> Opti
     }
 }
 
-/// A change of a portion with these settings, if it has some, and conditions, after the first commits: what
-/// refuses it, or what it is bound to.
+/// Binds a change of a portion, made after `commits` commits, to the table's columns. It has settings `sets` if it is
+/// an update. Returns `None` if its conditions contradict each other; the error is the reason to refuse the change.
 pub(crate) fn bind_portion<'a>(
     table: &Table,
     commits: usize,
@@ -77,7 +77,7 @@ pub(crate) fn bind_portion<'a>(
     }
 }
 
-/// The pairs of a change of a portion: what refuses them, or what it is bound to.
+/// Binds the settings and conditions of a change of a portion, or returns the reason to refuse them.
 fn bind_pairs<'a>(
     schema: &Schema,
     portion: Period,
@@ -103,8 +103,8 @@ fn bind_pairs<'a>(
     }
 }
 
-/// Whether the parts of a change leave no room. They are counted only where that turns on them:
-/// not in a table without room, nor in one with room for all that there can be.
+/// Returns whether the rows that replace removed ones exceed the limit on versions. They are counted only if needed:
+/// not if the limit is reached already, nor if it can't be reached.
 fn is_full_by_parts(versions: &Versions, commits: usize, change: &Option<PortionChange<'_>>) -> bool
     requires { AllByRecursion (IsTimely commits) versions.now }
     ensures { result ≡ (nat_le commit_limit commits || nat_lt version_limit (length versions.now
@@ -126,16 +126,16 @@ fn is_full_by_parts(versions: &Versions, commits: usize, change: &Option<Portion
     }
 }
 
-/// No commit may follow, or the versions would be too many.
+/// Returns whether no commit may follow, or the table would have too many versions.
 fn is_full(commits: usize, versions: usize, more: usize) -> bool
     ensures { result ≡ (nat_le commit_limit commits || nat_lt version_limit (versions + more)) }
 {
     commits >= COMMIT_LIMIT || versions > VERSION_LIMIT || more > VERSION_LIMIT - versions
 }
 
-/// Makes the tables after one more commit of a change that isn't bound to one of a portion, and answers how
-/// many versions it made and closed. Only the test of keys and want of memory are left to refuse it. An update
-/// or a delete that is bound to nothing has conditions that contradict each other, which no row meets.
+/// Makes the tables after a change that isn't bound to a portion, and returns how many versions it added and closed.
+/// The change has been tested, so only the test of keys and memory can still refuse it. An update or a delete gets here
+/// only if its conditions contradict each other, so that it affects no row.
 pub(crate) fn change_tables(
     alloc: Global,
     tables: &mut Vec<Table>,
@@ -162,7 +162,7 @@ pub(crate) fn change_tables(
     }
 }
 
-/// Of a change that touches no row.
+/// Returns the counts of a change that affects no row.
 fn no_versions() -> VersionCounts
     ensures added { result.added ≡ 0 }
     ensures closed { result.closed ≡ 0 }
@@ -195,7 +195,7 @@ fn add_table(
     Ok(no_versions())
 }
 
-/// Changes the rows of the table of that name.
+/// Changes the rows of the table with that name.
 pub(crate) fn change_table(
     alloc: Global,
     tables: &mut Vec<Table>,
@@ -223,7 +223,7 @@ pub(crate) fn change_table(
     change_versions(alloc, &mut table.versions, key, commit, change)
 }
 
-/// The number of the commit that follows so many.
+/// Returns the number of the commit after `commits` commits.
 fn next_commit(commits: u64) -> CommitNumber
     requires { commits < commit_limit }
     ensures { result ≡ commits + 1 }
@@ -234,8 +234,8 @@ fn next_commit(commits: u64) -> CommitNumber
     }
 }
 
-/// Changes the versions of a table by that commit. Where others share them, a copy is changed, and
-/// takes their place here.
+/// Changes the versions of a table by that commit. If other books share the versions, a copy is changed and replaces
+/// them here.
 fn change_versions(
     alloc: Global,
     shared: &mut Arc<Versions>,

@@ -1,5 +1,5 @@
-//! A change by names, bound to the places of a table's columns: each name is looked up once, and what refuses
-//! the change falls out.
+//! Binding the names in a change to the table's columns. Each name is looked up once, and this also finds the reasons
+//! to refuse the change.
 
 ghost use Rattle.std.specs.Prelude.{◌≡◌, ◌<◌, ◌&&◌, List, [], None, Option, Some, false, flat_map, fold, length, option_map, slice_get, unwrap_or, IfOk};
 ghost use Rattle.std.specs.List.{list_all};
@@ -20,7 +20,7 @@ use crate::refusal::BookRefused;
 use row_core::{Name, Schema, Value, ValueRef};
 use version_core::ByColumn;
 
-/// The settings of a change, if it is one that has some: of a column the last one.
+/// Binds the settings of a change, if it has some; the last setting of a column counts.
 pub(crate) fn bind_sets<'a>(
     schema: &Schema,
     sets: Option<&'a [(Name, Value)]>,
@@ -40,7 +40,7 @@ pub(crate) fn bind_sets<'a>(
     }
 }
 
-/// The settings by the places of their columns.
+/// Returns the settings by column index.
 fn bind_settings<'a>(
     schema: &Schema,
     sets: &'a [(Name, Value)],
@@ -60,8 +60,8 @@ fn bind_settings<'a>(
     Ok(bound)
 }
 
-/// The conditions by the places of their columns: the values that are wanted, or none where two conditions
-/// contradict each other, so that no row meets them all.
+/// Returns the values that the conditions require, by column index, or `None` if two conditions contradict each other,
+/// so that no row meets both.
 pub(crate) fn bind_conds<'a>(
     schema: &Schema,
     conds: &'a [(Name, Value)],
@@ -83,7 +83,7 @@ pub(crate) fn bind_conds<'a>(
     if agree { Ok(Some(wanted)) } else { Ok(None) }
 }
 
-/// Wants the value in the column, and answers whether no other value was wanted there before.
+/// Requires the value in the column. Returns whether no other value was required there before.
 fn want<'a>(wanted: &mut ByColumn<'a>, column: usize, value: &'a Value) -> bool
     requires { column < length wanted.old }
     ensures width { length wanted.new ≡ length wanted.old }
@@ -100,7 +100,7 @@ fn want<'a>(wanted: &mut ByColumn<'a>, column: usize, value: &'a Value) -> bool
     }
 }
 
-/// The place of the column that a pair names, whose value is of its kind.
+/// Returns the index of the column that the pair names; the pair's value must be of the column's kind.
 fn bind_column(schema: &Schema, pair: &(Name, Value)) -> Result<usize, BookRefused>
     ensures refused { result_err result ≡ first_of (pair_tests schema.now pair.now) }
     ensures column { IfOk result (λ column. column_of schema.now pair.now.0 ≡ Some column) }

@@ -1,4 +1,4 @@
-//! Books: the history of accepted changes, what refuses one more, and what each commit shows.
+//! Books: the history of accepted changes, the reasons to refuse another, and what is visible as of each commit.
 
 ghost use Rattle.std.specs.Prelude.{◌≡◌, ◌+◌, ◌≤◌, ℕ, List, [], ◌∷◌, ◌++◌, filter, length, map, take, All, IfErr, IfOk, IsTrue, IfSome, IfNone, MatchOption, None, OnOk, OnErr, Some, IsOkUnless, nat_lt, nat_le};
 ghost use Rattle.std.specs.Option.{option_copied};
@@ -43,7 +43,7 @@ const TABLE_LIMIT: usize = 64;
 #[derive(Drop)]
 pub struct Book {
     alloc: Global,
-    /// What was accepted. The log and the tables have what code reads of it.
+    /// The accepted changes. The log and the tables contain what code reads of them.
     history: Commits,
     tables: Vec<Table>,
     log: Vec<Entry>,
@@ -60,7 +60,7 @@ impl Model for Book {
     ghost invariant = { λ b. IsBook b.history.all b.tables.items b.log.items };
 }
 
-/// A book is shown by its name alone.
+/// Formats the book by its name only.
 impl fmt::Debug for Book {
     fn fmt<W: fmt::Write>(&self, f: &mut fmt::Formatter<W>) -> fmt::Result {
         f.write_str("Book { .. }")
@@ -68,7 +68,7 @@ impl fmt::Debug for Book {
 }
 
 impl Book {
-    /// The book without a table.
+    /// Returns a book without tables.
     pub fn new(alloc: Global) -> Self
         ensures { result ≡ [] }
     {
@@ -80,7 +80,7 @@ impl Book {
         }
     }
 
-    /// A book with the same history.
+    /// Returns a book with the same history.
     pub fn copy(&self, alloc: Global) -> Result<Book, NoMemory>
         ensures { IfOk result (λ book. book ≡ self.now) }
     {
@@ -92,29 +92,32 @@ impl Book {
         })
     }
 
-    /// How many changes were accepted.
+    /// Returns the number of accepted changes.
     pub fn commits(&self) -> u64
         ensures count { result ≡ length self.now }
         ensures few { result ≤ commit_limit }
 
-        // Each of them was accepted in its place.
+        // Each of them was accepted in the state before it.
         ensures legal { IsLegal self.now }
     {
         self.log.len() as u64
     }
 
-    /// Makes a change of the caller with the number `by`, and answers the commit's number, from 1
-    /// on.
+    /// Makes a change of the caller with the number `by`, and returns the number of its commit. Commits are numbered
+    /// from 1.
     ///
     /// # Errors
     ///
-    /// A new table: `TableExists`, `TooMany`, `Full`. Rows: `NoTable`, `WrongKind`, `Full`, `KeyOverlap`. A
-    /// portion: `NoTable`; for each pair, settings before conditions, `NoColumn` and then `WrongKind`; `Full`;
-    /// of an update `KeyOverlap`. `NoMemory` comes last, and in place of `KeyOverlap` where its test is
-    /// refused memory. After a refusal the book is unchanged, and the change is dropped.
+    /// - A new table: `TableExists`, `TooMany`, `Full`.
+    /// - A load: `NoTable`, `WrongKind`, `Full`, `KeyOverlap`.
+    /// - A change of a portion: `NoTable`; for each pair, settings before conditions, `NoColumn` and then `WrongKind`;
+    ///   `Full`; for an update `KeyOverlap`.
+    ///
+    /// The first one that applies is returned. `NoMemory` comes last, but may replace `KeyOverlap` if the test of keys
+    /// is refused memory. After an error the book is unchanged, and the change is dropped.
     pub fn apply(&mut self, by: u32, change: Change) -> Result<u64, Failure<BookRefused>>
-        // It is refused by name exactly where the state says so; where rows of one key would overlap,
-        // `NoMemory` may come in place of that name.
+        // It is refused if and only if the state says so, and for that reason; only `KeyOverlap` may be replaced by
+        // `NoMemory`.
         ensures refused { IfSome (refusal_of (length self.old) (state_after self.old) change)
             (IsRefusedAs result) }
         ensures accepted { IfNone (refusal_of (length self.old) (state_after self.old) change)
@@ -153,14 +156,15 @@ impl Book {
         }
     }
 
-    /// What refuses a change before its rows' keys are tested, if anything does.
+    /// Returns the first reason to refuse a change, except overlaps of keys, which aren't tested here.
     pub fn refusal(&self, change: &Change) -> Option<BookRefused>
         ensures { result ≡ first_refusal (length self.now) (state_after self.now) change.now }
     {
         self.bind(change).err()
     }
 
-    /// A change: what refuses it before its rows' keys are tested, or what one of a portion is bound to.
+    /// Binds a change of a portion to its table's columns, or returns the reason to refuse the change, except overlaps
+    /// of keys. Other changes aren't bound to anything.
     fn bind<'a>(&self, change: &'a Change) -> Result<Option<PortionChange<'a>>, BookRefused>
         ensures refused { result_err result
             ≡ first_refusal (length self.now) (state_after self.now) change.entry.now }
@@ -191,7 +195,7 @@ impl Book {
         }
     }
 
-    /// What refuses a new table of that name.
+    /// Returns the reason to refuse a new table with that name.
     fn table_refusal(&self, name: Name) -> Option<BookRefused>
         ensures { (schema : List AnyColumn) → result
             ≡ first_refusal (length self.now) (state_after self.now) (Make name schema) }
@@ -207,7 +211,7 @@ impl Book {
         }
     }
 
-    /// What refuses a load into the table of that name.
+    /// Returns the reason to refuse a load into the table with that name.
     fn load_refusal(&self, name: Name, rows: &Drafts) -> Option<BookRefused>
         ensures { result
             ≡ first_refusal (length self.now) (state_after self.now) (Load name rows.now) }
@@ -219,7 +223,7 @@ impl Book {
         }
     }
 
-    /// A change of a portion of that table: what refuses it, or what it is bound to.
+    /// Binds a change of a portion to the columns of the table with that name, or returns the reason to refuse it.
     fn bind_portion<'a>(
         &self,
         name: Name,
@@ -243,7 +247,7 @@ impl Book {
         }
     }
 
-    /// The table of that name, with what the history says of it.
+    /// Returns the table with that name. The clauses say how it follows from the history.
     fn table(&self, name: Name) -> Option<&Table>
         ensures found { IfSome result (λ table. IsTableOf self.now name table.now) }
         ensures absent { IfNone result (table_of (state_after self.now) name ≡ None) }
@@ -251,7 +255,7 @@ impl Book {
         find_table(&self.tables, name)
     }
 
-    /// The columns of a table.
+    /// Returns the columns of a table.
     pub fn schema(&self, name: Name) -> Result<&Schema, NoTable>
         ensures found { IfOk result (λ schema. schema_in self.now name ≡ Some schema.now) }
         ensures absent { OnErr result (schema_in self.now name ≡ None) }
@@ -262,16 +266,15 @@ impl Book {
         }
     }
 
-    /// The rows of a table that commit n shows, by rising id. Where it shows all that the table has
-    /// ever had, they are shared, not copied.
+    /// Returns the rows of a table as of commit `n`, by rising id, without copying them.
     ///
     /// # Errors
     ///
-    /// `Future` where there are fewer than n commits; `NoTable`; `NoMemory`, in this order.
+    /// `Future` if there are fewer than `n` commits; `NoTable`; `NoMemory`, in this order.
     pub fn rows_at(&self, n: u64, name: Name) -> Result<SharedRows, Failure<RowsRefused>>
         ensures given { IsAnswer (rows_given self.now n name) result }
 
-        // They are at most 1,000,000, and each fits the table's columns.
+        // There are at most 1,000,000 of them, and each fits the table's columns.
         ensures few { IfOk result (λ rows. length rows ≤ version_limit) }
         ensures rise { IfOk result RowsRise }
         ensures fit { IfOk result (λ rows. IfSome (schema_in self.now name)
@@ -283,18 +286,18 @@ impl Book {
         }
     }
 
-    /// The rows of a table that commit n shows and that hold at the point, by rising id.
+    /// Returns the rows of a table as of commit `n` that hold at the point, by rising id, without copying them.
     ///
     /// # Errors
     ///
-    /// `Future` where there are fewer than n commits; `NoTable`; `NoMemory`, in this order.
+    /// `Future` if there are fewer than `n` commits; `NoTable`; `NoMemory`, in this order.
     pub fn rows_holding(
         &self,
         n: u64,
         name: Name,
         point: Point,
     ) -> Result<SharedRows, Failure<RowsRefused>>
-        // Of the rows that `rows_at` gives, those that hold.
+        // The rows of `rows_at` that hold at the point.
         ensures given { IsAnswer
             (map_ok (filter (λ (row : Row). holds_at point row.period))
             (rows_given self.now n name)) result }
@@ -310,7 +313,7 @@ impl Book {
         }
     }
 
-    /// The table of that name, where commit n can be read.
+    /// Returns the table with that name, if commit `n` can be read.
     fn table_at(&self, n: u64, name: Name) -> Result<&Table, RowsRefused>
         ensures found { IfOk result (λ table. IsTableOf self.now name table.now) }
         ensures given { IfOk result (λ table.
@@ -326,13 +329,13 @@ impl Book {
         }
     }
 
-    /// The versions of the first `at` commits that some commit from m to n shows, by rising id. An
-    /// end past `at` is shown as open. m and n may lie past `at`: an open version counts as shown there.
+    /// Returns the versions, as of commit `at`, that are visible as of some commit from `m` to `n`, by rising id. An
+    /// end after `at` counts as open. `m` and `n` may be greater than `at`: an open version counts as visible there.
     ///
     /// # Errors
     ///
-    /// `Future` where there are fewer than `at` commits; `BadPeriod` where m is greater than n; `NoTable`;
-    /// `NoMemory`, in this order.
+    /// `Future` if there are fewer than `at` commits; `BadPeriod` if `m` is greater than `n`; `NoTable`; `NoMemory`, in
+    /// this order.
     pub fn between(
         &self,
         at: u64,
@@ -346,7 +349,7 @@ impl Book {
             (IsOkUnless result NoMemory) }
         ensures versions { IfOk result (λ versions. AreBetween self.now at m n name versions) }
 
-        // At one commit they are those whose rows it shows.
+        // At a single commit, their rows are the ones visible as of it.
         ensures at_once { m ≡ n → n ≤ at
             → IfOk result (λ versions. map (λ v. v.row) versions ≡ rows_at self.now n name) }
     {
@@ -362,13 +365,13 @@ impl Book {
         }
     }
 
-    /// The versions of the first `at` commits that some commit from m on and before n shows, by
-    /// rising id. An end past `at` is shown as open. m and n may lie past `at`, as for `between`.
+    /// Returns the versions, as of commit `at`, that are visible as of some commit from `m` on and before `n`, by
+    /// rising id. An end after `at` counts as open. `m` and `n` may be greater than `at`, as for `between`.
     ///
     /// # Errors
     ///
-    /// `Future` where there are fewer than `at` commits; `BadPeriod` where m isn't less than n; `NoTable`;
-    /// `NoMemory`, in this order.
+    /// `Future` if there are fewer than `at` commits; `BadPeriod` if `m` isn't less than `n`; `NoTable`; `NoMemory`, in
+    /// this order.
     pub fn from_to(
         &self,
         at: u64,
@@ -394,7 +397,7 @@ impl Book {
         }
     }
 
-    /// The commits, oldest first, each with the number of versions that it made and closed.
+    /// Returns the commits, oldest first, each with the numbers of versions that it added and closed.
     pub fn log(&self) -> Result<Log, NoMemory>
         ensures { IfOk result (λ log. log ≡ log_of self.now) }
     {
@@ -402,15 +405,14 @@ impl Book {
     }
 }
 
-/// The past does not change: what a commit shows is the same in each history that goes on from
-/// one with that commit.
+/// The past does not change: the rows as of a commit are the same in each history that continues one with that commit.
 pub fn past_stays()
     ensures { (h more : History) (n : ℕ) (name : List ℕ)
         → n ≤ length h → rows_at (h ++ more) n name ≡ rows_at h n name }
 {}
 
-/// No state of a legal history has, in a table with a key, two rows at different places that are equal
-/// in each column of the key and share an instant.
+/// In each state of a legal history, if a table has a key, no two of its rows at different indexes are equal in each
+/// column of the key and overlap.
 pub fn keys_stay_apart()
     ensures { (h : History) (n : ℕ) → IsLegal h → All KeyHolds (state_after (take n h)) }
 {}

@@ -9,7 +9,7 @@ use std::alloc::Global;
 /// Pairs of a column's name and a value.
 pub type Pairs = List<(Name, Value)>;
 
-/// A change of the tables of a book, or of the rows of one.
+/// A change of the tables of a book, or of the rows of one table.
 #[derive(Debug, Drop)]
 pub enum Change {
     /// A new table, without rows.
@@ -17,19 +17,19 @@ pub enum Change {
         table: Name,
         schema: Schema,
     },
-    /// More rows, with the ids that follow.
+    /// New rows, which get the next ids.
     Load {
         table: Name,
         rows: Drafts,
     },
-    /// Other values, within the portion, for the rows that meet all conditions.
+    /// Within the portion, rows that meet all conditions get other values.
     Update {
         table: Name,
         portion: Period,
         sets: Pairs,
         conds: Pairs,
     },
-    /// The rows that meet all conditions don't hold within the portion.
+    /// Within the portion, rows that meet all conditions don't hold any more.
     Delete {
         table: Name,
         portion: Period,

@@ -7,14 +7,14 @@ ghost use Rattle.book_core.specs.History.{History};
 use crate::change::Change;
 use std::marker::Model;
 
-/// A change that was accepted, and by whom.
+/// An accepted change, and the number of its caller.
 #[derive(Drop)]
 pub struct Commit {
     pub by: u32,
     pub change: Change,
 }
 
-/// The commits of a book, oldest first. Contracts alone see them: a value of it has no bytes.
+/// The commits of a book, oldest first. Only contracts see them: a value of this type has no bytes.
 #[derive(Drop)]
 pub(crate) struct Commits {
     pub ghost all: { History },
@@ -25,21 +25,21 @@ impl Model for Commits {
 }
 
 impl Commits {
-    /// None.
+    /// Returns an empty list of commits.
     pub fn new() -> Commits
         ensures { result.all ≡ [] }
     {
         Commits {}
     }
 
-    /// The same ones.
+    /// Returns the same commits.
     pub fn copy(&self) -> Commits
         ensures { result.all ≡ self.now.all }
     {
         Commits {}
     }
 
-    /// These, and another one behind them.
+    /// Returns these commits, followed by another one.
     pub fn followed_by(&self, commit: &Commit) -> Commits
         ensures { result.all ≡ self.now.all ++ commit.now ∷ [] }
     {

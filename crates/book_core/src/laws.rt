@@ -1,4 +1,4 @@
-//! Laws of what a history shows.
+//! Laws about histories.
 
 ghost use Rattle.std.specs.Prelude.{◌≡◌, ◌≤◌, ℕ, List, None, Contains, nat_le, nat_lt};
 ghost use Rattle.row_core.specs.Rows.{RowsRise};
@@ -7,8 +7,8 @@ ghost use Rattle.version_core.specs.declared.version.Version.{Version};
 ghost use Rattle.book_core.specs.History.{History, IsLegal, between_refusal, rows_at};
 ghost use Rattle.book_core.specs.Versions.{AreBetween, AreFromTo};
 
-/// What is asked of a table's versions is one list at most, and where they may be read, in a legal history,
-/// exactly one.
+/// The versions of a table that a query selects are at most one list; if they may be read, and the history is legal,
+/// there is such a list.
 pub fn history_has_one_list_of_versions()
     ensures between_exists { (h : History) (at m n : ℕ) (name : List ℕ)
         → IsLegal h → between_refusal h at (nat_lt n m) name ≡ None
@@ -22,13 +22,13 @@ pub fn history_has_one_list_of_versions()
         → AreFromTo h at m n name one → AreFromTo h at m n name other → one ≡ other }
 {}
 
-/// The rows that a commit shows are by rising id.
+/// The rows visible as of a commit are ordered by rising id.
 pub fn rows_rise()
     ensures { (h : History) (n : ℕ) (name : List ℕ) → RowsRise (rows_at h n name) }
 {}
 
-/// No id of a table is used again: rows with the same id are the same row, whichever commits show them, and a
-/// row that a commit no longer shows does not come back.
+/// No id of a table is used again: rows with the same id are the same row, whatever the commit, and a row that is no
+/// longer visible doesn't return.
 pub fn no_id_is_used_again()
     ensures one { (h : History) (n m : ℕ) (name : List ℕ) (r s : Row)
         → Contains (rows_at h n name) r → Contains (rows_at h m name) s → r.id ≡ s.id → r ≡ s }

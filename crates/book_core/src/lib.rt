@@ -1,6 +1,6 @@
 #![tactic(auto)]
 
-//! The book: tables, the changes that made them, and what each commit shows.
+//! The book: tables, the changes that made them, and what is visible as of each commit.
 
 mod apply;
 mod bind;

@@ -1,4 +1,4 @@
-//! The log: what each commit did, and by whom.
+//! The log: what each commit did, and which caller made it.
 
 ghost use Rattle.std.specs.Prelude.{◌≡◌, ◌+◌, ◌<◌, Some};
 ghost use Rattle.book_core.specs.Limits.{commit_limit};
@@ -22,7 +22,7 @@ pub enum ChangeKind {
 }
 
 impl ChangeKind {
-    /// The word that stands in a printed log.
+    /// Returns the word for a printed log.
     pub fn word(self) -> &'static str
         ensures { result.now ≡ word_of self }
     {
@@ -35,7 +35,7 @@ impl ChangeKind {
     }
 }
 
-/// Its word.
+/// Writes the word.
 impl fmt::Display for ChangeKind {
     ghost output = { λ kind. Some (word_of kind) };
 
@@ -44,7 +44,7 @@ impl fmt::Display for ChangeKind {
     }
 }
 
-/// A commit in the log: its number, whose it is, and how many versions it made and closed.
+/// A commit in the log: its number, its caller's number, and the numbers of versions that it added and closed.
 #[derive(Clone, Copy, Debug, PartialEq, Eq)]
 pub struct Entry {
     pub number: u64,
@@ -58,7 +58,7 @@ pub struct Entry {
 /// The commits of a book, oldest first.
 pub type Log = List<Entry>;
 
-/// What the log has of one more commit.
+/// Returns the log's entry for the next commit.
 pub(crate) fn entry_of(
     commits: u64,
     by: u32,
@@ -86,7 +86,7 @@ pub(crate) fn entry_of(
     }
 }
 
-/// What the log calls the change.
+/// Returns the kind of the change.
 pub(crate) fn change_kind(change: &Change) -> ChangeKind
     ensures { result ≡ change_kind change.now }
 {
@@ -98,7 +98,7 @@ pub(crate) fn change_kind(change: &Change) -> ChangeKind
     }
 }
 
-/// The name of the table that a change makes or changes.
+/// Returns the name of the table that the change creates or changes.
 pub(crate) fn table_of(change: &Change) -> Name
     ensures { result ≡ table_named change.now }
 {

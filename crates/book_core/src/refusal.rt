@@ -1,4 +1,4 @@
-//! Why a change is not made, and why rows and versions are not given.
+//! Reasons to refuse changes, and queries of rows and versions.
 
 ghost use Rattle.std.specs.Prelude.{◌≡◌};
 ghost use Rattle.row_core.specs.Refusals.{map_refused};
@@ -9,23 +9,23 @@ use std::{error, fmt};
 use thiserror::Error;
 use version_core::KeyOverlap;
 
-/// Why a change is not made, in the order of the tests; of pairs, each is tested for both of its names
-/// before the next one.
+/// Why a change is refused, in the order of the tests. Each pair is tested for `NoColumn` and then for `WrongKind`
+/// before the next pair.
 #[derive(Clone, Copy, Debug, PartialEq, Eq)]
 pub enum BookRefused {
-    /// A table of that name is there.
+    /// A table with that name exists.
     TableExists,
-    /// 64 tables are there.
+    /// There are 64 tables.
     TooMany,
-    /// No table of that name is there.
+    /// No table has that name.
     NoTable,
-    /// The table has no column of that name.
+    /// The table has no column with that name.
     NoColumn,
     /// A value is not of its column's kind, or a row does not fit the table's columns.
     WrongKind,
-    /// 1,000,000 commits are there, or the table would have more than 1,000,000 versions.
+    /// There are 1,000,000 commits, or the table would have more than 1,000,000 versions.
     Full,
-    /// The table has a key, and two of its rows would be equal in each column of it and share an instant.
+    /// The table has a key, and two of its rows would be equal in each column of the key and overlap.
     KeyOverlap,
 }
 
@@ -49,7 +49,7 @@ impl fmt::Display for BookRefused {
 
 impl error::Error for BookRefused {}
 
-/// Why a change is not made that only the test of its rows' keys can refuse.
+/// Turns a failure of the test of keys into a failure of a change.
 pub(crate) fn overlap_failure(why: Failure<KeyOverlap>) -> Failure<BookRefused>
     ensures { result ≡ map_refused overlap_refusal why }
 {
@@ -59,12 +59,12 @@ pub(crate) fn overlap_failure(why: Failure<KeyOverlap>) -> Failure<BookRefused>
     }
 }
 
-/// Why the rows of a table are not given, in the order of the tests.
+/// Why the rows of a table can't be read, in the order of the tests.
 #[derive(Clone, Copy, Debug, PartialEq, Eq)]
 pub enum RowsRefused {
     /// There are fewer commits.
     Future,
-    /// No table of that name is there.
+    /// No table has that name.
     NoTable,
 }
 
@@ -79,14 +79,14 @@ impl fmt::Display for RowsRefused {
 
 impl error::Error for RowsRefused {}
 
-/// Why the versions of a table are not given, in the order of the tests.
+/// Why the versions of a table can't be read, in the order of the tests.
 #[derive(Clone, Copy, Debug, PartialEq, Eq)]
 pub enum VersionsRefused {
     /// There are fewer commits.
     Future,
     /// The two commits are not in order.
     BadPeriod,
-    /// No table of that name is there.
+    /// No table has that name.
     NoTable,
 }
 

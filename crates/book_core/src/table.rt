@@ -1,4 +1,4 @@
-//! A table as the book keeps it, and the look-up of one by its name.
+//! A table as the book stores it, and the lookup of one by its name.
 
 ghost use Rattle.std.specs.Prelude.{◌≡◌, position, bytes_eq};
 ghost use Rattle.std.specs.Option.{option_copied};
@@ -12,7 +12,7 @@ use std::marker::Model;
 use std::sync::Arc;
 use version_core::Versions;
 
-/// A table with all versions of its rows, which copies share until one of them is changed.
+/// A table with all versions of its rows. Copies of a book share the versions until one of the books changes them.
 #[derive(Drop)]
 pub(crate) struct Table {
     pub name: Name,
@@ -34,14 +34,14 @@ impl Model for Table {
 }
 
 impl Table {
-    /// Its columns.
+    /// Returns the table's columns.
     pub fn schema(&self) -> &Schema
         ensures { result.now ≡ self.now.schema }
     {
         self.columns.schema()
     }
 
-    /// All versions of its rows.
+    /// Returns all versions of the table's rows.
     pub fn versions(&self) -> &Versions
         ensures { result.now ≡ self.now.versions }
     {
@@ -49,21 +49,21 @@ impl Table {
     }
 }
 
-/// The table of that name.
+/// Returns the table with that name.
 pub(crate) fn find_table(tables: &[Table], name: Name) -> Option<&Table>
     ensures { option_copied result ≡ kept_table name tables.now }
 {
     tables.iter().find(|table| is_named(table, name))
 }
 
-/// The place of the table of that name.
+/// Returns the index of the table with that name.
 pub(crate) fn place_of(tables: &[Table], name: Name) -> Option<usize>
     ensures { result ≡ position (λ t. bytes_eq t.name name) tables.now }
 {
     tables.iter().position(|table| is_named(table, name))
 }
 
-/// Whether a look-up of the name finds the table.
+/// Returns whether a lookup of the name finds the table.
 fn is_named(table: &Table, name: Name) -> bool
     ensures { result ≡ bytes_eq table.now.name name }
 {

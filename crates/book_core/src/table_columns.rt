@@ -1,4 +1,4 @@
-//! The columns of a table, with what its key needs.
+//! The columns of a table, and the indexes of its key's columns.
 
 ghost use Rattle.std.specs.Prelude.{◌≡◌, IfOk};
 ghost use Rattle.row_core.specs.Schema.{key_of};
@@ -8,7 +8,7 @@ use row_core::{NoMemory, Schema};
 use std::alloc::Global;
 use std::marker::Model;
 
-/// The columns of a table, and the places of those of its key, which are looked up as the table is made.
+/// The columns of a table, and the indexes of its key's columns, which are looked up once, as the table is made.
 /// Contracts see the columns.
 #[derive(Drop)]
 pub struct TableColumns {
@@ -29,7 +29,7 @@ impl Model for TableColumns {
 }
 
 impl TableColumns {
-    /// Those of a schema.
+    /// Returns the columns of a schema.
     pub fn of(alloc: Global, schema: Schema) -> Result<TableColumns, NoMemory>
         ensures { IfOk result (λ columns. columns ≡ schema) }
     {
@@ -37,14 +37,14 @@ impl TableColumns {
         Ok(TableColumns { schema, key })
     }
 
-    /// The columns.
+    /// Returns the columns.
     pub fn schema(&self) -> &Schema
         ensures { result.now ≡ self.now }
     {
         &self.schema
     }
 
-    /// The places of those of the key.
+    /// Returns the indexes of the key's columns.
     pub fn key(&self) -> &[u32]
         ensures { result.now ≡ key_of self.now }
     {

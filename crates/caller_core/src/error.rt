@@ -1,4 +1,4 @@
-//! One error for a caller, in place of each call's own.
+//! A single error type for callers.
 ghost use Rattle.std.specs.Prelude.{◌≡◌};
 ghost use Rattle.caller_core.specs.declared.error.StoreError.TheVariants as error;
 ghost use Rattle.caller_core.specs.Errors.{of_failure, of_snapshot, of_store};
@@ -12,50 +12,50 @@ use std::alloc::AllocFailed;
 use store_core::{BadCount, Future, PassSpent, RangeRefused, SnapshotRefused, StoreRefused};
 use thiserror::Error;
 
-/// Why a caller gets no further. `?` makes one of each refusal and failure of a store, of a shelf and of a snapshot,
-/// and of those of the names, points, columns and rows that they are asked with.
+/// Any error of a store's caller. `?` converts each refusal and failure of a store, of a shelf and of a snapshot, and
+/// those of the names, points, columns and rows passed to them.
 #[derive(Clone, Copy, Debug, PartialEq, Eq, Error)]
 pub enum StoreError {
-    /// A growth is refused.
+    /// An allocation is refused.
     #[error("out of memory")]
     NoMemory,
-    /// A store has no such number of passes or calls.
+    /// A store can't have this number of passes or calls.
     #[error(transparent)]
     Count(BadCount),
     /// A pass is spent.
     #[error(transparent)]
     Pass(PassSpent),
-    /// A commit is not there yet.
+    /// A commit doesn't exist yet.
     #[error(transparent)]
     Commit(Future),
     /// The book refuses a change.
     #[error(transparent)]
     Book(BookRefused),
-    /// A table is not there.
+    /// A table doesn't exist.
     #[error(transparent)]
     Table(NoTable),
-    /// A snapshot gives no versions.
+    /// A snapshot refuses a query of versions.
     #[error(transparent)]
     Range(RangeRefused),
-    /// Columns are no table's.
+    /// Columns are refused.
     #[error(transparent)]
     Schema(SchemaRefused),
-    /// Columns make no key.
+    /// A key is refused.
     #[error(transparent)]
     Key(KeyRefused),
-    /// Fields are no row.
+    /// Fields aren't a row.
     #[error(transparent)]
     Row(RowRefused),
-    /// Bytes are no value of a kind.
+    /// Bytes aren't a value of the kind.
     #[error(transparent)]
     Value(ValueRefused),
-    /// Bytes are no text.
+    /// Bytes aren't a text.
     #[error(transparent)]
     Text(TextRefused),
-    /// Bytes are no name.
+    /// Bytes aren't a name.
     #[error(transparent)]
     Name(BadName),
-    /// A text or a number is no point.
+    /// A text or a number isn't a point.
     #[error(transparent)]
     Point(BadPoint),
     /// A period would have no instant.

@@ -1,4 +1,4 @@
-//! The store as a caller meets it: what `store_core` gives, and one error for all of its calls.
+//! The store for callers: what `store_core` offers, and one error type for all of its calls.
 #![tactic(auto)]
 
 mod error;

@@ -6,7 +6,7 @@ use caller_core::{NoTable, Pass, Snapshot, Store, StoreError};
 use row_core::{Failure, Name};
 use std::sync::Wait;
 
-// How many snapshots the auditor takes. It keeps the middle one.
+// The number of snapshots that the auditor takes. It keeps the middle one.
 const LOOKS: u32 = 100;
 
 /// What the auditor saw.
@@ -20,13 +20,13 @@ pub struct Watched {
 }
 
 impl Watched {
-    /// Whether the kept snapshot still shows as many rows as when it was taken.
+    /// Returns whether the kept snapshot still shows the number of rows that it showed when it was taken.
     pub fn stays(&self, table: Name) -> Result<bool, StoreError> {
         Ok(rows_shown(&self.kept, table)? == self.rows)
     }
 }
 
-/// How many rows of a table a snapshot shows: none where the table wasn't made yet.
+/// Returns how many rows of a table a snapshot shows; 0 if the table wasn't made yet.
 pub fn rows_shown(snapshot: &Snapshot, table: Name) -> Result<usize, StoreError> {
     match snapshot.rows(table) {
         Ok(rows) => Ok(rows.len()),

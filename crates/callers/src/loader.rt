@@ -11,16 +11,16 @@ use row_core::{Kind, Name, Schema, Value};
 use std::alloc::Global;
 use std::sync::Wait;
 
-// How many rows there are to load.
+// The number of rows to load.
 const ROWS: u32 = 1_000;
 
-/// How many commits the loader makes: one for the table, and one for each row.
+/// The number of commits that the loader makes: one for the table, and one for each row.
 pub const COMMITS: u64 = 1_001;
 
 // The loader has the first pass of the store.
 const LOADER: u32 = 1;
 
-/// The rows of one change: a single row of this number, which holds for a day.
+/// Returns the rows of one change: a single row with this number, which holds for a day.
 pub fn one_row(alloc: Global, number: u32) -> Result<Drafts, StoreError> {
     let period = Period::new(Point::parse(b"2024-01-08")?, Point::parse(b"2024-01-09")?)?;
     let mut rows = Drafts::new(alloc);
@@ -28,8 +28,8 @@ pub fn one_row(alloc: Global, number: u32) -> Result<Drafts, StoreError> {
     Ok(rows)
 }
 
-/// Makes the table and loads its rows, each in a commit of its own. Answers a note of all that the pass has seen
-/// by then, its own commits among it.
+/// Makes the table and loads its rows, each in a commit of its own. Returns a note of all that the pass has then seen,
+/// which includes these commits.
 pub fn load<R: Wait>(
     rt: &R,
     alloc: Global,
@@ -53,7 +53,7 @@ pub fn load<R: Wait>(
     Ok(store.note(pass))
 }
 
-/// Whether these are the loader's commits, in the order in which it made them.
+/// Returns whether these are the loader's commits, in order.
 pub fn is_in_order(log: &[Entry]) -> bool {
     log.iter().zip(1..COMMITS + 1).all(|(entry, number)| {
         entry.number == number

@@ -1,6 +1,6 @@
-//! Two callers share a store, each on a thread of its own: a loader commits 1,000 rows, one by one, while an
-//! auditor takes snapshots. Then the auditor hears from the loader what it has seen. What is printed is the same in
-//! whatever order the two threads run.
+//! Two callers share a store, each on a thread of its own: a loader commits 1,000 rows, one by one, while an auditor
+//! takes snapshots. Then the auditor hears what the loader has seen. The output is the same in whatever order the two
+//! threads run.
 #![tactic(auto)]
 
 ghost use Rattle.std.specs.Prelude.{◌≡◌, ◌+◌, ◌≤◌, length, IfOk, OnOk};
@@ -19,8 +19,8 @@ use std::alloc::Global;
 use std::sync::Wait;
 use std::thread::{Threads, join_mut};
 
-/// Lets the loader load on a thread of its own while the auditor watches here, or after it where no thread can be
-/// made. Answers the loader's note, and what the auditor saw.
+/// Runs the loader on a thread of its own while the auditor watches on this one, or one after the other if no thread
+/// can be started. Returns the loader's note, and what the auditor saw.
 fn meanwhile<R: Threads + Wait + Sync>(
     rt: &R,
     alloc: Global,
@@ -51,7 +51,7 @@ fn meanwhile<R: Threads + Wait + Sync>(
     join_mut(rt, &mut loading, &mut watching)
 }
 
-/// Prints what the auditor finds once it has heard all that the loader had seen.
+/// Prints what the auditor finds after it has heard all that the loader had seen.
 fn report<R: Print + Wait>(
     rt: &R,
     store: &Store,
@@ -64,7 +64,7 @@ fn report<R: Print + Wait>(
     ensures { IsPassOf store.now auditor.new }
 {
     let log = store.log(rt, auditor)?;
-    // In range, since the note names as many commits.
+    // In range, since the note has at least this many commits.
     let loaders = &log.as_slice()[..COMMITS as usize];
     let newest = store.snapshot(rt, auditor, None)?;
     println!(rt; "commits in the log: {}", log.len())?;
@@ -81,7 +81,7 @@ fn report<R: Print + Wait>(
     Ok(())
 }
 
-/// Prints what a pass without calls is answered. No other reply can come, which the check proves.
+/// Prints the reply to a pass without calls. The check proves that no other reply is possible.
 fn show_spent<R: Print + Wait>(
     rt: &R,
     alloc: Global,
@@ -102,7 +102,7 @@ fn show_spent<R: Print + Wait>(
     }
 }
 
-/// A store with two passes, the loader's and the auditor's. Each has as many calls as the loader needs.
+/// Returns a store with two passes, the loader's and the auditor's. Each has the number of calls that the loader needs.
 fn open(alloc: Global) -> Result<(Store, Pass, Pass), StoreError>
     ensures loader { IfOk result (λ made. IsPassOf made.0 made.1 × IsFresh 1 2 1001 made.1) }
     ensures auditor { IfOk result (λ made. IsPassOf made.0 made.2 × IsFresh 2 2 1001 made.2) }
@@ -114,7 +114,7 @@ fn open(alloc: Global) -> Result<(Store, Pass, Pass), StoreError>
     Ok((store, loader, auditor))
 }
 
-/// Runs the two callers, hands over the note, and prints what the auditor finds.
+/// Runs the two callers, passes the note on, and prints what the auditor finds.
 fn run<R: Print + Threads + Wait + Sync>(rt: &R, alloc: Global) -> anyhow::Result<()> {
     let table = Name::parse(b"posts")?;
     let (store, mut loader, mut auditor) = open(alloc)?;

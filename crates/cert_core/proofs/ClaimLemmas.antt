@@ -5,7 +5,7 @@ use Rattle.std.proofs.lemmas.List.{take_at}
 use Rattle.std.proofs.lemmas.List.Elements.{All-head, All-tail}
 use Rattle.cert_core.specs.Claim.{ids_of}
 
--- a part of those that have ids
+-- if all earlier parts have ids, part `j` isn't empty
 pub filled_before : (claim : List (List ℕ)) (n j : ℕ) → All (λ part. 0 < length part) (take n claim) → j < n
     → slice_get claim j ≢ Some []
 filled_before [] n j filled less e = cc e
@@ -32,7 +32,7 @@ ids_of-part (first ∷ claim) (suc k) part e =
     drop_both [] ys zs = refl
     drop_both (x ∷ xs) ys zs = drop_both xs ys zs
 
--- it ends within them
+-- the part ends within all ids
 pub ids_of-part_end : (claim : List (List ℕ)) (k : ℕ) (part : List ℕ) → slice_get claim k ≡ Some part
     → length (ids_of (take k claim)) + length part ≤ length (ids_of claim)
 ids_of-part_end [] k part e = absurd (cc e)
@@ -49,7 +49,7 @@ ids_of-part_end (first ∷ claim) (suc k) part e =
       ids_of-part_end claim k part e,
     )
 
--- those of one more part
+-- the number of ids in the first `k + 1` parts
 pub ids_of-take : (claim : List (List ℕ)) (k : ℕ) (part : List ℕ) → slice_get claim k ≡ Some part
     → length (ids_of (take (k + 1) claim)) ≡ length (ids_of (take k claim)) + length part
 ids_of-take [] k part e = absurd (cc e)

@@ -1,4 +1,4 @@
--- Claims, as lists that are cut at places.
+-- Claims as lists that are cut at indices.
 use Rattle.std.proofs.Common.{◌≡◌, ℕ, zero, suc, ◌+◌, ◌-◌, ◌≤◌, List, [], ◌∷◌, ◌++◌, length, take, drop, refl, sym, ap, ◌∙◌, arith}
 use Rattle.std.specs.Prelude.{slice_set}
 use Rattle.std.proofs.lemmas.List.{append-nil, drop-append-le, take-append-drop, take_all, drop_all, length-drop, drop-drop}
@@ -16,7 +16,7 @@ cut-open ends xs h =
 pub EndsAt-open : (ends : List ℕ) (size : ℕ) → EndsAt 0 ends size → EndsAt 0 (ends ++ size ∷ []) size
 EndsAt-open ends size h = let same : size + 0 ≡ size = omega arith in rw same at (EndsAt-more 0 ends size 0 h)
 
--- the last part ends where a longer list does
+-- the last part ends at the end of a longer list
 pub EndsAt-last : (from : ℕ) (ends : List ℕ) (size longer k : ℕ) → suc k ≡ length ends → size ≤ longer
     → EndsAt from ends size → EndsAt from (slice_set ends k longer) longer
 EndsAt-last from [] size longer k last le h = absurd (omega (arith, last))
@@ -26,7 +26,7 @@ EndsAt-last from (end ∷ (next ∷ ends)) size longer zero last le h = absurd (
 EndsAt-last from (end ∷ (next ∷ ends)) size longer (suc k) last le (h, more) =
     (h, EndsAt-last end (next ∷ ends) size longer k (omega (arith, last)) le more)
 
--- the last part gets one more
+-- the last part gets one more id
 last-push : (from : ℕ) (xs : List ℕ) (x : ℕ) → from ≤ length xs
     → take (length (xs ++ x ∷ []) - from) (drop from (xs ++ x ∷ [])) ≡ take (length xs - from)
     (drop from xs) ++ x ∷ []
@@ -38,7 +38,7 @@ last-push from xs x le =
     ∙ (drop-append-le from xs (x ∷ []) le
     ∙ ap (λ l. l ++ x ∷ []) (sym (take_all (length xs - from) (drop from xs) whole)))
 
--- one more id, in the last part
+-- one more id in the last part
 pub cut-last : (from : ℕ) (ends xs : List ℕ) (x k : ℕ) → suc k ≡ length ends → EndsAt from ends (length xs)
     → AddsToLast (cut from ends xs) (cut from (slice_set ends k (length (xs ++ x ∷ []))) (xs ++ x ∷ [])) x
 cut-last from [] xs x k lasts h before last e = absurd (omega (arith, lasts))
@@ -61,7 +61,7 @@ cut-last from (end ∷ (next ∷ ends)) xs x (suc k) lasts (h, more) (b ∷ befo
     (part-append from end xs (x ∷ []) h within ∙ first)
     ∙ ap (λ parts. b ∷ parts) (cut-last end (next ∷ ends) xs x k (omega (arith, lasts)) more before last rest)
 
--- the parts are what is from the first place on
+-- all parts together are the list from the first cut on
 flat-cut : (from : ℕ) (ends xs : List ℕ) → EndsAt from ends (length xs) → ids_of (cut from ends xs) ≡ drop from xs
 flat-cut from [] xs h = sym (drop_all from xs (omega (arith, h)))
 flat-cut from (end ∷ ends) xs (h, more) =

@@ -1,4 +1,4 @@
--- Numbers that occur once, and items whose ids rise.
+-- Numbers that occur once, and items with ascending ids.
 use Rattle.std.proofs.Common.{◌≡◌, ◌≢◌, ℕ, zero, suc, ◌+◌, ◌-◌, ◌<◌, ◌≤◌, true, cond, List, [], ◌∷◌, ◌++◌, length, get_or, arith, refl, sym, ap, ◌∙◌, subst, inl, inr}
 use Rattle.std.specs.Prelude.{Contains, count_by, ◌==◌}
 use Rattle.std.proofs.lemmas.Bool.{eqb-true, cases_lt, eq-eqb}
@@ -46,7 +46,7 @@ IsDistinct-append_right xs ys distinct i =
     let most : count_by (λ id. id == i) (xs ++ ys) ≤ 1 = distinct i in
     omega arith
 
--- one more number, that was not there
+-- one more number, which wasn't in the list
 pub IsDistinct-push : (xs : List ℕ) (x : ℕ) → IsDistinct xs → (Contains xs x → ⊥) → IsDistinct (xs ++ x ∷ [])
 IsDistinct-push xs x distinct new i =
     let split : count_by (λ id. id == i) (xs ++ x ∷ []) ≡ count_by (λ id. id == i) xs + count_by (λ id. id == i)
@@ -57,7 +57,7 @@ IsDistinct-push xs x distinct new i =
     λ yes. subst (λ n. count_by (λ id. id == n) xs ≡ 0) (eqb-true x i yes) (count-missing xs x new) in
     grind arith
 
--- where none occurs at two places, none stood there before
+-- if no number occurs twice, none has occurred earlier
 pub twice_is_not_distinct : (ids : List ℕ) (id : ℕ) → IsTwice ids id → IsDistinct ids → ⊥
 twice_is_not_distinct ids id twice distinct =
     let d : IsDistinct (twice.before ++ id ∷ twice.after) = subst IsDistinct twice.stands distinct in
@@ -72,7 +72,7 @@ twice_is_not_distinct ids id twice distinct =
     counted (λ n. n == id) twice.before id twice.again same in
     grind arith
 
--- at two places stand two numbers
+-- the numbers at two indices differ
 pub distinct-differ : (ids : List ℕ) → IsDistinct ids → (i j d : ℕ) → i < j → j < length ids
     → get_or ids i d ≢ get_or ids j d
 distinct-differ [] distinct i j d less h same = absurd (omega arith)
@@ -87,7 +87,7 @@ distinct-differ (x ∷ xs) distinct zero (suc j) d less h same =
 distinct-differ (x ∷ xs) distinct (suc i) (suc j) d less h same =
     distinct-differ xs (IsDistinct-tail x xs distinct) i j d (omega arith) (omega arith) same
 
--- ---- items whose ids rise
+-- ---- items with ascending ids
 
 far_by : (items : List Item) → IdsRise items → (i m : ℕ) (d : Item) → i + suc m < length items
     → (get_or items i d).id < (get_or items (i + suc m) d).id
@@ -102,7 +102,7 @@ far_by items rise i (suc m) d h =
 pub id_at-get_or : (items : List Item) (p : ℕ) (d : Item) → p < length items → id_at items p ≡ (get_or items p d).id
 id_at-get_or items p d h = get_or-map (λ x. x.id) items p d 0 h
 
--- the item at a place
+-- the item at an index
 pub item_at : (items : List Item) (p : ℕ) → p < length items → (x : Item) × (get_or items p x ≡ x)
     × (id_at items p ≡ x.id)
 item_at [] p h = absurd (omega arith)
@@ -121,7 +121,7 @@ id_at-rises items rise p q less h =
     let other : id_at items q ≡ (get_or items q x).id = id_at-get_or items q x h in
     omega arith
 
--- one id is at one place
+-- an id is at one index
 pub same_place : (items : List Item) → IdsRise items → (p q : ℕ) → p < length items → q < length items
     → id_at items p ≡ id_at items q → p ≡ q
 same_place items rise p q hp hq same = elim (cases_lt p q) [
@@ -132,7 +132,7 @@ same_place items rise p q hp hq same = elim (cases_lt p q) [
   ]
 ]
 
--- one id is of one item
+-- an id belongs to one item
 pub same_item : (items : List Item) → IdsRise items → (x y : Item) → Contains items x → Contains items y → x.id ≡ y.id
     → x ≡ y
 same_item items rise x y (p, hp, ex) (q, hq, ey) same =

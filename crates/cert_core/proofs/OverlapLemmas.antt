@@ -1,4 +1,4 @@
--- A part's items, sorted, and the first neighbours of them that overlap.
+-- A part's items, sorted, and their first neighbours that overlap.
 use Rattle.std.proofs.Common.{◌≡◌, ◌≢◌, ℕ, zero, suc, ◌+◌, ◌<◌, ◌≤◌, ℤ, ◌≤ℤ◌, true, false, List, [], ◌∷◌, length, get_or, arith, refl, sym, ap, ◌∙◌, subst, inl, inr}
 use Rattle.std.specs.Prelude.{Contains, map, count_by, ◌==◌, cond, IsPermutation, IsSorted, Option, Some, None, MatchOption}
 use Rattle.std.specs.List.{AllAdjacentBelow}
@@ -19,20 +19,20 @@ use Rattle.cert_core.specs.Places.{AreNamed, IsFirstPair}
 use Rattle.cert_core.specs.Verdict.{IsItemOf, HasNoOverlap, IsJustBefore, IsFirstOverlap}
 use Rattle.cert_core.proofs.IdsLemmas.{distinct-differ, same_item, item_at}
 
--- ids of contained items
+-- the ids of contained items
 pub Contains-id : (xs : List Item) (x : Item) → Contains xs x → Contains (map (λ y. y.id) xs) x.id
 Contains-id xs x (k, h, is) =
     let long : length (map (λ (y : Item). y.id) xs) ≡ length xs = length-map xs (λ (y : Item). y.id) in
     (k, omega arith, get_or-map (λ (y : Item). y.id) xs k x x.id h ∙ ap (λ (y : Item). y.id) is)
 
--- the item of an id
+-- the item with an id
 pub item_of_id : (xs : List Item) (i : ℕ) → Contains (map (λ y. y.id) xs) i → (x : Item) × Contains xs x × (x.id ≡ i)
 item_of_id [] i (k, h, is) = absurd (omega arith)
 item_of_id (x ∷ xs) i (zero, h, is) = (x, (0, omega arith, refl), is)
 item_of_id (x ∷ xs) i (suc k, h, is) =
     let (y, (m, less, there), same) = item_of_id xs i (k, omega arith, is) in (y, (suc m, omega arith, there), same)
 
--- the items that have a part's ids are the part's items
+-- the items with a part's ids are the part's items
 pub IsItemOf-from_named : (items : List Item) (part : List ℕ) (taken : List Item) → AreNamed items part taken
     → (x : Item) → Contains taken x → IsItemOf items part x
 IsItemOf-from_named items part taken named x there = (
@@ -48,7 +48,7 @@ named-from_IsItemOf items part taken rise named x of =
     subst (Contains taken)
     (same_item items rise y x (All-contains (Contains items) taken y named.members there) of.0 same) there
 
--- what is known of a part's items, once they are sorted
+-- The facts about a part's items once they are sorted.
 pub record AreSorted (items : List Item) (part : List ℕ) (xs : List Item) : Type 0 where
   pub all : (x : Item) → IsItemOf items part x → Contains xs x
   pub only : (x : Item) → Contains xs x → IsItemOf items part x
@@ -78,7 +78,7 @@ ids_differ items part xs are i j d less h same =
     distinct-differ (map (λ (y : Item). y.id) xs) are.distinct i j 0 less (omega arith)
     (get_or-map (λ (y : Item). y.id) xs i d 0 (omega arith) ∙ (same ∙ sym (get_or-map (λ (y : Item). y.id) xs j d 0 h)))
 
--- what is later is not below
+-- a later item isn't below an earlier one
 not_below_later : (xs : List Item) → IsSorted item_cmp xs → (i j : ℕ) (d : Item) → i < j → j < length xs
     → IsBelow (get_or xs j d) (get_or xs i d) → ⊥
 not_below_later xs sorted i j d less h below =
@@ -87,7 +87,7 @@ not_below_later xs sorted i j d less h below =
     let yes : is_lt (item_cmp (get_or xs j d) (get_or xs i d)) ≡ true = ap is_lt below in
     cc
 
--- the order of places is that of the items
+-- items are before each other in the order of their indices
 before_at : (items : List Item) (part : List ℕ) (xs : List Item) → AreSorted items part xs → (i j : ℕ) (d : Item)
     → i < j → j < length xs → IsBefore (get_or xs i d) (get_or xs j d)
 before_at items part xs are i j d less h =
@@ -107,7 +107,7 @@ place_before items part xs are i j d hi hj before = elim (cases_lt i j) [
   ]
 ]
 
--- an item stands at its place, whatever the default
+-- the item at an index, whatever the default
 at_place : (xs : List Item) (k : ℕ) (x d : Item) → k < length xs → get_or xs k x ≡ x → get_or xs k d ≡ x
 at_place xs k x d h is = get_or_default xs k d x h ∙ is
 
@@ -198,7 +198,7 @@ IsChain-from_pairs xs sorted none k d h =
 Overlap-sym : (p q : Period) → Overlap p q → Overlap q p
 Overlap-sym p q (t, one, other) = (t, other, one)
 
--- items at different places of an apart list don't overlap
+-- items with different ids don't overlap if no two items of the list do
 pub no_overlap_apart : (xs : List Item) → IsApart xs → (x y : Item) → Contains xs x → Contains xs y → x.id ≢ y.id
     → Overlap x.period y.period → ⊥
 no_overlap_apart xs apart x y (i, hi, ix) (j, hj, jy) other shared = elim (cases_lt i j) [

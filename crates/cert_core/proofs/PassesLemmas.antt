@@ -1,4 +1,4 @@
--- A claim without a fault is a division of the items, and the other way round.
+-- A claim without a fault is a division of the items, and vice versa.
 use Rattle.std.proofs.Common.{◌≡◌, ℕ, suc, ◌+◌, ◌<◌, ◌≤◌, cond, List, [], ◌∷◌, ◌++◌, length, get_or, arith, refl, sym, ap, ◌∙◌, subst, inl, inr}
 use Rattle.std.specs.Prelude.{All, Contains, map, count_by, ◌==◌, IsPermutation, remove}
 use Rattle.std.proofs.lemmas.List.{map-append, length-map, get_or-map}
@@ -21,7 +21,7 @@ use Rattle.cert_core.specs.Passes.{Passes}
 use Rattle.cert_core.proofs.IdsLemmas.{IsDistinct-append_left, IsDistinct-append_right, distinct-differ, same_item}
 use Rattle.cert_core.proofs.OverlapLemmas.{Contains-id, item_of_id, IsItemOf-from_named, named-from_IsItemOf, no_overlap_apart}
 
--- ---- items of one list are those of another
+-- ---- items of one list are items of another
 
 count-ids : (xs : List Item) (i : ℕ)
     → count_by (λ id. id == i) (map (λ (x : Item). x.id) xs) ≡ count_by (λ x. x.id == i) xs
@@ -48,7 +48,7 @@ HasDistinctIds-tail x xs distinct i =
     let most : count_by (λ (y : Item). y.id == i) (x ∷ xs) ≤ 1 = distinct i in
     omega arith
 
--- the first item is not among the others
+-- the first item isn't among the others
 first_is_new : (x : Item) (xs : List Item) → HasDistinctIds (x ∷ xs) → Contains xs x → ⊥
 first_is_new x xs distinct (k, h, is) =
     let long : length (map (λ (y : Item). y.id) xs) ≡ length xs = length-map xs (λ (y : Item). y.id) in
@@ -188,7 +188,7 @@ filled_parts parts filled =
     (All-weaker (λ part. 0 < length part) (λ part. 0 < length (map (λ (x : Item). x.id) part))
     (λ part some. omega (arith, some, length-map part (λ (x : Item). x.id))) parts filled)
 
--- ---- both ways
+-- ---- both directions
 
 pub IsCertified-from_passes : (items : List Item) (claim : List (List ℕ)) (certificate : Certificate) → IdsRise items
     → Passes items claim certificate → IsCertified items claim certificate

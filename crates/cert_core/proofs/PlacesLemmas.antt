@@ -1,4 +1,4 @@
--- What is known of places is known of the ids there.
+-- Facts about indices imply facts about the ids there.
 use Rattle.std.proofs.Common.{◌≡◌, ◌≢◌, ◌⊎◌, ℕ, zero, suc, ◌+◌, ◌-◌, ◌<◌, ◌≤◌, Bool, Some, true, false, List, [], ◌∷◌, ◌++◌, length, get_or, take, drop, set, arith, refl, sym, ap, ◌∙◌, subst, inl, inr}
 use Rattle.std.specs.Prelude.{All, Contains, count_by, ◌==◌, map, slice_get}
 use Rattle.std.proofs.lemmas.Bool.{eqb-true, cases_lt, eq-eqb}
@@ -14,12 +14,12 @@ use Rattle.cert_core.specs.Verdict.{HasItem, IsMissing}
 use Rattle.cert_core.proofs.ClaimLemmas.{ids_of-part}
 use Rattle.cert_core.proofs.IdsLemmas.{count-cons, IsDistinct-tail, IsDistinct-append_left, IsDistinct-append_right, id_at-get_or, item_at, id_at-rises, same_place}
 
--- ---- the ids at places
+-- ---- the ids at indices
 
 HasItem-at : (items : List Item) (p : ℕ) → p < length items → HasItem items (id_at items p)
 HasItem-at items p h = let (x, is, same) = item_at items p h in (p, x, h, is, sym same)
 
--- the place of an item with the id
+-- the index of an item with the id
 pub place_of_item : (items : List Item) (id : ℕ) → HasItem items id → (p : ℕ) × (p < length items)
     × (id_at items p ≡ id)
 place_of_item items id (p, x, h, is, same) = (p, h, id_at-get_or items p x h ∙ (ap (λ (z : Item). z.id) is ∙ same))
@@ -41,7 +41,7 @@ ArePlaces-push items ids places id p are h is = record {
       ∙ (ap (λ l. l ++ id_at items p ∷ []) are.named ∙ ap (λ n. ids ++ n ∷ []) is);
 }
 
--- an id occurs as often as its place
+-- an id occurs as often as its index
 count-at : (items : List Item) → IdsRise items → (p : ℕ) → p < length items → (qs : List ℕ)
     → All (λ q. q < length items) qs
     → count_by (λ id. id == id_at items p) (map (id_at items) qs) ≡ count_by (λ q. q == p) qs
@@ -136,7 +136,7 @@ AreMarks-push places marks p are h =
       | inr other ↦ get_or-set_other marks p q true false other ∙ was
     ]
 
--- the id of the first place without a mark is missing
+-- the id at the first unmarked index is missing
 pub IsMissing-at : (items : List Item) (ids places : List ℕ) (marks : List Bool) (p : ℕ) → IdsRise items
     → ArePlaces items ids places → AreMarks places marks → length marks ≡ length items → IsFirstUnmarked marks p
     → IsMissing items ids (id_at items p)
@@ -175,7 +175,7 @@ IsMissing-at items ids places marks p rise are marked long free =
       ]
     ]
 
--- where each place is marked, each item's id is there
+-- if each index is marked, the claim has each item's id
 pub complete-at : (items : List Item) (ids places : List ℕ) (marks : List Bool) → ArePlaces items ids places
     → AreMarks places marks → length marks ≡ length items → All (λ mark. mark ≡ true) marks
     → All (λ x. Contains ids x.id) items
@@ -201,7 +201,7 @@ after_is xs n x low h is d =
     let e : n - 1 + 1 ≡ n = omega arith in
     ap (λ m. get_or xs m d) e ∙ sym (get_or_read xs n x h is d)
 
--- ---- a part's places
+-- ---- a part's indices
 
 pub ArePlaces-part : (items : List Item) (claim : List (List ℕ)) (places : List ℕ) (k : ℕ) (part : List ℕ) (start : ℕ)
     → ArePlaces items (ids_of claim) places → slice_get claim k ≡ Some part → start ≡ length (ids_of (take k claim))
@@ -236,7 +236,7 @@ pub ArePlaces-same : (items : List Item) (ids others places at : List ℕ) → i
 ArePlaces-same items ids others places at same is are =
     subst (ArePlaces items others) (sym is) (subst (λ l. ArePlaces items l places) same are)
 
--- what stands twice is one of the places
+-- a repeated index is one of the indices
 pub IsTwice-within : (P : ℕ → Type 0) (places : List ℕ) (p : ℕ) → All P places → IsTwice places p → P p
 IsTwice-within P places p all twice =
     All-contains P places p all

@@ -1,4 +1,4 @@
--- What a binary search for an id finds.
+-- The result of a binary search for an id.
 use Rattle.std.proofs.Common.{◌≡◌, ◌≢◌, ℕ, ◌<◌, List, length, get_or, arith, sym, ap, ◌∙◌, inl, inr}
 use Rattle.std.specs.Prelude.{Result, Ok, Err, MatchOption}
 use Rattle.std.specs.Result.{result_ok}

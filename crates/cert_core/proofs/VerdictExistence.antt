@@ -1,4 +1,4 @@
--- Some verdict is the first that applies: each fault is there, or it is known that it isn't.
+-- Some verdict is the first that applies: each fault is decidable.
 use Rattle.std.proofs.Common.{◌≡◌, ◌≢◌, ◌⊎◌, ℕ, zero, suc, ◌+◌, ◌<◌, ℤ, ◌<ℤ◌, List, [], ◌∷◌, ◌++◌, length, get_or, take, Some, None, Option, arith, refl, sym, ap, ◌∙◌, subst, inl, inr, append_assoc}
 use Rattle.std.specs.Prelude.{All, Contains, MatchOption, IsSorted, slice_get}
 use Rattle.std.specs.List.{AllAdjacentBelow}
@@ -87,7 +87,7 @@ some_unknown items (id ∷ ids) = elim (has_item items id) [
       inl (id, record { before = []; after = ids; stands = refl; unknown = none; first = All-nil (HasItem items) })
 ]
 
--- ---- ids that stand twice
+-- ---- ids that occur twice
 
 is_among : (ids : List ℕ) (id : ℕ) → Contains ids id ⊎ (Contains ids id → ⊥)
 is_among [] id = inr (Contains-none id)
@@ -149,7 +149,7 @@ first_missing (x ∷ items) ids = elim (is_among ids x.id) [
       })
 ]
 
--- of items by rising id, one of a lower id stands before
+-- in ascending ids, an item with a lower id comes earlier
 stands_before : (before : List Item) (x : Item) (after : List Item) → IdsRise (before ++ x ∷ after)
     → (k : ℕ) (y : Item) → k < length (before ++ x ∷ after)
     → get_or (before ++ x ∷ after) k y ≡ y → y.id < x.id → k < length before

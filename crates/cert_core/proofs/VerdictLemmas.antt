@@ -1,4 +1,4 @@
--- What is known of a claim rules out verdicts.
+-- Facts about a claim rule out verdicts.
 use Rattle.std.proofs.Common.{◌≡◌, ◌≢◌, ◌⊎◌, ℕ, ◌<◌, ◌≤◌, ℤ, pos, List, [], ◌∷◌, ◌++◌, length, get_or, Some, None, Option, arith, refl, sym, ap, ◌∙◌, subst, inl, inr}
 use Rattle.std.specs.Prelude.{All, Contains, map, MatchOption, unwrap_or, ◌↔◌}
 use Rattle.std.proofs.lemmas.List.{length-map}
@@ -73,7 +73,7 @@ not_crowded items parts (Some t) right (inr other) = other right.1
 
 -- ---- the first verdict
 
--- no verdict of a lower rank, where each of them is ruled out
+-- no verdict of a lower rank applies if each of them is ruled out
 pub first_verdict : (items : List Item) (claim : List (List ℕ)) (certificate : Certificate) (i : ℕ) → i ≤ 7
     → ((n : ℕ) → 0 < i → IsWrongCount claim certificate n → ⊥)
     → ((k : ℕ) → 1 < i → IsEmptyPart claim k → ⊥)
@@ -141,7 +141,7 @@ not_crowded-first items claim certificate n rise counted filled known distinct c
       (λ n h. absurd (omega arith));
 }
 
--- where all is right, no other verdict applies
+-- if all tests succeed, only `Yes` applies
 passes-first : (items : List Item) (claim : List (List ℕ)) (certificate : Certificate) → IdsRise items
     → Passes items claim certificate
     → (w : Verdict) → rank w < 7 → Applies items claim certificate w → ⊥
@@ -189,7 +189,7 @@ IsLeast-from_certified items claim certificate is =
     subst (IsLeast items) same
     (least-from_instant items is.parts certificate.parts certificate.instant is.division same is.crowded)
 
--- ---- the fault that was found, or none
+-- ---- the fault that was found, or `Yes`
 
 pub verdict-from_fault : (items : List Item) (claim : List (List ℕ)) (certificate : Certificate)
     (fault : Option Verdict) → IdsRise items

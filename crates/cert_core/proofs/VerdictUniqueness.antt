@@ -21,9 +21,9 @@ use Rattle.cert_core.specs.Verdict.{IsWrongCount, HasItem, IsUnknown, IsMissing,
 use Rattle.cert_core.proofs.IdsLemmas.{same_item, distinct-differ}
 use Rattle.cert_core.proofs.VerdictLemmas.{not_overlapping_part}
 
--- ---- the first place of two
+-- ---- the lower of two indices
 
--- where a list is split at two places, the sooner number stands before the later one
+-- if a list is split at two indices, the number at the lower one occurs before the other
 sooner : (ids b1 a1 b2 a2 : List ℕ) (x1 x2 : ℕ) → ids ≡ b1 ++ x1 ∷ a1 → ids ≡ b2 ++ x2 ∷ a2 → length b1 < length b2
     → Contains b2 x1
 sooner ids b1 a1 b2 a2 x1 x2 one other less =
@@ -38,7 +38,7 @@ same_split ids b1 a1 b2 a2 x1 x2 one other same =
     sym (get_or_at b1 x1 a1 0 (length b1) refl)
     ∙ (ap (λ l. get_or l (length b1) 0) (sym one ∙ other) ∙ get_or_at b2 x2 a2 0 (length b1) (sym same))
 
--- the first of two, or one
+-- three cases: less, greater or equal
 first_of_two : (m n : ℕ) {G : Type 0} → (m < n → G) → (n < m → G) → (m ≡ n → G) → G
 first_of_two m n one other same = elim (cases_lt m n) [
   | inl less ↦ one less
@@ -63,7 +63,7 @@ one_unknown items ids a b one other =
     (sooner ids other.before other.after one.before one.after b a other.stands one.stands less))))
     (λ same. same_split ids one.before one.after other.before other.after a b one.stands other.stands same)
 
--- what stands twice in a shorter front stands twice in a longer one
+-- a number that is repeated in a shorter prefix contradicts that a longer prefix has no repetition
 twice_sooner : (ids : List ℕ) (a b : ℕ) (one : IsTwice ids a) (other : IsTwice ids b)
     → length one.before < length other.before → ⊥
 twice_sooner ids a b one other less =
@@ -204,7 +204,7 @@ made-numbers (Overlap n m) = refl
 made-numbers (NotCrowded n) = refl
 made-numbers Yes = refl
 
--- what it says, by these
+-- the verdict's statement in terms of these
 abbrev AppliesAt : List Item → List (List ℕ) → Certificate → ℕ → ℕ → ℕ → Type 0
 AppliesAt items claim certificate zero n m = IsWrongCount claim certificate n × (m ≡ 0)
 AppliesAt items claim certificate (suc zero) n m = IsEmptyPart claim n × (m ≡ 0)

@@ -1,11 +1,11 @@
--- Lists of numbers, and what stands in them twice.
+-- Lists of numbers, and repeated numbers.
 use Rattle.std.specs.Prelude.{◌≡◌, ◌==◌, ℕ, ◌≤◌, List, ◌∷◌, ◌++◌, Contains, count_by}
 
--- no number occurs at two places
+-- No number occurs twice.
 abbrev pub IsDistinct : List ℕ → Type 0
 IsDistinct ids = (i : ℕ) → count_by (λ id. id == i) ids ≤ 1
 
--- the first that stood in the list before
+-- `id` is the first number that occurs earlier in the list.
 pub record IsTwice (ids : List ℕ) (id : ℕ) : Type 0 where
   pub before : List ℕ
   pub after : List ℕ

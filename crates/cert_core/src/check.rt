@@ -1,4 +1,4 @@
-//! The check of a claimed division: the first fault that it has, or that it has none.
+//! The check of a claimed division.
 
 ghost use Rattle.std.specs.Prelude.{◌≡◌, ◌≢◌, ◌<◌, ◌↔◌, length, All, MatchOption, IfOk};
 ghost use Rattle.dip_core.specs.Item.{IdsRise, crowd};
@@ -15,7 +15,7 @@ use dip_core::Item;
 use period_core::Point;
 use std::alloc::Global;
 
-// The first part without ids.
+// Returns the number of the first part without ids.
 fn first_empty(claim: &Claim) -> Option<usize>
     ensures { MatchOption result (All (λ part. 0 < length part) claim.now) (IsEmptyPart claim.now) }
 {
@@ -27,7 +27,7 @@ fn first_empty(claim: &Claim) -> Option<usize>
     None
 }
 
-// How many items hold the instant.
+// Returns the number of items that hold the instant.
 fn crowd_at(items: &[Item], instant: Point) -> u64
     ensures { result ≡ crowd items.now instant }
 {
@@ -37,7 +37,8 @@ fn crowd_at(items: &[Item], instant: Point) -> u64
         .count() as u64
 }
 
-// How many items hold the certificate's instant, where that is not as it says.
+// Returns the number of items that hold the certificate's instant if the certificate is wrong about it, or `None` if
+// it is right.
 fn wrong_crowd(items: &[Item], certificate: &Certificate) -> Option<u64>
     ensures { MatchOption result (HasRightInstant items.now certificate.now)
         (IsNotCrowded items.now certificate.now) }
@@ -53,7 +54,7 @@ fn wrong_crowd(items: &[Item], certificate: &Certificate) -> Option<u64>
     }
 }
 
-// The first fault of the claim and the certificate.
+// Returns the first fault of the claim and the certificate, or `None` without a fault.
 fn first_fault(
     alloc: Global,
     items: &[Item],
@@ -92,10 +93,14 @@ fn first_fault(
     Ok(None)
 }
 
-/// Checks a claimed division of the items, whose ids rise, and its certificate, and answers the
-/// first verdict that applies. It is Yes exactly where the claim's ids are a division of the items
-/// into as many parts as the certificate says, and as many items hold its instant; then no division
-/// has fewer parts.
+/// Checks a claimed division of the items and its certificate, and returns the first verdict that applies. The items'
+/// ids must be ascending. The verdict is `Yes` exactly if the claim's ids are a division of the items, its number of
+/// parts is the certificate's, and the certificate's instant is held by equally many items (without items there is no
+/// instant). Then no division has fewer parts.
+///
+/// # Errors
+///
+/// `NoMemory` if an allocation is refused.
 pub fn check_division(
     alloc: Global,
     items: &[Item],

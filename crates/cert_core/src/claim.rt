@@ -10,11 +10,11 @@ use list_core::start_at;
 use std::alloc::Global;
 use std::marker::Model;
 
-/// A division as somebody claims it: parts, each of them ids of items. Any ids may stand in it.
-/// Contracts see the list of its parts.
+/// A division as somebody claims it: a list of parts, each a list of item ids. Any ids are allowed. Contracts see the
+/// list of parts.
 #[derive(Drop)]
 pub struct Claim {
-    // The ids of all parts, one after another, and where each part ends in them.
+    // The ids of all parts, one after another, and the index in them at which each part ends.
     ids: Vec<u64>,
     ends: Vec<usize>,
 }
@@ -31,7 +31,7 @@ impl Model for Claim {
 }
 
 impl Claim {
-    /// A claim without parts.
+    /// Returns a claim without parts.
     pub fn new(alloc: Global) -> Claim
         ensures { result ≡ [] }
     {
@@ -41,7 +41,7 @@ impl Claim {
         }
     }
 
-    /// Adds an empty part at the end. On NoMemory nothing is changed.
+    /// Appends an empty part. On `NoMemory` nothing is changed.
     pub fn open_part(&mut self) -> Result<(), NoMemory>
         ensures ok { OnOk result (self.new ≡ self.old ++ [] ∷ []) }
         ensures err { OnErr result (self.new ≡ self.old) }
@@ -50,7 +50,7 @@ impl Claim {
         Ok(())
     }
 
-    /// Adds the id at the end of the last part, which there has to be. On NoMemory nothing is changed.
+    /// Appends the id to the last part; there must be one. On `NoMemory` nothing is changed.
     pub fn push(&mut self, id: u64) -> Result<(), NoMemory>
         requires { 0 < length self.old }
         ensures ok { OnOk result (AddsToLast self.old self.new id) }
@@ -62,21 +62,21 @@ impl Claim {
         Ok(())
     }
 
-    /// How many parts there are.
+    /// Returns the number of parts.
     pub fn len(&self) -> usize
         ensures { result ≡ length self.now }
     {
         self.ends.len()
     }
 
-    /// Whether there is no part.
+    /// Returns whether the claim has no part.
     pub fn is_empty(&self) -> bool
         ensures { IsTrue result ↔ (self.now ≡ []) }
     {
         self.len() == 0
     }
 
-    /// The part of that number, from 0 on; None exactly past the last.
+    /// Returns the part with that number, counted from 0, or `None` if it is past the last part.
     pub fn get(&self, number: usize) -> Option<&[u64]>
         ensures { option_copied result ≡ slice_get self.now number }
     {
@@ -87,7 +87,7 @@ impl Claim {
         }
     }
 
-    // The part of that number.
+    // Returns the part with that number.
     pub(crate) fn part(&self, number: usize) -> &[u64]
         requires { number < length self.now }
         ensures { slice_get self.now number ≡ Some result.now }
@@ -95,7 +95,7 @@ impl Claim {
         part_of(&self.ids, &self.ends, number)
     }
 
-    // The ids of all parts.
+    // Returns the ids of all parts, one after another.
     pub(crate) fn ids(&self) -> &[u64]
         ensures { result.now ≡ ids_of self.now }
     {
@@ -103,7 +103,7 @@ impl Claim {
     }
 }
 
-// The ids of that part: those before its end, from the end of the part before it on.
+// Returns the ids between the end of the previous part and the end of this one.
 fn part_of<'a>(ids: &'a [u64], ends: &[usize], number: usize) -> &'a [u64]
     requires there { number < length ends.now }
     requires ends { EndsAt 0 ends.now (length ids.now) }
@@ -114,7 +114,7 @@ fn part_of<'a>(ids: &'a [u64], ends: &[usize], number: usize) -> &'a [u64]
     &ids[start..end]
 }
 
-// The last of these places is moved.
+// Replaces the last end.
 fn move_last(ends: &mut Vec<usize>, end: usize)
     requires { 0 < length ends.old.items }
     ensures { ends.new.items ≡ slice_set ends.old.items (length ends.old.items - 1) end }

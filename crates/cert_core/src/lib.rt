@@ -1,7 +1,7 @@
 #![tactic(auto)]
 
-//! Checks that a claimed division of items is one, and that its certificate shows it to be least,
-//! whoever made them.
+//! Checks whether a claimed division of items is one, and whether its certificate shows that it is least. It doesn't
+//! matter who made them.
 
 mod check;
 mod claim;

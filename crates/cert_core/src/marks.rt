@@ -1,10 +1,10 @@
-//! Marks of the places that a claim names.
+//! Marks for the items that a claim names.
 
 ghost use Rattle.std.specs.Prelude.{◌≡◌, ℕ, ◌<◌, true, false, length, All, MatchOption};
 ghost use Rattle.cert_core.specs.Ids.{IsDistinct, IsTwice};
 ghost use Rattle.cert_core.specs.Places.{AreMarks, IsFirstUnmarked};
 
-// Marks the places, and answers the first of them that is marked already.
+// Marks the items at the given indices. Returns the first index that was marked already, or `None`.
 pub(crate) fn first_twice(places: &[usize], marks: &mut [bool]) -> Option<usize>
     requires within { All (λ p. p < length marks.old) places.now }
     requires none { All (λ mark. mark ≡ false) marks.old }
@@ -20,7 +20,7 @@ pub(crate) fn first_twice(places: &[usize], marks: &mut [bool]) -> Option<usize>
     None
 }
 
-// The first place without a mark.
+// Returns the index of the first unmarked item, or `None`.
 pub(crate) fn first_unmarked(marks: &[bool]) -> Option<usize>
     ensures { MatchOption result (All (λ mark. mark ≡ true) marks.now) (IsFirstUnmarked marks.now) }
 {

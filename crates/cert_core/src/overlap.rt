@@ -1,4 +1,4 @@
-//! Items of one claimed part that overlap.
+//! Overlapping items in one part of a claim.
 
 ghost use Rattle.std.specs.Prelude.{◌≡◌, ℕ, ◌<◌, List, length, All, MatchOption, IfOk, OnOk};
 ghost use Rattle.std.specs.List.{AllAdjacentBelow};
@@ -13,7 +13,7 @@ use crate::{Claim, NoMemory};
 use dip_core::Item;
 use std::alloc::Global;
 
-// The items at the places.
+// Replaces `taken` by the items at the given indices.
 fn take_items(items: &[Item], places: &[usize], taken: &mut Vec<Item>) -> Result<(), NoMemory>
     requires { All (λ p. p < length items.now) places.now }
     ensures { OnOk result ((ids : List ℕ) → ArePlaces items.now ids places.now
@@ -26,7 +26,7 @@ fn take_items(items: &[Item], places: &[usize], taken: &mut Vec<Item>) -> Result
     Ok(())
 }
 
-// The ids of the first two neighbours that overlap.
+// Returns the ids of the first two neighbours that overlap, or `None`.
 fn first_pair(items: &[Item]) -> Option<(u64, u64)>
     ensures { MatchOption result
         (AllAdjacentBelow (λ x y. Overlap x.period y.period → ⊥) items.now (length items.now))
@@ -41,7 +41,7 @@ fn first_pair(items: &[Item]) -> Option<(u64, u64)>
     None
 }
 
-// The first overlap of a part, of which these are its items' places.
+// Returns the first overlap of a part. `places` are the indices of its items.
 fn overlap_of(
     items: &[Item],
     places: &[usize],
@@ -59,7 +59,8 @@ fn overlap_of(
     Ok(first_pair(taken))
 }
 
-// The first overlap in the first part that has one, of which these are all ids' places.
+// Returns the first overlap in the first part that has one. `places` are the indices of the items for all ids of the
+// claim.
 pub(crate) fn first_overlap(
     alloc: Global,
     items: &[Item],

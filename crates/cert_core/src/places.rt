@@ -1,4 +1,4 @@
-//! The places of items, by their ids.
+//! Items by id.
 
 ghost use Rattle.std.specs.Prelude.{◌≡◌, ◌≢◌, ℕ, ◌<◌, [], length, vec_len, MatchOption, IfOk, IfSome};
 ghost use Rattle.dip_core.specs.Item.{IdsRise};
@@ -8,7 +8,7 @@ ghost use Rattle.cert_core.specs.Verdict.{IsUnknown};
 use crate::NoMemory;
 use dip_core::Item;
 
-// The place of the item that has the id.
+// Returns the index of the item with the id.
 fn place_of(items: &[Item], id: u64) -> Option<usize>
     requires { IdsRise items.now }
     ensures { MatchOption result ((p : ℕ) → p < length items.now → id_at items.now p ≢ id)
@@ -20,7 +20,7 @@ fn place_of(items: &[Item], id: u64) -> Option<usize>
     items.binary_search_by_key(&id, |item| item.id).ok()
 }
 
-// Where the id's item is if none is missing between it and the first, as often none is.
+// Returns the index of the item with the id, if the ids from the first item to that one have no gap, as is often so.
 fn place_by_count(items: &[Item], id: u64) -> Option<usize>
     ensures { IfSome result (λ p. (p < length items.now) × (id_at items.now p ≡ id)) }
 {
@@ -30,7 +30,7 @@ fn place_by_count(items: &[Item], id: u64) -> Option<usize>
     if item.id == id { Some(place) } else { None }
 }
 
-// Finds the place of each id's item, and answers the first id that no item has.
+// Finds the index of the item for each id. Returns the first id that no item has, or `None`.
 pub(crate) fn find_places(
     items: &[Item],
     ids: &[u64],

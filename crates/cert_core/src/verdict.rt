@@ -1,35 +1,35 @@
-//! What is claimed of a division, and what a check says of it.
+//! Certificates and verdicts.
 
 use period_core::Point;
 
-/// What is claimed of a division: how many parts it has, and an instant that as many items hold,
-/// which shows that no division has fewer.
+/// What somebody claims about a division: its number of parts, and an instant that equally many items hold. Such an
+/// instant shows that no division has fewer parts.
 #[derive(Clone, Copy, Debug, PartialEq, Eq)]
 pub struct Certificate {
-    /// How many parts the division has.
+    /// The number of parts.
     pub parts: u64,
-    /// An instant that as many items hold as there are parts; None without items.
+    /// An instant whose overlap count is the number of parts; `None` without items.
     pub instant: Option<Point>,
 }
 
-/// The first fault of a claim and its certificate, in this order, or Yes.
+/// The first fault of a claim and its certificate, in this order, or `Yes`.
 #[derive(Clone, Copy, Debug, PartialEq, Eq)]
 pub enum Verdict {
-    /// The claim has that many parts, and the certificate says another count.
+    /// The claim's number of parts; the certificate states another one.
     WrongCount(u64),
-    /// The first part without ids, by its number from 0 on.
+    /// The number of the first part without ids, counted from 0.
     EmptyPart(u64),
-    /// The first id of the claim that no item has.
+    /// The claim's first id that no item has.
     Unknown(u64),
-    /// The first id of the claim that stood in it before.
+    /// The claim's first id that occurs earlier in it.
     Twice(u64),
-    /// The least id of an item that isn't in the claim.
+    /// The least item id that the claim leaves out.
     Missing(u64),
-    /// In the first part with an overlap, its items taken by start, end and id: the second is the
-    /// first item that overlaps the one just before it, and the first is that one.
+    /// Two ids from the first part with an overlap, whose items are sorted by start, end and id. The first item that
+    /// overlaps the item just before it has the second id; the item before it has the first id.
     Overlap(u64, u64),
-    /// So many items hold the instant, which is not the certificate's count; 0 where the instant is
-    /// lacking, or where there are no items and it isn't.
+    /// The number of items that hold the certificate's instant, if it isn't the certificate's number of parts. It is 0
+    /// if there are items and no instant, or an instant and no items.
     NotCrowded { holds: u64 },
     /// The claim is a division of the items, and no division has fewer parts.
     Yes,

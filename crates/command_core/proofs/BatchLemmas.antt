@@ -1,4 +1,4 @@
--- Records in batches, one behind another.
+-- Records in consecutive batches.
 use Rattle.std.proofs.Common.{◌≡◌, ℕ, suc, ◌+◌, ◌<◌, ◌∙◌, ◌++◌, ◌∷◌, [], List, Option, None, Some, ap, append-nil, arith, drop, get_or, length, refl, sym, take}
 use Rattle.std.specs.Prelude.{option_map}
 use Rattle.std.specs.Option.{option_or}
@@ -6,21 +6,21 @@ use Rattle.std.proofs.Math.Seq.{drop-append_seam, take-suc}
 use Rattle.std.proofs.lemmas.List.Concat.{flat_map-append}
 use Rattle.command_core.specs.Seams.{joined, last}
 
--- lists behind others
+-- Appended lists.
 pub joined-append : {X : Type 0} (xs ys : List (List X)) → joined (xs ++ ys) ≡ joined xs ++ joined ys
 joined-append {X} xs ys = flat_map-append (λ (list : List X). list) xs ys
 
--- one list more
+-- One more list.
 pub joined-push : {X : Type 0} (xs : List (List X)) (y : List X) → joined (xs ++ y ∷ []) ≡ joined xs ++ y
 joined-push xs y = joined-append xs (y ∷ []) ∙ ap (λ l. joined xs ++ l) (append-nil y)
 
--- all but the first list
+-- All lists except the first.
 pub joined-rest : {X : Type 0} (lists rest : List (List X)) (list : List X) → lists ≡ list ∷ rest
     → joined rest ≡ drop (length list) (joined lists)
 joined-rest lists rest list e =
     sym (ap (λ l. drop (length list) (joined l)) e ∙ drop-append_seam list (joined rest))
 
--- the last of two lists is the second one's, if it has one
+-- The last item of two lists is the second list's, if it has one.
 pub last-both : {X : Type 0} (xs ys : List X) → last (xs ++ ys) ≡ option_or (last ys) (last xs)
 last-both xs [] = ap last (append-nil xs)
 last-both xs (y ∷ ys) = by xs y ys
@@ -35,12 +35,12 @@ last-both xs (y ∷ ys) = by xs y ys
     by (x ∷ []) y ys = sym (there y ys (Some x))
     by (x ∷ z ∷ xs) y ys = by (z ∷ xs) y ys
 
--- that of lists of records, one behind the other
+-- The same for two lists of records.
 pub last-joined : {X : Type 0} (xs ys : List (List X))
     → last (joined (xs ++ ys)) ≡ option_or (last (joined ys)) (last (joined xs))
 last-joined xs ys = ap last (joined-append xs ys) ∙ last-both (joined xs) (joined ys)
 
--- that of batches up to one more
+-- The same for the batches up to index `i` and one more.
 pub last-more : {X : Type 0} (batches : List (List (List X))) (i : ℕ) (batch : List (List X)) → i < length batches
     → batch ≡ get_or batches i batch
     → last (joined (joined (take (i + 1) batches)))
@@ -53,7 +53,7 @@ last-more batches i batch within is =
     ∙ ap (λ l. last (joined l)) (joined-push (take i batches) batch)
     ∙ last-joined (joined (take i batches)) batch
 
--- what is made of the one that is there
+-- Mapping the chosen option is choosing among the mapped ones.
 pub option_map-or : {A B : Type 0} (f : A → B) (o p : Option A)
     → option_map f (option_or o p) ≡ option_or (option_map f o) (option_map f p)
 option_map-or f None p = refl

@@ -1,4 +1,4 @@
--- How many records a command has behind its first: none, but for a block.
+-- Only a block has records after its first.
 use Rattle.std.proofs.Common.{ℕ, ◌+◌, ◌≤◌, [], ◌∷◌, Bool, true, false, List, length, Option, Some, None, Result, Ok, Err, arith}
 use Rattle.std.specs.Prelude.{codes, if◌then◌else◌}
 use Rattle.row_core.specs.Refusals.{and_then, map_ok}
@@ -14,7 +14,7 @@ use Rattle.command_core.specs.declared.refusal.Refusal.{Refusal}
 use Rattle.command_core.specs.declared.words.Verb.{Verb}
 use Rattle.command_core.specs.declared.words.Verb.TheVariants as verb
 
--- at most so many
+-- The command has at most `most` records after its first.
 abbrev HasBehind : ℕ → ℕ → Result Meaning Refusal → Type 0
 HasBehind most number r = behind_length (meaning_or_refusal number r) ≤ most
 
@@ -79,7 +79,7 @@ log-has number [] = omega arith
 log-has number (word ∷ []) = omega arith
 log-has number (word ∷ second ∷ rest) = omega arith
 
--- a command of one record has none
+-- A command of one record has none.
 pub record-behind : (number : ℕ) (line : Record) (v : Option Verb)
     → behind_length (meaning_or_refusal number (verb_meaning line v)) ≤ 0
 record-behind number line None = omega arith
@@ -96,7 +96,7 @@ record-behind number line (Some verb.Anti) = made 0 number _ (with_asof compared
 record-behind number line (Some verb.Agg) = made 0 number _ (with_asof aggregated line) (λ r. omega arith)
 record-behind number line (Some verb.Log) = log-has number line
 
--- a block has its body, and its `end`
+-- A block has at most its body and its `end`.
 pub block-behind : (number : ℕ) (opening : Record) (body : List Record)
     → behind_length (meaning_or_refusal number (block_meaning opening body)) ≤ length body + 1
 block-behind number opening body = by (begins (codes "load") opening)

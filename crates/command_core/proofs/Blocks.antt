@@ -1,4 +1,4 @@
--- How the first records of some are a block of commands.
+-- When the first records of a list are a block of commands.
 use Rattle.std.proofs.Common.{◌≡◌, ◌⊎◌, ℕ, suc, ◌+◌, ◌<◌, ◌≤◌, List, [], ◌∷◌, ◌++◌, length, take, drop, true, false, Some, None, Option, Ok, Err, refl, ap, sym, subst, ◌∙◌, arith, inl, inr, length-take}
 use Rattle.std.specs.List.{slice_get}
 use Rattle.std.specs.Option.{IfSome}
@@ -13,11 +13,11 @@ use Rattle.command_core.specs.declared.refusal.Refusal.TheVariants.{BadCommand, 
 use Rattle.command_core.proofs.Cutting.{drop-slice_get, slice_get-there, take-slice_get}
 use Rattle.command_core.proofs.Members.{AreMembers-more, closed-member, first_own, opened}
 
--- these records are some commands', whatever the number of the first
+-- These records belong to some commands, whatever the number of the first.
 abbrev pub HaveMembers : List Record → Type 0
 HaveMembers records = (number : ℕ) → (members : List Member) × AreMembers number records members
 
--- these are one command's, whatever the number of the first
+-- These records belong to one command, whatever the number of the first.
 abbrev pub HaveMeaning : List Record → Type 0
 HaveMeaning records = (number : ℕ) → (alone : Meaning)
     × (MeansRecord number records alone ⊎ MeansBlock number records alone)
@@ -25,16 +25,16 @@ HaveMeaning records = (number : ℕ) → (alone : Meaning)
 pub no-members : HaveMembers []
 no-members number = ([], refl)
 
--- the records before a place, and those of the command there
+-- The records before an index, then the records of the command there.
 pub take-own : (xs rest : List Record) (at n : ℕ) → rest ≡ drop at xs → take (at + n) xs ≡ take at xs ++ take n rest
 take-own xs rest at n r = take-add at n xs ∙ ap (λ l. take at xs ++ take n l) (sym r)
 
--- the records from a place on begin with those of the command there
+-- The records from an index on begin with the records of the command there.
 first-own : (xs rest : List Record) (x : Record) (at n : ℕ) → rest ≡ drop at xs → slice_get xs at ≡ Some x
     → x ∷ drop (at + 1) xs ≡ take n rest ++ drop n rest
 first-own xs rest x at n r e = sym (drop-slice_get xs at x e) ∙ (sym r ∙ sym (take-append-drop n rest))
 
--- one command more
+-- One more command.
 pub members-more : (xs rest : List Record) (x : Record) (at n : ℕ) → rest ≡ drop at xs → slice_get xs at ≡ Some x
     → at < length xs → is_end x ≡ false → HaveMeaning (take n rest) → HaveMembers (take at xs)
     → HaveMembers (take (at + n) xs)
@@ -55,7 +55,7 @@ members-more xs rest x at n r e within stands whole have number =
 
 module _ (xs rest : List Record) (x : Record) (number : ℕ) (r : rest ≡ drop 1 xs) (e : slice_get xs 0 ≡ Some x)
     (opens : begins (codes "together") x ≡ true) where
-  -- up to its `end`
+  -- A block up to its `end`.
   pub states-together : (n : ℕ) (members : List Member) → n < length rest
       → AreMembers (number + 1) (take n rest) members → IfSome (slice_get rest n) (λ line. is_end line ≡ true)
       → StatesTogether number (take (n + 2) xs) (stated number (opened_together x (placed_in false members)))
@@ -79,7 +79,7 @@ module _ (xs rest : List Record) (x : Record) (number : ℕ) (r : rest ≡ drop 
             states = refl;
           }
 
-  -- without its `end`
+  -- A block without its `end`.
   pub states-unended : (size n : ℕ) (members : List Member) → size ≡ length xs
       → AreMembers (number + 1) (take n rest) members → IsOpen (drop n rest)
       → StatesUnended number (take size xs) (drop size xs) (One (refuse number Unended))
@@ -100,7 +100,7 @@ module _ (xs rest : List Record) (x : Record) (number : ℕ) (r : rest ≡ drop 
         states = refl;
       }
 
--- the one field, or more
+-- The first record has one field, or more.
 pub opened-one : (opening : Record) (commands : List Placed) → length opening ≡ 1
     → opened_together opening commands ≡ Ok commands
 opened-one [] commands e = absurd (omega arith)
@@ -115,7 +115,7 @@ opened-more (word ∷ second ∷ fields) commands more = refl
 
 -- ---- a command
 
--- a command that opens no block of commands
+-- A command that opens no block of commands.
 pub states-one : (xs : List Record) (x : Record) (number taken : ℕ) (meaning : Meaning) → slice_get xs 0 ≡ Some x
     → begins (codes "together") x ≡ false → Means number (take taken xs) (drop taken xs) meaning
     → StatesOne number (take taken xs) (drop taken xs) (One meaning)
@@ -135,7 +135,7 @@ states-one xs x number taken meaning e plain means =
 
 -- ---- other numbers
 
--- the command alone, with another number
+-- What the command means by itself, with another number.
 renumbered-closed : (number other : ℕ) (own : List Record) (alone : Meaning)
     → MeansRecord number own alone ⊎ MeansBlock number own alone
     → (again : Meaning) × (MeansRecord other own again ⊎ MeansBlock other own again)
@@ -157,7 +157,7 @@ renumbered-closed number other own alone (inr b) = (
   }),
 )
 
--- records that are some commands' are so whatever the number of the first
+-- Whether records belong to commands doesn't depend on the first number.
 pub have-members : (number : ℕ) (records : List Record) (members : List Member) → AreMembers number records members
     → HaveMembers records
 have-members number records [] are other = ([], are)

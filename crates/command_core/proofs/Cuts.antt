@@ -1,4 +1,4 @@
--- How the first records of some are one command's.
+-- When the first records of a list belong to one command.
 use Rattle.std.proofs.Common.{◌≡◌, ℕ, zero, suc, ◌+◌, ◌<◌, ◌≤◌, List, [], ◌∷◌, ◌++◌, length, take, drop, true, false, All, Some, None, Option, refl, ap, subst, ◌∙◌, arith, inr}
 use Rattle.std.specs.List.{slice_get}
 use Rattle.std.specs.Option.{IfSome}
@@ -10,7 +10,7 @@ use Rattle.command_core.specs.Meaning.{Meaning, Means, MeansBlock, MeansRecord, 
 use Rattle.command_core.specs.declared.refusal.Refusal.TheVariants.{Unended}
 use Rattle.command_core.proofs.Cutting.{slice_get-there, take-slice_get}
 
--- a block up to its end
+-- A block up to its `end`.
 pub block-means : (xs : List Record) (x : Record) (number n : ℕ) (meaning : Meaning) (rest : List Record)
     → rest ≡ drop 1 xs → slice_get xs 0 ≡ Some x → opens_block x ≡ true
     → n < length rest → IsBody (take n rest) → IfSome (slice_get rest n) (λ line. is_end line ≡ true)
@@ -35,7 +35,7 @@ block-means (y ∷ ys) x number n meaning rest r e opens within before last mean
           means = means;
         }
 
--- one more record that ends no block
+-- One more record that doesn't end the block.
 pub IsBody-more : (xs : List Record) (x : Record) → IsBody xs → is_end x ≡ false → IsBody (xs ++ x ∷ [])
 IsBody-more xs x body e = All-append (λ line. is_end line ≡ false) xs (x ∷ []) body one
   where
@@ -43,7 +43,7 @@ IsBody-more xs x body e = All-append (λ line. is_end line ≡ false) xs (x ∷ 
     one zero d lt = e
     one (suc k) d lt = absurd (omega arith)
 
--- a block whose end is not among the records
+-- A block whose `end` isn't among the records.
 pub unended-means : (xs : List Record) (x : Record) (number size : ℕ) (rest : List Record) → size ≡ length xs
     → rest ≡ drop 1 xs → slice_get xs 0 ≡ Some x → opens_block x ≡ true → IsBody rest
     → Means number (take size xs) (drop size xs) (refuse number Unended)
@@ -61,7 +61,7 @@ unended-means (y ∷ ys) x number size rest n r e opens body =
       means = refl;
     }))
 
--- a command of one record
+-- A command of one record.
 pub record-means : (xs : List Record) (x : Record) (number : ℕ) → slice_get xs 0 ≡ Some x → opens_block x ≡ false
     → MeansRecord number (take 1 xs) (meaning_or_refusal number (record_meaning x))
 record-means [] x number e plain = absurd (cc e)

@@ -1,4 +1,4 @@
--- Parts of a list between two places.
+-- The part of a list between two indices.
 use Rattle.std.proofs.Common.{◌≡◌, ℕ, zero, suc, ◌+◌, ◌-◌, ◌<◌, ◌≤◌, List, [], ◌∷◌, ◌++◌, length, take, drop, Some, None, refl, ap, ◌∙◌, arith}
 use Rattle.std.specs.List.{slice_get}
 use Rattle.csv.specs.Records.{field_at}
@@ -6,7 +6,7 @@ use Rattle.std.proofs.lemmas.List.{take_all, length-take, length-drop, drop-take
 use Rattle.std.proofs.lemmas.Option.{slice_get_past}
 use Rattle.list_core.proofs.PlaceLemmas.{slice_get-take, slice_get-drop}
 
--- an element of a part
+-- An element of a part.
 pub slice_get-part : {X : Type 0} (from to : ℕ) (xs : List X) (i : ℕ) → i < to - from
     → slice_get (take (to - from) (drop from xs)) i ≡ slice_get xs (from + i)
 slice_get-part from to xs i lt = slice_get-take (to - from) (drop from xs) i lt ∙ slice_get-drop from xs i
@@ -20,20 +20,20 @@ pub slice_get-part-past : {X : Type 0} (from to : ℕ) (xs : List X) (i : ℕ) �
 slice_get-part-past from to xs i h =
     slice_get_past (take (to - from) (drop from xs)) i (omega (arith, length-take (to - from) (drop from xs)))
 
--- all from a place on
+-- The part from an index to the end.
 pub rest-from : {X : Type 0} (xs rest : List X) (n k : ℕ) → n ≡ length xs → rest ≡ take (n - k) (drop k xs)
     → rest ≡ drop k xs
 rest-from xs rest n k size e = e ∙ take_all (n - k) (drop k xs) (omega (arith, size, length-drop k xs))
 
--- all before a place
+-- The part before an index.
 pub part-first : {X : Type 0} (xs part : List X) (k : ℕ) → part ≡ take (k - 0) (drop 0 xs) → part ≡ take k xs
 part-first xs part k e = let whole : k - 0 ≡ k = omega arith in e ∙ ap (λ n. take n xs) whole
 
--- none from the end on
+-- The part from the end is empty.
 pub part-none : {X : Type 0} (xs part : List X) (n m : ℕ) → n ≡ m → part ≡ take (n - m) (drop m xs) → part ≡ []
 part-none xs part n m same e = let none : n - m ≡ 0 = omega (arith, same) in e ∙ ap (λ l. take l (drop m xs)) none
 
--- a part of a part
+-- A part of a part.
 pub part-part : {X : Type 0} (a b from to : ℕ) (xs : List X) → from ≤ to → to ≤ b - a
     → take (to - from) (drop from (take (b - a) (drop a xs))) ≡ take ((a + to) - (a + from)) (drop (a + from) xs)
 part-part a b from to xs h within =

@@ -1,11 +1,11 @@
--- What a reader of records of any length is stopped by.
+-- The faults that stop a reader of records of any length.
 use Rattle.std.proofs.Common.{◌≡◌, ℕ, List, Option, true, false, refl}
 use Rattle.csv.specs.Reading.{ExplainsRead, is_flexible, stops_reader}
 use Rattle.csv.specs.declared.error.ErrorKind.{ErrorKind}
 use Rattle.csv.specs.declared.error.ErrorKind.TheVariants as kind
 use Rattle.csv.specs.declared.reader.Reader.{Reader}
 
--- no fault of reading bytes is of a record's length or of its text
+-- Such a reader never fails because of a record's length or its text.
 pub flexible-stops : {R : Type 0} (rem : R → Option (List ℕ)) (old new : Reader R) (k : ErrorKind)
     → is_flexible old ≡ true → ExplainsRead rem old new false k → stops_reader k ≡ true
 flexible-stops rem old new (kind.Io e) flexible why = refl

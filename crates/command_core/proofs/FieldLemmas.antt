@@ -1,4 +1,4 @@
--- What the fields at the first places say of a record.
+-- What the fields at the first indices say about a record.
 use Rattle.std.proofs.Common.{◌≡◌, ◌+◌, ℕ, zero, suc, List, [], ◌∷◌, Bool, true, false, drop, length, take, Some, None, refl, ap, arith}
 use Rattle.std.specs.Prelude.{codes, if◌then◌else◌}
 use Rattle.std.specs.List.{slice_get}
@@ -29,7 +29,7 @@ dated-three (word ∷ n ∷ p ∷ []) name point one two three =
     rw (first, second) refl
 dated-three (word ∷ n ∷ p ∷ fourth ∷ rest) name point one two three = absurd (cc three)
 
--- three fields behind the word, and no other
+-- A record with just three fields after its word.
 three_behind : (P : Record → Type 0) (line : Record) (name second third : List ℕ) → slice_get line 1 ≡ Some name
     → slice_get line 2 ≡ Some second → slice_get line 3 ≡ Some third → slice_get line 4 ≡ None
     → ((word : List ℕ) → P (word ∷ name ∷ second ∷ third ∷ [])) → P line
@@ -60,7 +60,7 @@ claimed-four line name parts instant one two three four =
     (λ l. claimed l ≡ both_ok (name_in name)
     (both_ok (natural_in parts) (instant_in instant))) line name parts instant one two three four (λ word. refl)
 
--- the two names of a record, and the fields behind them
+-- A record's two names, and the fields after them.
 pub compared-two : (line : Record) (left right : List ℕ) → slice_get line 1 ≡ Some left → slice_get line 2 ≡ Some right
     → compared line ≡ and_then (ok_or (paired_behind (codes "on") (drop 3 line)) BadCommand)
     (λ names. map_ok compared_by (both_ok (both_ok (name_in left) (name_in right)) (name_pairs names)))
@@ -74,7 +74,7 @@ compared-two (word ∷ l ∷ r ∷ rest) left right one two =
 
 -- ---- the suffix
 
--- whether the last field but one is `asof` decides
+-- The suffix is there if and only if the second to last field is `asof`.
 pub split_asof-two : (k : ℕ) (line : Record) (test : Bool) → length line ≡ k + 2
     → begins (codes "asof") (drop k line) ≡ test
     → split_asof line ≡ (if test then (take k line, slice_get line (k + 1)) else (line, None))

@@ -1,4 +1,4 @@
--- How a block of commands is searched for its first load.
+-- The search for the first load of a block of commands.
 use Rattle.std.proofs.Common.{◌≡◌, ℕ, ◌+◌, ◌<◌, ◌≤◌, List, [], ◌∷◌, ◌++◌, All, length, take, drop, true, false, Some, refl, ap, sym, subst, ◌∙◌, arith, append_assoc, length-take}
 use Rattle.std.specs.List.{slice_get}
 use Rattle.std.specs.Prelude.{codes}
@@ -12,11 +12,11 @@ use Rattle.command_core.proofs.Cutting.{drop-slice_get}
 use Rattle.command_core.proofs.Members.{AreMembers-more, closed-means}
 use Rattle.command_core.proofs.Next.{Firsts-opening, alone-opening, firsts, members-alone, members-closed}
 
--- it is no load
+-- The member isn't a load.
 abbrev IsPlain : Member → Type 0
 IsPlain member = begins_load member ≡ false
 
--- no member before a place is a load
+-- No member before index `at` is a load.
 pub record Searched (lines : List Record) (at number : ℕ) (members : List Member) : Type 0 where
   pub front : List Member
   pub back : List Member
@@ -25,7 +25,7 @@ pub record Searched (lines : List Record) (at number : ℕ) (members : List Memb
   pub from : AreMembers (number + at) (drop at lines) back
   pub none : All IsPlain front
 
--- so for each list of members, whatever the number of the first
+-- The same for each list of members, whatever the number of the first.
 abbrev pub IsSearched : List Record → ℕ → Type 0
 IsSearched lines at =
     (number : ℕ) (members : List Member) → AreMembers number lines members → Searched lines at number members
@@ -42,14 +42,14 @@ searched-none lines number members are =
       none = All-nil IsPlain;
     }
 
--- some records are left at a place before the end
+-- Before the end, some records are left.
 left : (lines : List Record) (at : ℕ) → at < length lines → 0 < length (drop at lines)
 left lines at within = omega (arith, length-drop at lines)
 
 placed : (lines : List Record) (at : ℕ) → at < length lines → length (take at lines) ≡ at
 placed lines at within = omega (arith, length-take at lines)
 
--- one member more, which is no load
+-- One more member that isn't a load.
 pub searched-more : (lines rest : List Record) (x : Record) (at n : ℕ) → rest ≡ drop at lines
     → slice_get lines at ≡ Some x → at < length lines → n ≤ length rest → begins (codes "load") x ≡ false
     → HaveMeaning (take n rest) → IsSearched lines at → IsSearched lines (at + n)
@@ -79,7 +79,7 @@ searched-more lines rest x at n r e within fits plain whole found number members
           (All-nil IsPlain));
     }
 
--- the member at a place is a load
+-- The member at index `at` is a load.
 pub searched-found : (lines : List Record) (x : Record) (at number : ℕ) (members : List Member)
     → slice_get lines at ≡ Some x → at < length lines → begins (codes "load") x ≡ true
     → Searched lines at number members → IsSplit number members (take at lines) (drop at lines)
@@ -101,7 +101,7 @@ searched-found lines x at number members e within loads old =
           (subst (λ l. AreMembers (number + at) (drop at lines) l) f.are old.from);
     }
 
--- there is no member behind the end
+-- At the end, no member is a load.
 pub searched-all : (lines : List Record) (at number : ℕ) (members : List Member) → length lines ≤ at
     → Searched lines at number members → All IsPlain members
 searched-all lines at number members beyond old =
@@ -115,7 +115,7 @@ searched-all lines at number members beyond old =
         sym (drop_all at lines beyond) ∙ (split ∙ ap (λ l. l ++ later) is.whole) in
         absurd (cc none)
 
--- the member at a place has its `end`
+-- The member at index `at` has its `end`.
 pub searched-closed : (lines rest : List Record) (at : ℕ) → rest ≡ drop at lines → at < length lines
     → IsSearched lines at → HaveMembers lines → IsOpen rest → ⊥
 searched-closed lines rest at r within found whole unclosed =

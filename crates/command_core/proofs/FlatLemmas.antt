@@ -1,4 +1,4 @@
--- Fields that are kept one behind another, and more behind them.
+-- Fields that are stored flat, and fields appended to them.
 use Rattle.std.proofs.Common.{◌≡◌, ℕ, ◌+◌, ◌-◌, ◌≤◌, List, [], ◌∷◌, ◌++◌, length, take, drop, refl, sym, ap, ◌∙◌, arith, length-append, take_at, drop_at, take-add, drop-drop}
 use Rattle.std.specs.List.{concat}
 use Rattle.std.proofs.lemmas.List.Sums.{sum_by-cons}
@@ -10,7 +10,7 @@ use Rattle.command_core.specs.Flat.{ends_from, size_of}
 use Rattle.command_core.specs.Records.{Record}
 use Rattle.command_core.proofs.Cutting.{length-part}
 
--- one field more
+-- One more field.
 pub ends_from_push : (start : ℕ) (fields : Record) (field : List ℕ)
     → ends_from start (fields ++ field ∷ []) ≡ ends_from start fields ++ (start + size_of fields + length field) ∷ []
 ends_from_push start [] field =
@@ -22,7 +22,7 @@ ends_from_push start (f ∷ fields) field =
     (ends_from_push (start + length f) fields field
     ∙ ap (λ n. ends_from (start + length f) fields ++ n ∷ []) here)
 
--- the fields of a record are the first of its bytes
+-- The fields of a record are a prefix of its bytes.
 
 flat-from : (start : ℕ) (ends bytes : List ℕ) → Rising start ends (length bytes)
     → (concat (cut_from start ends bytes) ≡ take (size_of (cut_from start ends bytes)) (drop start bytes))
@@ -50,7 +50,7 @@ pub record-flat : (row : Row) → IsRecord row
 record-flat row h =
     let flat = flat-from 0 row.ends row.bytes h in (flat.0, omega (arith, flat.1))
 
--- fields behind others
+-- Appended fields.
 
 cut-fields : (at : ℕ) (fields : Record) (xs : List ℕ) → drop at xs ≡ concat fields
     → cut at (ends_from at fields) xs ≡ fields
@@ -72,7 +72,7 @@ EndsAt-fields at (field ∷ fields) =
     omega (arith, length-append field (concat fields)) in
     (omega arith, rw sum (EndsAt-fields (at + length field) fields))
 
--- the fields of a record behind others, by its bytes and by where its fields end
+-- A record's fields appended to others, by the record's bytes and the ends of its fields.
 pub appended : (row : Row) (ends bytes grown longer text : List ℕ) (start last : ℕ) → IsRecord row
     → EndsAt 0 ends (length bytes) → start ≡ length bytes → last ≡ start + size_of (fields_of row)
     → text ≡ text_of row → grown ≡ ends ++ ends_from start (fields_of row)

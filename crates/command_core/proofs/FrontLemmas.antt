@@ -1,4 +1,4 @@
--- A script that is read front by front.
+-- A script that is read prefix by prefix.
 use Rattle.std.proofs.Common.{◌≡◌, ◌≢◌, ℕ, suc, ◌+◌, ◌<◌, ◌≤◌, ◌∙◌, List, [], ◌∷◌, ◌++◌, Option, None, Some, ap, append-nil, append_assoc, arith, drop, get_or, inl, inr, length, refl, subst, sym, take, take-append-drop}
 use Rattle.std.specs.Prelude.{IfSome}
 use Rattle.std.specs.Option.{option_or}
@@ -14,7 +14,7 @@ use Rattle.command_core.proofs.SeamLemmas.{records-both, records-none}
 
 -- ---- byte order marks
 
--- a text that begins with none doesn't where it is cut short
+-- If a text has no byte order mark, nor has a prefix of it.
 unmarked-front : (text back : List ℕ) → strip_bom (text ++ back) ≡ text ++ back → strip_bom text ≡ text
 unfolding strip_bom
 unmarked-front [] back same = refl
@@ -27,7 +27,7 @@ unmarked-front (a ∷ b ∷ c ∷ rest) back same = elim (cases_Bool (is_bom a b
   | inr plain ↦ rw plain refl
 ]
 
--- a text of three bytes or more that begins with none doesn't where more stands behind it
+-- If a text of at least three bytes has no byte order mark, nor has a longer one.
 pub unmarked-more : (text more : List ℕ) → 3 ≤ length text → strip_bom text ≡ text
     → strip_bom (text ++ more) ≡ text ++ more
 unfolding strip_bom
@@ -43,7 +43,7 @@ unmarked-more (a ∷ b ∷ c ∷ rest) more long same = elim (cases_Bool (is_bom
 
 -- ---- last fields
 
--- of records and others behind them
+-- The last field of two lists of records.
 EndsInField-both : (records others : List Record) → EndsInField records → EndsInField others
     → EndsInField (records ++ others)
 EndsInField-both records others first second =
@@ -55,7 +55,7 @@ EndsInField-both records others first second =
     by None second = first
     by (Some field) second = second
 
--- of lists of records, up to one more
+-- The last field of the lists up to index `i` and one more.
 pub EndsInField-more : (lists : List (List Record)) (i : ℕ) (records : List Record) → i < length lists
     → records ≡ get_or lists i records → EndsInField (joined (take i lists)) → EndsInField records
     → EndsInField (joined (take (i + 1) lists))
@@ -68,14 +68,14 @@ EndsInField-more lists i records within is first second =
     ∙ joined-push (take i lists) records in
     subst EndsInField (sym all) (EndsInField-both (joined (take i lists)) records first second)
 
--- ---- fronts
+-- Prefixes
 
--- nothing is read yet
+-- Nothing was read yet.
 pub front-none : (next : List ℕ) → AreOfFront [] [] next
 unfolding Reached next_record strip_bom
 front-none next = record { are = (st.StartRecord, [], (refl, refl), refl); seam = inl refl }
 
--- more bytes come next
+-- More bytes come next.
 pub front-longer : (front next more : List ℕ) (records : List Record) → AreOfFront front records next
     → AreOfFront front records (next ++ more)
 front-longer front next more records of = record {
@@ -86,7 +86,7 @@ front-longer front next more records of = record {
   ];
 }
 
--- the records of a front, and of bytes that stand behind it
+-- The records of a prefix, and of the bytes after it.
 front-both : (front text back : List ℕ) (records others : List Record) → AreOfFront front records (text ++ back)
     → AreScriptRecords text others → AreScriptRecords (front ++ text) (records ++ others)
 front-both front text back records others of more = elim of.seam [
@@ -100,13 +100,13 @@ front-both front text back records others of more = elim of.seam [
       record { ends = whole.ends; field = whole.field; unmarked = plain } of.are more
 ]
 
--- those of a script
+-- The records of the whole script.
 pub front-rest : (front text : List ℕ) (records others : List Record) → AreOfFront front records text
     → AreScriptRecords text others → AreScriptRecords (front ++ text) (records ++ others)
 front-rest front text records others of more =
     front-both front text [] records others (subst (AreOfFront front records) (sym (append-nil text)) of) more
 
--- a longer front
+-- A longer prefix.
 pub front-more : (front text : List ℕ) (place : ℕ) (records others : List Record) → AreOfFront front records text
     → IsCut text place → AreScriptRecords (take place text) others → EndsInField others
     → AreOfFront (front ++ take place text) (records ++ others) (drop place text)

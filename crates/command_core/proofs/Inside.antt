@@ -16,7 +16,7 @@ use Rattle.command_core.proofs.Members.{first_own}
 
 -- ---- what isn't barred
 
--- it begins with no word of a change of one record, nor with that of the log
+-- The record begins with no word of a change of one record, of the log, or of a block of commands.
 pub record IsFree (line : Record) : Type 0 where
   pub table : begins (codes "table") line ≡ false
   pub update : begins (codes "update") line ≡ false
@@ -24,7 +24,7 @@ pub record IsFree (line : Record) : Type 0 where
   pub log : begins (codes "log") line ≡ false
   pub together : begins (codes "together") line ≡ false
 
--- none of several tests holds
+-- None of several tests holds.
 none_holds : (a b c d e f : Bool) → (a || b || c || d || e || f) ≡ false
     → (a ≡ false) × (b ≡ false) × (c ≡ false) × (d ≡ false) × (e ≡ false) × (f ≡ false)
 none_holds true b c d e f h = absurd (cc h)
@@ -46,17 +46,17 @@ module _ (has_load : Bool) (line : Record) (e : is_barred has_load line ≡ fals
   free_of =
       record { table = parts.0; update = parts.1; delete = parts.2; log = parts.3; together = parts.4 }
 
-  -- nor, where a load stands before it, with a load's
+  -- If a load comes before it, the record doesn't begin with `load`.
   pub load-free : (has_load && begins (codes "load") line) ≡ false
   load-free = parts.5
 
-  -- what isn't barred behind a load isn't before one
+  -- A record that is allowed after a load is allowed before one.
   pub free_before : is_barred false line ≡ false
   free_before = rw (parts.0, parts.1, parts.2, parts.3, parts.4) refl
 
--- ---- what it may mean
+-- ---- its possible meanings
 
--- a word of a query, or none
+-- The word of a query, or no word.
 abbrev AsksOnly : Option Verb → Type 0
 AsksOnly None = ⊤
 AsksOnly (Some verb.Table) = ⊥
@@ -150,7 +150,7 @@ block-allowed has_load number opening body free = by (begins (codes "load") open
         none false f = refl
     by false e = made has_load number _ (with_asof claimed opening) (λ r. refl)
 
--- the command that isn't barred may be done there, or is refused
+-- A command that isn't barred is allowed there, or refused.
 pub means-allowed : (has_load : Bool) (number : ℕ) (x : Record) (xs own later : List Record) (meaning : Meaning)
     → x ∷ xs ≡ own ++ later → is_barred has_load x ≡ false → Means number own later meaning
     → is_allowed has_load meaning ≡ true

@@ -1,4 +1,4 @@
--- Records have a first command.
+-- Non-empty records have a first command.
 use Rattle.std.proofs.Common.{◌≡◌, ◌⊎◌, ℕ, ◌<◌, List, [], ◌∷◌, ◌++◌, false, true, length, arith, ap, sym, ◌∙◌, refl, inl, inr, append_assoc}
 use Rattle.std.proofs.lemmas.Bool.{cases_Bool}
 use Rattle.std.proofs.lemmas.List.{append-nil}
@@ -8,7 +8,7 @@ use Rattle.command_core.specs.Records.{Record}
 use Rattle.command_core.specs.Words.{is_end, opens_block}
 use Rattle.command_core.specs.declared.refusal.Refusal.TheVariants.{Unended}
 
--- the first command of some records, the first of them of this number: which of them it takes, and what it means
+-- The first command of some records: its records and its meaning. `number` is the number of the first record.
 pub record FirstCommand (number : ℕ) (records : List Record) : Type 0 where
   pub own : List Record
   pub later : List Record
@@ -16,7 +16,7 @@ pub record FirstCommand (number : ℕ) (records : List Record) : Type 0 where
   pub taken : records ≡ own ++ later
   pub means : Means number own later meaning
 
--- a list is split at its first `end`
+-- The records are split at their first `end`.
 record Ended (records : List Record) : Type 0 where
   body : List Record
   last : Record

@@ -1,4 +1,4 @@
--- There is at most one way to take the first command's records from them, and one meaning.
+-- The first command takes its records in only one way, and has only one meaning.
 use Rattle.std.proofs.Common.{◌≡◌, ℕ, List, [], ◌∷◌, ◌++◌, false, true, ap, sym, ◌∙◌, refl, subst, inl, inr, append_assoc}
 use Rattle.std.proofs.lemmas.Bool.{both_ways}
 use Rattle.std.proofs.lemmas.List.{append-nil}
@@ -13,7 +13,7 @@ same_head x y xs ys e = cc
 pub same_tail : (x y : Record) (xs ys : List Record) → x ∷ xs ≡ y ∷ ys → xs ≡ ys
 same_tail x y xs ys e = cc
 
--- ---- the records of a command and those behind it
+-- ---- the records of a command and the records after it
 
 record_whole : (number : ℕ) (own later : List Record) (meaning : Meaning) (r : MeansRecord number own meaning)
     → own ++ later ≡ r.opening ∷ later
@@ -31,7 +31,7 @@ unended_whole number own later meaning u =
 
 -- ---- the first `end`
 
--- what ends a block is none of a body
+-- A record that ends a block isn't in its body.
 not_inside : (first last : Record) (body : List Record) → IsBody (first ∷ body) → is_end last ≡ true → first ≡ last → ⊥
 not_inside first last body inside ends same =
     both_ways (is_end last)
@@ -40,7 +40,7 @@ not_inside first last body inside ends same =
 IsBody-tail : (first : Record) (body : List Record) → IsBody (first ∷ body) → IsBody body
 IsBody-tail first body inside = All-tail (λ line. is_end line ≡ false) first body inside
 
--- a list is split at its first `end` in one way
+-- There is only one way to split records at their first `end`.
 same_split : (one other : List Record) (last end : Record) (later left : List Record) → IsBody one → IsBody other
     → is_end last ≡ true → is_end end ≡ true
     → one ++ last ∷ later ≡ other ++ end ∷ left → (one ≡ other) × (last ≡ end) × (later ≡ left)
@@ -56,7 +56,7 @@ same_split (x ∷ xs) (y ∷ ys) last end later left inside inside' ends ends' e
     (same_tail x y (xs ++ last ∷ later) (ys ++ end ∷ left) e) in
     (ap (λ l. l ∷ xs) first ∙ ap (λ l. y ∷ l) rest.0, rest.1, rest.2)
 
--- a body has no `end`
+-- A body has no `end`.
 none_ends : (one other : List Record) (last : Record) (later : List Record) → IsBody other → is_end last ≡ true
     → one ++ last ∷ later ≡ other → ⊥
 none_ends one [] last later inside ends e = not_empty one e where
@@ -69,7 +69,7 @@ none_ends (x ∷ xs) (y ∷ ys) last later inside ends e =
 
 -- ---- two meanings of the same records
 
--- a command of one record is no block
+-- A command of one record isn't a block.
 no_block : (one other : Record) (xs ys : List Record) → opens_block one ≡ false → opens_block other ≡ true
     → one ∷ xs ≡ other ∷ ys → ⊥
 no_block one other xs ys plain opens e =

@@ -1,4 +1,4 @@
--- There is at most one way to take a block's commands from records.
+-- There is only one way to split records into a block's commands.
 use Rattle.std.proofs.Common.{◌≡◌, ◌⊎◌, ℕ, ◌+◌, List, [], ◌∷◌, ◌++◌, length, false, true, ap, sym, ◌∙◌, refl, subst, inl, inr, append_assoc, arith}
 use Rattle.std.specs.Bool.{⊤}
 use Rattle.std.proofs.lemmas.Bool.{both_ways}
@@ -12,7 +12,7 @@ use Rattle.command_core.proofs.MeaningUniqueness.{block_unended, one_meaning, re
 
 -- ---- one member
 
--- a command has a first record
+-- A command has a first record.
 pub record Opens (own : List Record) : Type 0 where
   pub opening : Record
   pub behind : List Record
@@ -27,7 +27,7 @@ opened number own later meaning (inr (inr u)) = record { opening = u.opening; be
 pub first_own : (x : Record) (xs own later : List Record) (o : Opens own) → x ∷ xs ≡ own ++ later → x ≡ o.opening
 first_own x xs own later o e = same_head x o.opening xs (o.behind ++ later) (e ∙ ap (λ l. l ++ later) o.whole)
 
--- a command of one record, or a block with its `end`
+-- A command of one record, or a block with its `end`.
 abbrev pub MeansClosed : ℕ → List Record → Meaning → Type 0
 MeansClosed number own meaning = MeansRecord number own meaning ⊎ MeansBlock number own meaning
 
@@ -36,7 +36,7 @@ pub closed-means : (number : ℕ) (own later : List Record) (meaning : Meaning)
 closed-means number own later meaning (inl r) = inl r
 closed-means number own later meaning (inr b) = inr (inl b)
 
--- it is a member, where its first record is no `end`
+-- A command is a member if its first record isn't `end`.
 pub closed-member : (number : ℕ) (x : Record) (xs own later : List Record) (alone : Meaning) → x ∷ xs ≡ own ++ later
     → is_end x ≡ false → MeansClosed number own alone
     → IsMember own (record { number = number; opening = x; alone = alone })
@@ -58,7 +58,7 @@ member-same one other number opening alone =
     make : ℕ → Record → Meaning → Member
     make n o m = record { number = n; opening = o; alone = m }
 
--- the first member of records takes these of them
+-- The first member takes its records in only one way.
 same_member : (number : ℕ) (own later taken left : List Record) (one other : Member)
     → own ++ later ≡ taken ++ left → one.number ≡ number → other.number ≡ number
     → IsMember own one → IsMember taken other → (own ≡ taken) × (later ≡ left) × (one ≡ other)
@@ -74,8 +74,8 @@ same_member number own later taken left one other e first second is was =
 
 -- ---- where members end
 
--- no member begins with the first of these records: they are none, or it is an `end`, or they hold no `end` that it
--- needs
+-- No member begins with the first of these records: there is no record, or the first is an `end`, or the `end` that it
+-- needs is missing.
 abbrev pub HaveNone : List Record → Type 0
 HaveNone [] = ⊤
 HaveNone (first ∷ behind) = (is_end first ≡ true) ⊎ IsOpen (first ∷ behind)
@@ -119,7 +119,7 @@ none_begins (first ∷ behind) own later member (inr unclosed) e is = by is.mean
 
 -- ---- all members
 
--- records begin with one list of members, where what is behind them begins with none
+-- Records begin with only one list of members, if no member begins after it.
 pub same_members : (number : ℕ) (body rest taken left : List Record) (one other : List Member)
     → body ++ rest ≡ taken ++ left → AreMembers number body one → AreMembers number taken other → HaveNone rest
     → HaveNone left → (body ≡ taken) × (rest ≡ left) × (one ≡ other)
@@ -149,7 +149,7 @@ same_members number body rest taken left (one ∷ ones) (other ∷ others) e (ow
 
 -- ---- members of more records
 
--- members, and those of the records behind theirs
+-- Members, followed by the members of the records after them.
 AreMembers-append : (number : ℕ) (body rest : List Record) (front back : List Member)
     → AreMembers number body front → AreMembers (number + length body) rest back
     → AreMembers number (body ++ rest) (front ++ back)
@@ -169,12 +169,12 @@ AreMembers-append number body rest (member ∷ more) back (own, later, split, fi
           (subst (λ n. AreMembers n rest back) size behind),
     )
 
--- one member
+-- A single member.
 AreMembers-one : (number : ℕ) (own : List Record) (member : Member) → member.number ≡ number → IsMember own member
     → AreMembers number own (member ∷ [])
 AreMembers-one number own member first is = (own, [], sym (append-nil own), first, is, refl)
 
--- members, and one more behind them
+-- Members and one more after them.
 pub AreMembers-more : (number : ℕ) (body own : List Record) (front : List Member) (member : Member)
     → AreMembers number body front → member.number ≡ number + length body → IsMember own member
     → AreMembers number (body ++ own) (front ++ member ∷ [])

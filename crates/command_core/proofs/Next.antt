@@ -10,7 +10,7 @@ use Rattle.command_core.proofs.Cutting.{drop-slice_get}
 use Rattle.command_core.proofs.MeaningUniqueness.{one_meaning}
 use Rattle.command_core.proofs.Members.{closed-means, first_own, none_begins, open-none}
 
--- some records are the first of a block's commands, and those behind it
+-- The records of a block's first command, and of the commands after it.
 pub record Firsts (number : ℕ) (records : List Record) (members : List Member) : Type 0 where
   pub member : Member
   pub more : List Member
@@ -37,21 +37,21 @@ firsts number records (member ∷ more) some (own, later, split, first, is, behi
   behind = behind;
 }
 
--- its first record is the first of them
+-- The command's first record is the first of all.
 pub Firsts-opening : (number : ℕ) (records : List Record) (members : List Member) (f : Firsts number records members)
     (x : Record) (xs : List Record) → records ≡ x ∷ xs → x ≡ f.member.opening
 Firsts-opening number records members f x xs e =
     first_own x xs f.own f.later (record { opening = f.member.opening; behind = f.is.behind; whole = f.is.whole })
     (sym e ∙ f.split)
 
--- the first of a block's commands has its `end`
+-- The first command of a block has its `end`.
 pub members-closed : (number : ℕ) (records : List Record) (members : List Member) → 0 < length records
     → AreMembers number records members → IsOpen records → ⊥
 members-closed number records members some are unclosed =
     let f = firsts number records members some are in
     none_begins records f.own f.later f.member (open-none records unclosed) f.split f.is
 
--- a command of these records is their first, whose meaning is this alone
+-- The records `own` belong to the block's first command, which would mean `alone` outside the block.
 pub record IsAlone (number : ℕ) (members : List Member) (own later : List Record) (alone : Meaning) : Type 0 where
   pub member : Member
   pub more : List Member
@@ -80,7 +80,7 @@ members-alone number records own later members alone some taken are means =
           (subst (λ l. AreMembers (number + length l) f.later f.more) (sym same.0) f.behind);
     }
 
--- its first record is the first of them
+-- The command's first record is the first of all.
 pub alone-opening : (number : ℕ) (members : List Member) (own later : List Record) (alone : Meaning)
     (a : IsAlone number members own later alone) (x : Record) (xs : List Record) → x ∷ xs ≡ own ++ later
     → x ≡ a.member.opening
@@ -106,7 +106,7 @@ module _ (has_load : Bool) (number : ℕ) (xs : List Record) (x : Record) (e : s
       alone-opening number members (take n xs) (drop n xs) alone own x (drop 1 xs)
       (sym (drop-slice_get xs 0 x e) ∙ sym (take-append-drop n xs))
 
-  -- a command that isn't barred
+  -- A command that isn't barred.
   pub next-free : is_barred has_load x ≡ false → IsNext has_load number members (take n xs) (drop n xs) alone
   next-free free = record {
     member = own.member;
@@ -119,7 +119,7 @@ module _ (has_load : Bool) (number : ℕ) (xs : List Record) (x : Record) (e : s
     behind = own.behind;
   }
 
-  -- one that is
+  -- A command that is barred.
   pub next-barred : is_barred has_load x ≡ true
       → IsNext has_load number members (take n xs) (drop n xs) (refuse number NotInBlock)
   next-barred barred = record {

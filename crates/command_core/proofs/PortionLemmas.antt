@@ -15,7 +15,7 @@ use Rattle.command_core.specs.Words.{begins}
 double : (k : ℕ) → 2 * suc k ≡ suc (suc (2 * k))
 double k = omega arith
 
--- fields are pairs where their number is even
+-- Fields are pairs if and only if there is an even number of them.
 pub are_pairs-even : (fields : Record) → 0 < length fields → are_pairs fields ≡ (length fields % 2 == 0)
 are_pairs-even [] some = absurd (omega arith)
 are_pairs-even (column ∷ []) some = refl
@@ -24,14 +24,14 @@ are_pairs-even (column ∷ text ∷ third ∷ fields) some =
     let even : length (third ∷ fields) % 2 ≡ length (column ∷ text ∷ third ∷ fields) % 2 = omega arith in
     are_pairs-even (third ∷ fields) (omega arith) ∙ ap (λ n. n == 0) even
 
--- the first pairs are settings, however their columns are called; the fields behind them have their own form
+-- The first `k` pairs are settings, whatever their columns are; the fields after them are split by `parts_in`.
 abbrev pub parts_from : ℕ → Record → Option (List TextPair × List TextPair)
 parts_from zero fields = parts_in fields
 parts_from (suc k) [] = None
 parts_from (suc k) (column ∷ []) = None
 parts_from (suc k) (column ∷ text ∷ fields) = option_map (set_before (column, text)) (parts_from k fields)
 
--- a column that isn't `where` is one setting more
+-- A column that isn't `where` begins one more setting.
 pub parts-next : (k : ℕ) (fields : Record) → 2 * k + 1 < length fields
     → begins (codes "where") (drop (2 * k) fields) ≡ false
     → parts_from k fields ≡ parts_from (suc k) fields
@@ -44,14 +44,14 @@ parts-next (suc k) (column ∷ text ∷ fields) lt e =
     let there = subst (λ n. begins (codes "where") (drop n (column ∷ text ∷ fields)) ≡ false) (double k) e in
     ap (option_map (set_before (column, text))) (parts-next k fields (omega arith) there)
 
--- one setting more before the conditions
+-- One more setting before the conditions.
 set-conds : (pair : TextPair) (sets : List TextPair) (o : Option (List TextPair))
     → option_map (set_before pair) (option_map (λ conds. (sets, conds)) o) ≡ option_map
     (λ conds. (pair ∷ sets, conds)) o
 set-conds pair sets (Some conds) = refl
 set-conds pair sets None = refl
 
--- a `where` in a column's place begins the conditions
+-- A `where` in a column's position begins the conditions.
 pub parts-where : (k : ℕ) (fields : Record) → 2 * k + 1 < length fields
     → begins (codes "where") (drop (2 * k) fields) ≡ true
     → parts_from k fields ≡ option_map (λ conds. (pairs_of (take (2 * k) fields), conds))
@@ -67,7 +67,7 @@ parts-where (suc k) (column ∷ text ∷ fields) lt e =
     (ap (option_map (set_before (column, text))) (parts-where k fields (omega arith) there)
     ∙ set-conds (column, text) (pairs_of (take (2 * k) fields)) (conditions_in (drop (2 * k) fields)))
 
--- all fields are settings
+-- All fields are settings.
 pub parts-all : (k : ℕ) (fields : Record) → length fields ≡ 2 * k → parts_from k fields ≡ Some (pairs_of fields, [])
 parts-all zero [] even = refl
 parts-all zero (column ∷ fields) even = absurd (omega arith)
@@ -76,7 +76,7 @@ parts-all (suc k) (column ∷ []) even = absurd (omega arith)
 parts-all (suc k) (column ∷ text ∷ fields) even =
     ap (option_map (set_before (column, text))) (parts-all k fields (omega arith))
 
--- a field is left over
+-- One field is left over.
 pub parts-over : (k : ℕ) (fields : Record) → length fields ≡ 2 * k + 1 → parts_from k fields ≡ None
 parts-over zero [] odd = absurd (omega arith)
 parts-over zero (column ∷ []) odd = refl
@@ -97,13 +97,13 @@ none-past k only column e =
     subst (λ n. slice_get (only ∷ []) n ≡ Some column) (double k) e in
     cc there
 
--- half as many pairs as fields
+-- There are half as many pairs as fields.
 pub length-pairs_of : (fields : Record) → length (pairs_of fields) ≡ length fields / 2
 length-pairs_of [] = refl
 length-pairs_of (c ∷ []) = refl
 length-pairs_of (c ∷ t ∷ fields) = omega (arith, length-pairs_of fields)
 
--- the pair at a place is of two fields
+-- The pair at index `k` is made of two fields.
 pub pairs-get : (fields : Record) (k : ℕ) (column text : List ℕ) → slice_get fields (2 * k) ≡ Some column
     → slice_get fields (2 * k + 1) ≡ Some text → slice_get (pairs_of fields) k ≡ Some (column, text)
 pairs-get [] zero column text e f = absurd (cc e)
@@ -118,7 +118,7 @@ pairs-get (c ∷ t ∷ fields) (suc k) column text e f =
     pairs-get fields k column text (subst (λ n. slice_get (c ∷ t ∷ fields) n ≡ Some column) (double k) e)
     (subst (λ n. slice_get (c ∷ t ∷ fields) n ≡ Some text) (double-more k) f)
 
--- each of them has a name, where all have
+-- If all columns are names, so is each pair's.
 pub all_columns-get : (pairs : List TextPair) (k : ℕ) (pair : TextPair) → all_columns pairs ≡ true
     → slice_get pairs k ≡ Some pair → is_name pair.0 ≡ true
 all_columns-get [] k pair all e = absurd (cc e)
@@ -128,7 +128,7 @@ all_columns-get (p ∷ pairs) zero pair all e =
 all_columns-get (p ∷ pairs) (suc k) pair all e =
     all_columns-get pairs k pair (and_parts (is_name p.0) (all_columns pairs) all).1 e
 
--- with at most one field left there is no pair more
+-- With at most one field left there are no more pairs.
 pub pairs-over : (fields : Record) (k : ℕ) → length fields ≤ 2 * k + 1
     → (pairs_of (take (2 * k) fields) ≡ pairs_of fields) × (pairs_of (drop (2 * k) fields) ≡ [])
 pairs-over [] zero short = (refl, refl)
@@ -140,7 +140,7 @@ pairs-over (c ∷ t ∷ fields) (suc k) short =
     let rest = pairs-over fields k (omega arith) in
     rw (double k) (ap (λ l. (c, t) ∷ l) rest.0, rest.1)
 
--- the column at a place has a name, and so have those behind it
+-- All columns from `k` on are names if the column at `k` is one and so are all later ones.
 pub columns-here : (fields : Record) (k : ℕ) (b : Bool) → 2 * k + 1 < length fields
     → IfSome (slice_get fields (2 * k)) (λ column. b ≡ is_name column)
     → all_columns (pairs_of (drop (2 * k) fields)) ≡ (b && all_columns (pairs_of (drop (2 * (k + 1)) fields)))
@@ -153,7 +153,7 @@ columns-here (c ∷ t ∷ fields) (suc k) b lt e =
     (columns-here fields k b (omega arith)
     (subst (λ n. IfSome (slice_get (c ∷ t ∷ fields) n) (λ column. b ≡ is_name column)) (double k) e))
 
--- the field at a place is a name, and so are those behind it
+-- All fields from `k` on are names if the field at `k` is one and so are all later ones.
 pub names-here : (fields : Record) (k : ℕ) (b : Bool) → k < length fields
     → IfSome (slice_get fields k) (λ field. b ≡ is_name field)
     → list_all is_name (drop k fields) ≡ (b && list_all is_name (drop (k + 1) fields))
@@ -163,14 +163,14 @@ names-here (field ∷ fields) (suc k) b lt e =
     let next : suc k + 1 ≡ suc (k + 1) = omega arith in
     rw next (names-here fields k b (omega arith) e)
 
--- with no field left all are names
+-- With no field left, all are names.
 pub names-over : (fields : Record) (k : ℕ) → length fields ≤ k
     → list_all is_name (drop k fields) ≡ list_all is_name fields → true ≡ list_all is_name fields
 names-over [] k short e = refl
 names-over (field ∷ fields) zero short e = absurd (omega arith)
 names-over (field ∷ fields) (suc k) short e = ap (list_all is_name) (sym (drop_all k fields (omega arith))) ∙ e
 
--- each field is a name, where all are
+-- If all fields are names, so is each.
 pub names-get : (fields : Record) (k : ℕ) (field : List ℕ) → list_all is_name fields ≡ true
     → slice_get fields k ≡ Some field → is_name field ≡ true
 names-get [] k field all e = absurd (cc e)
@@ -182,7 +182,7 @@ names-get (f ∷ fields) (suc k) field all e =
 
 -- ---- whole records
 
--- the record of four fields and those behind them
+-- The first four fields of a record, and the fields after them.
 four_first : (P : Record → Type 0) (line : Record) (name from to : List ℕ) → slice_get line 1 ≡ Some name
     → slice_get line 2 ≡ Some from → slice_get line 3 ≡ Some to
     → ((word : List ℕ) → P (word ∷ name ∷ from ∷ to ∷ drop 4 line)) → P line

@@ -1,4 +1,4 @@
--- A script has one list of records.
+-- A script has only one list of records.
 use Rattle.std.proofs.Common.{◌≡◌, List, [], ◌∷◌, ℕ, None, Some, refl, sym, ap, ◌∙◌, subst}
 use Rattle.std.proofs.lemmas.Option.{none-some, same_Some}
 use Rattle.csv.specs.Machine.{Read, next_record}
@@ -8,7 +8,7 @@ use Rattle.csv.specs.declared.parser.State.{State}
 use Rattle.csv.specs.declared.parser.State.TheVariants as st
 use Rattle.command_core.specs.Records.{AreScriptRecords, Record}
 
--- where a record is read, reading isn't over
+-- If a record can be read, reading isn't finished.
 read_stops : (config : Config) (s t : State) (text left : List ℕ) (read : Read) → s ≡ t → text ≡ left
     → next_record config s [] [] text ≡ Some read → next_record config t [] [] left ≡ None → ⊥
 read_stops config s t text left read same same' some none =
@@ -17,7 +17,7 @@ read_stops config s t text left read same same' some none =
     ∙ (sym (ap (λ z. next_record config z [] [] left) same)
     ∙ (sym (ap (λ l. next_record config s [] [] l) same') ∙ some)))
 
--- a text has one list of records
+-- A text has only one list of records.
 one_reading : (config : Config) (s : State) (text : List ℕ) (one other : List Record) → AreRecords config s text one
     → AreRecords config s text other → one ≡ other
 unfolding Reached

@@ -1,4 +1,4 @@
--- The fields of a script have no more bytes than it, and are at most twice as many.
+-- The fields of a script have no more bytes than the script. There are at most two fields for each of its bytes.
 use Rattle.std.proofs.Common.{◌≡◌, ℕ, suc, ◌+◌, ◌-◌, ◌^◌, ◌<◌, ◌≤◌, List, [], ◌∷◌, ◌++◌, Bool, true, false, cond, Option, Some, length, take, drop, subst, refl, sym, ap, ◌∙◌, arith, length-append}
 use Rattle.std.specs.Prelude.{sum_by}
 use Rattle.std.proofs.lemmas.List.{drop-drop, drop_all}
@@ -21,7 +21,7 @@ use Rattle.command_core.proofs.Shrinking.{at_most_one, work_left}
 
 -- the parts that a list is cut into
 
--- have as much of anything as it
+-- Sums over the parts add up to the sum over the list.
 pub sum_by-cut : {X : Type 0} (f : X → ℕ) (from : ℕ) (ends : List ℕ) (xs : List X) → EndsAt from ends (length xs)
     → sum_by (sum_by f) (cut from ends xs) ≡ sum_by f (drop from xs)
 sum_by-cut f from [] xs h = ap (sum_by f) (sym (drop_all from xs (omega (arith, h))))
@@ -38,7 +38,7 @@ sum_by-cut f from (end ∷ ends) xs (h, more) =
       rest,
     )
 
--- and are as long
+-- The parts are as long as the list.
 pub lengths-cut : {X : Type 0} (from : ℕ) (ends : List ℕ) (xs : List X) → EndsAt from ends (length xs)
     → sum_by length (cut from ends xs) + from ≡ length xs
 lengths-cut from [] xs h = omega (arith, h)
@@ -53,7 +53,7 @@ lengths-cut from (end ∷ ends) xs (h, more) =
 
 -- a record as it is read
 
--- what a record takes of a text has the bytes of its fields, and work for each of them
+-- What a record takes of a text covers the bytes of its fields, and one unit of work for each field.
 abbrev Takes : State → List (List ℕ) → List ℕ → List ℕ → Read → Type 0
 Takes s fields field xs read =
     (size_of read.0 + length read.2 ≤ size_of fields + length field + length xs)
@@ -135,7 +135,7 @@ strip_bom-le (a ∷ b ∷ c ∷ rest) =
       | false ↦ omega arith
     ]
 
--- records that were read and one more: 32 bits hold how many bytes their fields have, and how many fields there are
+-- The records read and one more: 32 bits hold the bytes of their fields and the number of fields.
 read-few : (script left : List ℕ) (records : List Record) (row : Record) (t : State) → length script < 2 ^ 31
     → Reached default_config st.StartRecord (strip_bom script) (records ++ row ∷ []) t left
     → (sum_by size_of records + size_of row < 2 ^ 32) × (sum_by length records + length row < 2 ^ 32)
@@ -146,7 +146,7 @@ read-few script left records row t few reached =
       omega (arith, few, short, taken.1, sum_by_push length records row),
     )
 
--- the same where a reader has read the records, and reads one more
+-- The same when a reader has read the records and reads one more.
 pub next-few : {R : Type 0} (rem : R → Option (List ℕ)) (a b : Reader R) (script left : List ℕ)
     (records : List Record) (row : Record) → length script < 2 ^ 31 → a.config ≡ default_config
     → source_of rem a ≡ Some left

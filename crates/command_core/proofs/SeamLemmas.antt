@@ -1,4 +1,4 @@
--- What `csv` reads of a text that is cut behind a line end.
+-- What `csv` reads from a text that is cut after a line end.
 use Rattle.std.proofs.Common.{◌≡◌, ◌≢◌, ◌⊎◌, ℕ, suc, ◌+◌, ◌<◌, ◌==◌, ◌||◌, ◌&&◌, List, [], ◌∷◌, ◌++◌, Bool, true, false, cond, Option, Some, None, length, refl, sym, ap, subst, inl, inr, ◌∙◌, arith, append-nil, append_assoc, slice_get, ◌-◌, ◌^◌, ◌≤◌, zero, take, drop, get_or, map, length-append, Result, Ok, Err}
 use Rattle.std.specs.Prelude.{◌↔◌, IfOk, IfSome, IsFalse, IsTrue, MatchBool, nat_eq, not}
 use Rattle.std.specs.List.{starts_with}
@@ -20,7 +20,7 @@ use Rattle.command_core.proofs.Shrinking.{records-few}
 
 -- states and actions
 
--- whether a record was begun
+-- The state is inside a record.
 abbrev is_inside : State → Bool
 is_inside st.StartRecord = false
 is_inside st.StartField = true
@@ -41,16 +41,16 @@ inside-ends st.InEscape e = refl
 inside-ends st.InComment e = refl
 inside-ends st.AfterCr e = e
 
--- what holds of both cases
+-- What holds of both cases of a condition.
 if-both : (P : State × Action → Type 0) (b : Bool) (p q : State × Action) → P p → P q → P (cond b p q)
 if-both P true p q x y = x
 if-both P false p q x y = y
 
--- a record's end is between records
+-- After a step that ends a record, the state is between records.
 abbrev EndsBetween : State × Action → Type 0
 EndsBetween q = is_end q.1 ≡ true → ends_at_end q.0 ≡ false
 
--- else reading stays inside the record
+-- After any other step, the state is inside the record.
 abbrev StaysInside : State × Action → Type 0
 StaysInside q = is_end q.1 ≡ false → is_inside q.0 ≡ true
 
@@ -95,7 +95,7 @@ step-inside st.InEscape c i = λ e. refl
 step-inside st.InComment c i = cc i
 step-inside st.AfterCr c i = cc i
 
--- between records a byte is passed over, or begins one
+-- Between records a byte is skipped, or begins a record.
 abbrev FromStart : State × Action → Type 0
 FromStart q = (q ≡ (st.StartRecord, act.Skip)) ⊎ ((is_end q.1 ≡ false) × (is_inside q.0 ≡ true))
 
@@ -119,7 +119,7 @@ step-from st.AfterCr c e = if-both FromStart (c == 10) _ _ (inl refl) (start_rec
 
 -- one record
 
--- a record that was begun is read
+-- If a record was begun, one is read.
 inside-reads : (s : State) (fields : Record) (field xs : List ℕ) → is_inside s ≡ true
     → next_record default_config s fields field xs ≡ None → ⊥
 unfolding next_record
@@ -136,7 +136,7 @@ inside-reads s fields field (c ∷ rest) i e =
     by true t more = cc (rw t at e)
     by false t more = more (step-inside s c i t) (rw t at e)
 
--- where no record is read, all was passed over
+-- If no record is read, all bytes were skipped.
 none-skips : (s : State) (c : ℕ) (rest back : List ℕ) → ends_at_end s ≡ false
     → next_record default_config s [] [] (c ∷ rest) ≡ None
     → next_record default_config s [] [] (c ∷ rest ++ back) ≡ next_record default_config st.StartRecord [] [] back
@@ -154,17 +154,17 @@ none-skips s c (d ∷ more) back between e = elim (step-from s c between) [
       (field_after (step default_config s c).1 c []) (d ∷ more) begins.1 (rw begins.0 at e))
 ]
 
--- what is left behind a record: nothing, and another may begin, or a text that ends with a line feed
+-- After a record, nothing is left and the state is at a record's start, or the rest ends with a line feed.
 abbrev IsLeft : State → List ℕ → Type 0
 IsLeft s xs = ((xs ≡ []) × (s ≡ st.StartRecord)) ⊎ (last xs ≡ Some 10)
 
--- a record that was read of a text goes on to be, where more stands behind it
+-- A record read from a text is also read if more text follows.
 abbrev ReadsOn : State → Record → List ℕ → List ℕ → List ℕ → Read → Type 0
 ReadsOn s fields field xs back read =
     (next_record default_config s fields field (xs ++ back) ≡ Some (read.0, read.1, read.2 ++ back))
     × (ends_at_end read.1 ≡ false) × IsLeft read.1 read.2
 
--- a record that only the text's end ended: its last field ends with the line feed
+-- Only the text's end ended the record, whose last field ends with the line feed.
 abbrev EndsCut : Read → Type 0
 EndsCut read =
     (fields : Record) × (field : List ℕ) × (read ≡ (fields ++ (field ++ 10 ∷ []) ∷ [], st.StartRecord, []))
@@ -229,7 +229,7 @@ read-cut s fields field c (d ∷ more) back read ends e =
 
 -- records
 
--- where the next record is the same, so are all
+-- If the next record is the same, so are all records.
 AreRecords-same : (s t : State) (xs ys : List ℕ) (records : List Record)
     → next_record default_config s [] [] xs ≡ next_record default_config t [] [] ys
     → AreRecords default_config t ys records → AreRecords default_config s xs records
@@ -238,7 +238,7 @@ AreRecords-same s t xs ys [] same (t2, zs, (state, rest), none) = (s, xs, (refl,
 AreRecords-same s t xs ys (r ∷ rs) same (t2, zs, (read, is, fields, more), none) =
     (t2, zs, (read, same ∙ is, fields, more), none)
 
--- nothing is read of nothing
+-- An empty text has no records.
 none-left : (records : List Record) → AreRecords default_config st.StartRecord [] records → records ≡ []
 unfolding Reached next_record
 none-left [] all = refl
@@ -249,7 +249,7 @@ last-append [] y ys = refl
 last-append (x ∷ []) y ys = refl
 last-append (x ∷ z ∷ xs) y ys = last-append (z ∷ xs) y ys
 
--- the last field of more records
+-- The last field of more records.
 EndsInField-rest : (first : Record) (records : List Record) → EndsInField (first ∷ records) → EndsInField records
 EndsInField-rest first records h = by (joined records) h
   where
@@ -258,14 +258,14 @@ EndsInField-rest first records h = by (joined records) h
     by [] h = tt
     by (field ∷ fields) h = subst (λ o. IfSome o (λ f. last f ≢ Some 10)) (last-append first field fields) h
 
--- a last field that ends with a line feed
+-- A last field that ends with a line feed.
 EndsInField-cut : (fields : Record) (field : List ℕ) → EndsInField ((fields ++ (field ++ 10 ∷ []) ∷ []) ∷ []) → ⊥
 EndsInField-cut fields field h =
     let whole : last (joined ((fields ++ (field ++ 10 ∷ []) ∷ []) ∷ [])) ≡ Some (field ++ 10 ∷ []) =
     ap last (append-nil (fields ++ (field ++ 10 ∷ []) ∷ [])) ∙ last-append fields (field ++ 10 ∷ []) [] in
     subst (λ o. IfSome o (λ f. last f ≢ Some 10)) whole h (last-append field 10 [])
 
--- the records of a text and those behind it
+-- The records of a text, then the records of the text after it.
 records-behind : (records : List Record) (s : State) (xs back : List ℕ) (others : List Record) → ends_at_end s ≡ false
     → IsLeft s xs → AreRecords default_config s xs records → EndsInField records
     → AreRecords default_config st.StartRecord back others
@@ -291,7 +291,7 @@ records-behind (r ∷ rs) s (c ∷ rest) back others between (inr ends) (t, zs, 
           absurd (EndsInField-cut ended.0 ended.1 (rw (nothing, row) at field))
     ]
 
--- the last item is at the last place
+-- The last item is at index `length - 1`.
 pub last-at : {X : Type 0} (items : List X) → last items ≡ slice_get items (length items - 1)
 last-at [] = refl
 last-at (x ∷ []) = refl
@@ -301,7 +301,7 @@ last-at (x ∷ y ∷ items) =
 
 -- pieces
 
--- one piece more, and the rest behind it
+-- One more piece, and the rest after it.
 pub joined-more : {P : Type 0} (text : P → List ℕ) (pieces : List P) (p : P) (back : List ℕ)
     → joined (map text (pieces ++ p ∷ [])) ++ back ≡ joined (map text pieces) ++ (text p ++ back)
 joined-more text [] p back = ap (λ l. l ++ back) (append-nil (text p))
@@ -310,7 +310,7 @@ joined-more text (q ∷ pieces) p back =
     ∙ ap (λ l. text q ++ l) (joined-more text pieces p back)
     ∙ sym (append_assoc (text q) (joined (map text pieces)) (text p ++ back))
 
--- a text that doesn't begin with the first byte of a byte order mark begins with none
+-- A text has no byte order mark if its first byte isn't the mark's.
 unmarked : (first : ℕ) (text : List ℕ) → (first == 0xEF) ≡ false → strip_bom (first ∷ text) ≡ first ∷ text
 unfolding strip_bom
 unmarked a [] other = refl
@@ -337,7 +337,7 @@ starts_bom : (a b c : ℕ) → starts_with nat_eq (a ∷ b ∷ c ∷ []) (0xEF �
 starts_bom a b c =
     rw (same_either 0xEF a, same_either 0xBB b, same_either 0xBF c) (all_three (a == 0xEF) (b == 0xBB) (c == 0xBF))
 
--- a text is as it is without a byte order mark just where it begins with none
+-- Skipping a byte order mark leaves a text unchanged if and only if it has none.
 pub marked_or_not : (text : List ℕ)
     → IsFalse (starts_with nat_eq text (0xEF ∷ 0xBB ∷ 0xBF ∷ [])) ↔ (strip_bom text ≡ text)
 unfolding strip_bom
@@ -354,7 +354,7 @@ marked_or_not (a ∷ b ∷ c ∷ rest) = elim (cases_Bool (is_bom a b c)) [
   | inr plain ↦ rw (starts_bom a b c, plain) (λ none. refl, λ same. refl)
 ]
 
--- a text that ends a line begins with a byte order mark as it does with others behind it
+-- Appending to a text that ends with a line feed doesn't change whether it has a byte order mark.
 strip_bom-append : (text back : List ℕ) → last text ≡ Some 10 → strip_bom (text ++ back) ≡ strip_bom text ++ back
 unfolding strip_bom
 strip_bom-append [] back ends = absurd (cc ends)
@@ -377,7 +377,7 @@ no_bom true true e = cc e
 no_bom true false e = cc e
 no_bom false second e = cc e
 
--- a text that ends a line does so without a byte order mark
+-- A text that ends with a line feed does so without its byte order mark.
 strip_bom-ends : (text : List ℕ) → last text ≡ Some 10 → last (strip_bom text) ≡ Some 10
 unfolding strip_bom
 strip_bom-ends [] ends = ends
@@ -392,7 +392,7 @@ strip_bom-ends (a ∷ b ∷ c ∷ rest) ends = elim (cases_Bool (is_bom a b c)) 
     by [] ends marked = let line : c ≡ 10 = cc in absurd (no_bom (a == 0xEF) (b == 0xBB) (rw line at marked))
     by (d ∷ more) ends marked = ends
 
--- the records of pieces, each but the first without a byte order mark
+-- The records of pieces, where each except the first has no byte order mark.
 pieces-records : (texts : List (List ℕ)) (text : List ℕ) (lists : List (List Record)) (list : List Record)
     → AreRead (text ∷ texts) (list ∷ lists) → AreSeams (text ∷ texts) (list ∷ lists)
     → AreRecords default_config st.StartRecord (strip_bom text ++ joined texts) (list ++ joined lists)
@@ -407,7 +407,7 @@ pieces-records (t ∷ texts) text (l ∷ lists) list (same, read) seams =
     records-behind list st.StartRecord (strip_bom text) (t ++ joined texts) (l ++ joined lists) refl
     (inr (strip_bom-ends text seam.ends)) (read 0 (omega arith)) seam.field (rw seam.unmarked at later)
 
--- the records of pieces are those of the whole
+-- The records of all pieces are the records of the whole text.
 pub joined-records : (script : List ℕ) (texts : List (List ℕ)) (lists : List (List Record)) → joined texts ≡ script
     → AreRead texts lists → AreSeams texts lists → AreScriptRecords script (joined lists)
 unfolding Reached next_record strip_bom
@@ -422,7 +422,7 @@ joined-records script (t ∷ u ∷ texts) (l ∷ lists) whole read seams =
     rw (sym whole, strip_bom-append t (joined (u ∷ texts)) seam.ends)
     (pieces-records (u ∷ texts) t lists l read seams)
 
--- the records of a text, behind which others begin, and those
+-- The records of two consecutive texts with a seam between them.
 pub records-both : (text back : List ℕ) (records others : List Record) → IsSeam text records back
     → AreScriptRecords text records → AreScriptRecords back others
     → AreScriptRecords (text ++ back) (records ++ others)
@@ -431,12 +431,12 @@ records-both text back records others seam are more =
     (records-behind records st.StartRecord (strip_bom text) back others refl
     (inr (strip_bom-ends text seam.ends)) are seam.field (rw seam.unmarked at more))
 
--- of nothing no record is read
+-- An empty text has no records.
 pub records-none : (records : List Record) → AreScriptRecords [] records → records ≡ []
 unfolding strip_bom
 records-none records are = none-left records are
 
--- fields that are cut into records, joined again
+-- Fields that are cut into records and joined again.
 joined-cut : {X : Type 0} (from : ℕ) (ends : List ℕ) (xs : List X) → EndsAt from ends (length xs)
     → joined (cut from ends xs) ≡ drop from xs
 joined-cut from [] xs h = sym (drop_all from xs (omega (arith, h)))
@@ -446,7 +446,7 @@ joined-cut from (end ∷ ends) xs (h, more) =
     (joined-cut end ends xs more ∙ sym (drop-drop (end - from) from xs ∙ ap (λ n. drop n xs) at))
     ∙ take-append-drop (end - from) (drop from xs)
 
--- the last field of records that are kept flat
+-- The last field of records that are stored flat.
 pub last-flat : (ends : List ℕ) (fields : Record) (records : List Record) (found : Option (List ℕ))
     → EndsAt 0 ends (length fields) → cut 0 ends fields ≡ records → found ≡ last fields
     → found ≡ last (joined records)
@@ -473,7 +473,7 @@ not_line text false is = (λ e. is, λ other. refl)
 
 -- what threads read
 
--- a piece is no longer than all
+-- A piece isn't longer than the whole text.
 pub piece-le : {P : Type 0} (text : P → List ℕ) (pieces : List P) (i : ℕ) (other : P) → i < length pieces
     → length (text (get_or pieces i other)) ≤ length (joined (map text pieces))
 piece-le text [] i other within = absurd (omega (arith, within))
@@ -485,7 +485,7 @@ piece-le text (p ∷ pieces) (suc i) other within =
       length-append (text p) (joined (map text pieces)),
     )
 
--- what was found of answers, each of which is of a piece
+-- If all answers are found, each is the records of its piece.
 pub all_found : {V E : Type 0} (texts : List (List ℕ)) (answers : List (Result (List Record) E))
     (items : V → List (List Record)) → length answers ≡ length texts
     → ((i : ℕ) (answer : Result (List Record) E) → i < length texts → answer ≡ get_or answers i answer
@@ -505,7 +505,7 @@ all_found {V} {E} texts answers items len each (Ok found) is =
           ∙ get_or-map made (items found) i [] one (omega (arith, count, within)))),
     )
 
--- two pieces that follow one another, as they stand among the texts
+-- The seam between two neighbouring pieces.
 pub seam-at : {P : Type 0} (text : P → List ℕ) (pieces : List P) (lists : List (List Record)) (place : ℕ) (p : P)
     (records : List Record) → place < length pieces → length pieces ≡ length lists
     → records ≡ get_or lists (place - 1) records
@@ -520,7 +520,7 @@ seam-at text pieces lists place p records inside same at =
     get_or_read lists (place - 1) records (omega (arith, inside, same)) at [] in
     rw (first, second, held) (λ seam. seam, λ seam. seam)
 
--- one seam more
+-- One more seam.
 pub seams-more : {P : Type 0} (text : P → List ℕ) (pieces : List P) (lists : List (List Record)) (place : ℕ) (p : P)
     (records : List Record) → 0 < place → place < length pieces → length pieces ≡ length lists
     → records ≡ get_or lists (place - 1) records
@@ -537,7 +537,7 @@ seams-more text pieces lists place p records some inside same at before seam i w
       rw (front, here) at ((seam-at text pieces lists place p records inside same at).0 seam)
 ]
 
--- no seams, where one of them is none
+-- If one seam is missing, not all are there.
 pub no_seams : {P : Type 0} (text : P → List ℕ) (pieces : List P) (lists : List (List Record)) (place : ℕ) (p : P)
     (records : List Record) → 0 < place → place < length pieces → length pieces ≡ length lists
     → records ≡ get_or lists (place - 1) records
@@ -549,7 +549,7 @@ no_seams text pieces lists place p records some inside same at none seams =
     none ((seam-at text pieces lists place p records inside same at).1
     (rw here at (seams (place - 1) (omega (arith, here, inside, count)))))
 
--- a script's records can be counted
+-- 64 bits hold the number of a script's records.
 pub countable : (script : List ℕ) (records : List Record) → length script < 2 ^ 31 → AreScriptRecords script records
     → length records < 2 ^ 64
 countable script records few (t, left, reached, none) =
@@ -560,7 +560,7 @@ countable script records few (t, left, reached, none) =
       records-few default_config records st.StartRecord t (strip_bom script) left reached,
     )
 
--- a script that is read whole
+-- A script that is read whole.
 pub whole_records : (script : List ℕ) (lists : List (List Record)) (records : List Record) → lists ≡ records ∷ []
     → AreScriptRecords script records → AreScriptRecords script (joined lists)
 whole_records script lists records one read =

@@ -1,4 +1,4 @@
--- Each record that is read leaves less of a text.
+-- Reading a record leaves less of a text.
 use Rattle.std.proofs.Common.{◌≡◌, ℕ, ◌+◌, ◌*◌, ◌<◌, ◌≤◌, List, [], ◌∷◌, ◌++◌, subst, length, Bool, true, false, cond, Some, refl, sym, arith}
 use Rattle.csv.specs.Machine.{Read, ends_at_end, field_after, fields_after, is_end, next_record, step}
 use Rattle.csv.specs.Reading.{Reached}
@@ -7,7 +7,7 @@ use Rattle.csv.specs.declared.parser.State.{State}
 use Rattle.csv.specs.declared.parser.State.TheVariants as st
 use Rattle.command_core.specs.Records.{Record}
 
--- what is left to read: the bytes, and a record that the end of the text would end
+-- The work that is left: two for each byte, and one for a record that the end of the text would end.
 abbrev pub work_left : State → List ℕ → ℕ
 work_left s xs = 2 * length xs + cond (ends_at_end s) 1 0
 
@@ -15,7 +15,7 @@ pub at_most_one : (b : Bool) → cond b 1 0 ≤ 1
 at_most_one true = omega arith
 at_most_one false = omega arith
 
--- one record, as it is read
+-- Reading one record.
 pub next_record-shrinks : (cfg : Config) (s : State) (fields : List (List ℕ)) (field xs : List ℕ) (p : Read)
     → next_record cfg s fields field xs ≡ Some p → work_left p.1 p.2 < work_left s xs
 unfolding next_record
@@ -43,14 +43,14 @@ next_record-shrinks cfg s fields field (c ∷ rest) p e =
         (omega (arith, at_most_one (ends_at_end (step cfg s c).0)))
     by false t more = omega (arith, more (rw t at e), at_most_one (ends_at_end (step cfg s c).0))
 
--- one record
+-- The same by `Reached`.
 pub Reached-shrinks : (cfg : Config) (s s2 : State) (f : List (List ℕ)) (xs z : List ℕ)
     → Reached cfg s xs (f ∷ []) s2 z → work_left s2 z < work_left s xs
 unfolding Reached
 Reached-shrinks cfg s s2 f xs z (p, e, fields, (state, rest)) =
     rw (sym state, sym rest) (next_record-shrinks cfg s [] [] xs p e)
 
--- each record takes some of the text
+-- Each record takes some of the text, so there are at most `work_left` of them.
 pub records-few : (config : Config) (records : List Record) (s t : State) (text left : List ℕ)
     → Reached config s text records t left → length records ≤ work_left s text
 unfolding Reached

@@ -1,4 +1,4 @@
--- Records have a first statement.
+-- Non-empty records have a first statement.
 use Rattle.std.proofs.Common.{◌≡◌, ◌⊎◌, ℕ, suc, zero, ◌+◌, ◌<◌, ◌≤◌, List, [], ◌∷◌, ◌++◌, false, true, length, arith, ap, sym, subst, ◌∙◌, refl, inl, inr, append_assoc}
 use Rattle.std.specs.Prelude.{codes}
 use Rattle.std.proofs.lemmas.Bool.{cases_Bool}
@@ -11,9 +11,9 @@ use Rattle.command_core.specs.declared.refusal.Refusal.TheVariants.{Unended}
 use Rattle.command_core.proofs.MeaningExistence.{FirstCommand, some_meaning}
 use Rattle.command_core.proofs.Members.{HaveNone, Opens, closed-means, closed-member, first_own, opened}
 
--- ---- the members at the front of records
+-- The members at the beginning of records
 
--- some records are those of members, and those behind them begin with none
+-- Some records belong to members, and no member begins with the records after them.
 record Fronted (number : ℕ) (records : List Record) : Type 0 where
   body : List Record
   rest : List Record
@@ -26,7 +26,7 @@ none_fronted : (number : ℕ) (records : List Record) → HaveNone records → F
 none_fronted number records stops =
     record { body = []; rest = records; members = []; split = refl; are = refl; stops = stops }
 
--- one member more in front
+-- One more member at the beginning.
 more_fronted : (number : ℕ) (records own later : List Record) (member : Member) → records ≡ own ++ later
     → member.number ≡ number → IsMember own member → Fronted (number + length own) later → Fronted number records
 more_fronted number records own later member taken first is found = record {
@@ -38,13 +38,13 @@ more_fronted number records own later member taken first is found = record {
   stops = found.stops;
 }
 
--- fewer records are left behind a command
+-- Fewer records are left after a command.
 fewer : (most : ℕ) (records own later : List Record) → length records ≤ suc most → records ≡ own ++ later → Opens own
     → length later ≤ most
 fewer most records own later few taken o =
     omega (arith, few, ap length taken, length-append own later, ap length o.whole)
 
--- what is behind a command has members at its front
+-- The records after a command begin with members.
 abbrev BehindFronted : ℕ → List Record → Type 0
 BehindFronted number records =
     (own later : List Record) → records ≡ own ++ later → Opens own → Fronted (number + length own) later

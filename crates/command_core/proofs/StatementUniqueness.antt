@@ -10,7 +10,7 @@ use Rattle.command_core.specs.Words.{begins, is_end, opens_block}
 use Rattle.command_core.proofs.Members.{open-none, same_members}
 use Rattle.command_core.proofs.MeaningUniqueness.{one_meaning, same_head, same_tail}
 
--- `end` opens no block
+-- An `end` opens no block.
 end_opens_none : (line : Record) → is_end line ≡ true → opens_block line ≡ true → ⊥
 end_opens_none [] ends opens = cc
 end_opens_none (first ∷ []) ends opens =
@@ -20,14 +20,14 @@ end_opens_none (first ∷ []) ends opens =
     cc none
 end_opens_none (first ∷ second ∷ rest) ends opens = cc ends
 
--- what an `end` begins is nothing that waits for one
+-- Records that begin with an `end` don't wait for one.
 closed_or_open : (last : Record) (later rest : List Record) → is_end last ≡ true → IsOpen rest → last ∷ later ≡ rest → ⊥
 closed_or_open last later [] ends unclosed e = cc
 closed_or_open last later (first ∷ behind) ends unclosed e =
     let same : last ≡ first = same_head last first later behind e in
     end_opens_none first (subst (λ line. is_end line ≡ true) same ends) unclosed.0
 
--- ---- the records of a statement and those behind it
+-- ---- the records of a statement and the records after it
 
 one_whole : (number : ℕ) (own later : List Record) (statement : Statement) (o : StatesOne number own later statement)
     → own ++ later ≡ o.opening ∷ (o.behind ++ later)
@@ -46,7 +46,7 @@ unended_whole number own later statement u =
 
 -- ---- two statements of the same records
 
--- a command opens no block of commands
+-- A command that opens no block of commands isn't one.
 no_together : (one other : Record) (xs ys : List Record) → begins (codes "together") one ≡ false
     → begins (codes "together") other ≡ true → one ∷ xs ≡ other ∷ ys → ⊥
 no_together one other xs ys plain opens e =

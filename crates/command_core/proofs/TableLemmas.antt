@@ -1,4 +1,4 @@
--- A new table's columns, read one after another, and its key.
+-- A new table's columns, read in order, and its key.
 use Rattle.std.proofs.Common.{◌≡◌, ℕ, ◌≤◌, List, [], ◌∷◌, ◌++◌, Bool, false, length, drop, Option, Some, None, refl, sym, ap, ◌∙◌, arith, append_assoc}
 use Rattle.std.specs.Borrow.{Bor}
 use Rattle.std.specs.Prelude.{codes, if◌then◌else◌, option_map}
@@ -9,11 +9,11 @@ use Rattle.command_core.specs.Records.{Record}
 use Rattle.command_core.specs.TableCommand.{first_column, raw_column, raw_of}
 use Rattle.command_core.specs.Words.{begins}
 
--- columns that were read, and what the rest gives
+-- The columns already read, followed by the form of the rest.
 abbrev pub form_behind : List (List ℕ × Kind) → Option TableForm → Option TableForm
 form_behind columns more = option_map (λ rest. (columns ++ rest.0, rest.1)) more
 
--- what two fields and the rest give, by whether the first is `key`
+-- The form of two fields and the rest, by whether the first is `key`.
 abbrev behind_word : List (List ℕ × Kind) → Record → Bool → List ℕ → List ℕ → Option TableForm
 behind_word columns fields is_key name word =
     form_behind columns
@@ -25,7 +25,7 @@ behind-one columns name kind None = refl
 behind-one columns name kind (Some rest) =
     ap (λ l. Some (l, rest.1)) (sym (append_assoc columns ((name, kind) ∷ []) rest.0))
 
--- a name and a kind
+-- One more column.
 pub column-here : (fields : Record) (columns : List (List ℕ × Kind)) (column : List ℕ × Kind) → 2 ≤ length fields
     → begins (codes "key") fields ≡ false → first_column fields ≡ Some column
     → form_behind columns (table_form fields) ≡ form_behind (columns ++ column ∷ []) (table_form (drop 2 fields))
@@ -43,7 +43,7 @@ column-here (name ∷ word ∷ fields) columns column two e some =
         behind-one columns name kind (table_form fields)
         ∙ ap (λ (c : List ℕ × Kind). form_behind (columns ++ c ∷ []) (table_form fields)) same
 
--- one more column is kept
+-- The same for the columns in memory.
 pub raw_of-push : (columns kept : List (Bor (List ℕ) × Kind)) (column : Bor (List ℕ) × Kind)
     → kept ≡ columns ++ column ∷ []
     → raw_of kept ≡ raw_of columns ++ raw_column column ∷ []

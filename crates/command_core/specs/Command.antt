@@ -9,7 +9,7 @@ use Rattle.command_core.specs.declared.command.Command.{Command}
 use Rattle.command_core.specs.declared.command.Command.TheVariants.{Refused, Make, Load, Update, Delete, Rows, At, Between, FromTo, Dip, Join, Anti, Agg, Check, Log}
 use Rattle.command_core.specs.declared.refusal.Refusal.{Refusal}
 
--- what a command that was read means
+-- The meaning of a command that was read.
 abbrev pub meaning_of : Command → Meaning
 meaning_of (Refused fault) = M.Refuse fault
 meaning_of (Make table schema) = M.Make table schema
@@ -27,6 +27,6 @@ meaning_of (Agg aggregate asof) = M.Agg aggregate asof
 meaning_of (Check table parts instant asof body) = M.Check table parts instant asof (lines_in body)
 meaning_of Log = M.Log
 
--- what a command that was read means, or why it was not
+-- The meaning of a command that was read, or why it was refused.
 abbrev pub meant_by : Result Command Refusal → Result Meaning Refusal
 meant_by read = map_ok meaning_of read

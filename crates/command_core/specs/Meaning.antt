@@ -1,4 +1,4 @@
--- What a command's records mean, before any table is looked at.
+-- What a command's records mean, before any table is read.
 use Rattle.std.specs.Prelude.{ℕ, ◌+◌, ◌≡◌, ◌⊎◌, ◌&&◌, ℤ, List, [], ◌∷◌, ◌++◌, Bool, true, false, Option, Some, None, Result, Ok, Err, All, bytes_eq, codes, length, option_map, if◌then◌else◌}
 use Rattle.std.specs.List.{list_all}
 use Rattle.period_core.specs.declared.period.Period.{Period}
@@ -22,7 +22,7 @@ use Rattle.command_core.specs.declared.refusal.Refusal.TheVariants.{BadCommand, 
 use Rattle.command_core.specs.declared.words.Verb.{Verb}
 use Rattle.command_core.specs.declared.words.Verb.TheVariants as verb
 
--- a command that may be done where the tables allow it, or the fault that it has whatever they are
+-- A command that tables may still refuse, or the fault that it has whatever the tables are.
 pub data Meaning : Type 0 where
   Refuse : Fault → Meaning
   Make : List ℕ → List Column → Meaning
@@ -40,35 +40,35 @@ pub data Meaning : Type 0 where
   Check : List ℕ → ℕ → Option ℤ → Option ℕ → List Record → Meaning
   Log : Meaning
 
--- the refusal, of the record of this number
+-- The refusal of the record of this number.
 abbrev pub refuse : ℕ → Refusal → Meaning
 refuse number refusal = Refuse (fault number refusal)
 
--- the meaning, or the refusal, of the record of this number
+-- The meaning, or the refusal of the record of this number.
 abbrev pub meaning_or_refusal : ℕ → Result Meaning Refusal → Meaning
 meaning_or_refusal number (Ok meaning) = meaning
 meaning_or_refusal number (Err refusal) = refuse number refusal
 
 -- ---- new tables
 
--- the kind of that word
+-- The kind that a word names.
 abbrev pub kind_named : List ℕ → Option Kind
 kind_named word =
     if bytes_eq word (codes "int") then Some kind.Int
     else if bytes_eq word (codes "text") then Some kind.Text
     else None
 
--- columns, and the names of a key's, of which there are none where there is no key
+-- The columns, and the names of the key's columns. A table without a key has no such names.
 abbrev pub TableForm : Type 0
 TableForm = List (List ℕ × Kind) × List (List ℕ)
 
--- a column before others, where its kind is one and they have the right form
+-- The form with one more column at the beginning, if that column's kind is known and the form is right.
 abbrev pub column_before : List ℕ → Option Kind → Option TableForm → Option TableForm
 column_before name None more = None
 column_before name (Some kind) more = option_map (λ form. ((name, kind) ∷ form.0, form.1)) more
 
--- fields that are names and kinds in turn, up to a `key` in a name's place, and behind it the names of
--- the key's columns, at least one
+-- Fields that are column names and kinds, alternately, up to a `key` in a name's position. The names of the key's
+-- columns, at least one, come after `key`.
 abbrev pub table_form : Record → Option TableForm
 table_form [] = Some ([], [])
 table_form (last ∷ []) = None
@@ -76,33 +76,33 @@ table_form (name ∷ word ∷ fields) =
     if bytes_eq name (codes "key") then Some ([], word ∷ fields)
     else column_before name (kind_named word) (table_form fields)
 
--- the columns with their key, or the first refusal, of the columns and then of the key
+-- The columns with their key, or the first refusal. The columns are tested before the key.
 abbrev pub table_columns : TableForm → Result (List Column) Refusal
 table_columns form =
     and_then (map_err schema_refusal (schema_of form.0)) (λ columns. map_err key_refusal (keyed_of columns form.1))
 
--- the names of columns and of a key's are names
+-- The texts for the columns and for the key are names.
 abbrev pub is_named : TableForm → Bool
 is_named form = list_all (λ column. is_name column.0) form.0 && list_all is_name form.1
 
--- a new table of columns, or why there are none
+-- A new table of these columns, or why they are refused.
 abbrev pub make_table : List ℕ → Result (List Column) Refusal → Result Meaning Refusal
 make_table name columns = map_ok (Make name) columns
 
--- a new table, where its name and those of its columns and its key are names
+-- A new table, if its name and the names of its columns and its key are names.
 abbrev pub name_table : List ℕ → Option TableForm → Result Meaning Refusal
 name_table name None = Err BadCommand
 name_table name (Some form) =
     if is_name name && is_named form then make_table name (table_columns form) else Err BadName
 
--- what a record of `table` means
+-- What a record of `table` means.
 abbrev pub table_meaning : Record → Result Meaning Refusal
 table_meaning (word ∷ name ∷ fields) = name_table name (table_form fields)
 table_meaning line = Err BadCommand
 
 -- ---- portions of tables
 
--- the name of a table, then the pairs of its columns and values, and then the portion
+-- What an update means. The table's name is tested first, then the names in settings and conditions, then the portion.
 abbrev pub update_of : List ℕ → List ℕ → List ℕ → List TextPair × List TextPair → Result Meaning Refusal
 update_of name from to parts =
     and_then (name_in name) (λ table.
@@ -110,70 +110,70 @@ update_of name from to parts =
     and_then (named_pairs parts.1) (λ conds.
     and_then (period_in from to) (λ portion. Ok (Update table portion sets conds)))))
 
--- the same of a deletion, which has conditions alone
+-- What a deletion means, which has no settings.
 abbrev pub delete_of : List ℕ → List ℕ → List ℕ → List TextPair → Result Meaning Refusal
 delete_of name from to conds =
     and_then (name_in name) (λ table.
     and_then (named_pairs conds) (λ named.
     and_then (period_in from to) (λ portion. Ok (Delete table portion named))))
 
--- what follows from fields, where they have the right form
+-- What follows from the fields, or `BadCommand` if they don't have the right form.
 abbrev pub if_formed : {T : Type 0} → (T → Result Meaning Refusal) → Option T → Result Meaning Refusal
 if_formed follow None = Err BadCommand
 if_formed follow (Some fields) = follow fields
 
--- what a record of `update` means
+-- What a record of `update` means.
 abbrev pub update_meaning : Record → Result Meaning Refusal
 update_meaning (word ∷ name ∷ from ∷ to ∷ fields) = if_formed (update_of name from to) (settings_in fields)
 update_meaning line = Err BadCommand
 
--- what a record of `delete` means
+-- What a record of `delete` means.
 abbrev pub delete_meaning : Record → Result Meaning Refusal
 delete_meaning (word ∷ name ∷ from ∷ to ∷ fields) = if_formed (delete_of name from to) (conditions_in fields)
 delete_meaning line = Err BadCommand
 
 -- ---- queries
 
--- what a record of `rows` means
+-- What a record of `rows` means.
 abbrev pub rows_meaning : Record → Result Meaning Refusal
 rows_meaning line = map_ok (λ r. Rows r.0 r.1) (with_asof named line)
 
--- of `at`
+-- What a record of `at` means.
 abbrev pub at_meaning : Record → Result Meaning Refusal
 at_meaning line = map_ok (λ r. At r.0.0 r.0.1 r.1) (with_asof dated line)
 
--- of `dip`
+-- What a record of `dip` means.
 abbrev pub dip_meaning : Record → Result Meaning Refusal
 dip_meaning line = map_ok (λ r. Dip r.0 r.1) (with_asof named line)
 
--- of `between`
+-- What a record of `between` means.
 abbrev pub between_meaning : Record → Result Meaning Refusal
 between_meaning line = map_ok (λ r. Between r.0 r.1.0 r.1.1) (spanned line)
 
--- of `fromto`
+-- What a record of `fromto` means.
 abbrev pub from_to_meaning : Record → Result Meaning Refusal
 from_to_meaning line = map_ok (λ r. FromTo r.0 r.1.0 r.1.1) (spanned line)
 
--- of `join`
+-- What a record of `join` means.
 abbrev pub join_meaning : Record → Result Meaning Refusal
 join_meaning line = map_ok (λ r. Join r.0 r.1) (with_asof compared line)
 
--- of `anti`
+-- What a record of `anti` means.
 abbrev pub anti_meaning : Record → Result Meaning Refusal
 anti_meaning line = map_ok (λ r. Anti r.0 r.1) (with_asof compared line)
 
--- of `agg`
+-- What a record of `agg` means.
 abbrev pub agg_meaning : Record → Result Meaning Refusal
 agg_meaning line = map_ok (λ r. Agg r.0 r.1) (with_asof aggregated line)
 
--- of `log`, which has no other field
+-- What a record of `log` means. It has no other field.
 abbrev pub log_meaning : Record → Result Meaning Refusal
 log_meaning (word ∷ []) = Ok Log
 log_meaning line = Err BadCommand
 
 -- ---- commands
 
--- what a command of one record means, by its word
+-- What a command of one record means, by its word.
 abbrev pub verb_meaning : Record → Option Verb → Result Meaning Refusal
 verb_meaning line None = Err BadCommand
 verb_meaning line (Some verb.Table) = table_meaning line
@@ -189,35 +189,35 @@ verb_meaning line (Some verb.Anti) = anti_meaning line
 verb_meaning line (Some verb.Agg) = agg_meaning line
 verb_meaning line (Some verb.Log) = log_meaning line
 
--- what a command of one record means
+-- What a command of one record means.
 abbrev pub record_meaning : Record → Result Meaning Refusal
 record_meaning line = verb_meaning line (verb_of line)
 
--- what a block of `load` means
+-- What a block of `load` means.
 abbrev pub load_meaning : Record → List Record → Result Meaning Refusal
 load_meaning opening body = map_ok (λ name. Load name body) (named opening)
 
--- what a block of `check` means
+-- What a block of `check` means.
 abbrev pub check_meaning : Record → List Record → Result Meaning Refusal
 check_meaning opening body = map_ok (λ r. Check r.0.0 r.0.1.0 r.0.1.1 r.1 body) (with_asof claimed opening)
 
--- what a block means, by the word that opens it
+-- What a block means, by the word that opens it.
 abbrev pub block_meaning : Record → List Record → Result Meaning Refusal
 block_meaning opening body =
     if begins (codes "load") opening then load_meaning opening body else check_meaning opening body
 
--- no record of a block's body ends it
+-- No record of a block's body ends it.
 abbrev pub IsBody : List Record → Type 0
 IsBody body = All (λ line. is_end line ≡ false) body
 
--- a command of one record
+-- A command of one record.
 pub record MeansRecord (number : ℕ) (own : List Record) (meaning : Meaning) : Type 0 where
   pub opening : Record
   pub alone : own ≡ opening ∷ []
   pub plain : opens_block opening ≡ false
   pub means : meaning ≡ meaning_or_refusal number (record_meaning opening)
 
--- a block runs to the next `end`
+-- A block, which runs to the next `end`.
 pub record MeansBlock (number : ℕ) (own : List Record) (meaning : Meaning) : Type 0 where
   pub opening : Record
   pub body : List Record
@@ -228,7 +228,7 @@ pub record MeansBlock (number : ℕ) (own : List Record) (meaning : Meaning) : T
   pub closes : is_end last ≡ true
   pub means : meaning ≡ meaning_or_refusal number (block_meaning opening body)
 
--- a block without its `end` holds the rest of the script
+-- A block without its `end` takes the rest of the script.
 pub record MeansUnended (number : ℕ) (own later : List Record) (meaning : Meaning) : Type 0 where
   pub opening : Record
   pub body : List Record
@@ -238,13 +238,13 @@ pub record MeansUnended (number : ℕ) (own later : List Record) (meaning : Mean
   pub last : later ≡ []
   pub means : meaning ≡ refuse number Unended
 
--- the records that one command takes, the first of them of this number and these behind it, and what
--- it means
+-- One command takes the records `own`, followed by `later`, and has this meaning. `number` is the number of its first
+-- record.
 abbrev pub Means : ℕ → List Record → List Record → Meaning → Type 0
 Means number own later meaning =
     MeansRecord number own meaning ⊎ MeansBlock number own meaning ⊎ MeansUnended number own later meaning
 
--- how many records a command has behind its first, where it is a block that may be done
+-- How many records a block that isn't refused has after its first; 0 for other commands.
 abbrev pub behind_length : Meaning → ℕ
 behind_length (Load name body) = length body + 1
 behind_length (Check name parts instant asof body) = length body + 1

@@ -8,7 +8,7 @@ use Rattle.command_core.specs.declared.refusal.Fault.{Fault}
 use Rattle.command_core.specs.declared.refusal.Refusal.{Refusal}
 use Rattle.command_core.specs.declared.refusal.Refusal.TheVariants.{BadCommand, BadName, BadNumber, BadPeriod, BadPoint, BadUtf8, Full, Future, KeyOverlap, NoColumn, NoTable, NotInBlock, TableExists, TooLong, TooMany, TwiceNamed, Unended, WrongKind, WrongWidth}
 
--- a refusal as it is printed
+-- The name of a refusal as it is printed.
 abbrev pub refusal_text : Refusal → List ℕ
 refusal_text BadCommand = codes "BadCommand"
 refusal_text BadName = codes "BadName"
@@ -30,16 +30,16 @@ refusal_text Unended = codes "Unended"
 refusal_text WrongKind = codes "WrongKind"
 refusal_text WrongWidth = codes "WrongWidth"
 
--- what is wrong with the record of this number
+-- The fault of the record of this number.
 abbrev pub fault : ℕ → Refusal → Fault
 fault number refusal = record { number = number; refusal = refusal }
 
--- what is wrong with columns
+-- The refusal for columns that don't make a schema.
 abbrev pub schema_refusal : SchemaRefused → Refusal
 schema_refusal schema.TooMany = TooMany
 schema_refusal schema.TwiceNamed = TwiceNamed
 
--- what is wrong with a key
+-- The refusal for columns that don't make a key.
 abbrev pub key_refusal : KeyRefused → Refusal
 key_refusal key.NoColumn = NoColumn
 key_refusal key.TwiceNamed = TwiceNamed

@@ -1,15 +1,15 @@
--- What a record says by its words.
+-- What the words of a record say.
 use Rattle.std.specs.Prelude.{ℕ, List, [], ◌∷◌, Bool, ◌||◌, false, Option, Some, None, bytes_eq, codes, if◌then◌else◌}
 use Rattle.command_core.specs.Records.{Record}
 use Rattle.command_core.specs.declared.words.Verb.{Verb}
 use Rattle.command_core.specs.declared.words.Verb.TheVariants.{Table, Update, Delete, Rows, At, Between, FromTo, Dip, Join, Anti, Agg, Log}
 
--- the first field is this word
+-- The first field is `word`.
 abbrev pub begins : List ℕ → Record → Bool
 begins word [] = false
 begins word (first ∷ rest) = bytes_eq first word
 
--- the command of one record that the first field is the word of
+-- The command of one record that the first field names.
 abbrev pub verb_of : Record → Option Verb
 verb_of line =
     if begins (codes "table") line then Some Table
@@ -26,11 +26,11 @@ verb_of line =
     else if begins (codes "log") line then Some Log
     else None
 
--- the record of the one field `end`
+-- The record is the one field `end`.
 abbrev pub is_end : Record → Bool
 is_end (first ∷ []) = bytes_eq first (codes "end")
 is_end line = false
 
--- a block is opened by its word, whatever the other fields are
+-- The record opens a block by its word, whatever its other fields are.
 abbrev pub opens_block : Record → Bool
 opens_block line = begins (codes "load") line || begins (codes "check") line

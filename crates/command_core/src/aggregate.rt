@@ -20,18 +20,18 @@ use crate::refusal::Refusal;
 use crate::words::begins;
 use row_core::{Func, Name};
 
-/// A function of the rows of a table, group by group.
+/// A function of a table's rows, for each group.
 #[derive(Clone, Copy, Debug)]
 pub struct Aggregate {
     /// The table's name.
     pub table: Name,
-    /// What is asked of each group's rows.
+    /// The function that is computed for each group.
     pub func: Func,
-    /// The column that the rows are grouped by; without one all are one group.
+    /// The column that the rows are grouped by; without one, all rows are one group.
     pub by: Option<Name>,
 }
 
-/// An aggregate as its record gives it, where no name has been tested.
+/// An aggregate as its record gives it, before any name is tested.
 #[derive(Clone, Copy)]
 struct RawAggregate<'a> {
     table: &'a [u8],
@@ -39,7 +39,7 @@ struct RawAggregate<'a> {
     by: Option<&'a [u8]>,
 }
 
-/// A function, and its column's name, which may be none.
+/// A function, and the text that should name its column.
 #[derive(Clone, Copy)]
 enum RawFunc<'a> {
     Count,
@@ -48,7 +48,7 @@ enum RawFunc<'a> {
     Max(&'a [u8]),
 }
 
-/// The function of that word over a column's numbers.
+/// Returns the function that `word` names, over a column's numbers.
 fn column_func<'a>(word: &[u8], column: &'a [u8]) -> Option<RawFunc<'a>>
     ensures { option_map func_of result ≡ column_func word.now column.entry.now }
 {
@@ -63,7 +63,7 @@ fn column_func<'a>(word: &[u8], column: &'a [u8]) -> Option<RawFunc<'a>>
     }
 }
 
-/// The column that rows are grouped by, named behind `by`; none where there is no field at all.
+/// Returns the column that rows are grouped by, given after the word `by`. Returns `Some(None)` without any field.
 fn group_named<'a>(fields: Line<'a>) -> Option<Option<&'a [u8]>>
     ensures { option_map (option_map (λ column. column.now)) result
         ≡ group_named (fields_in fields.entry) }
@@ -78,7 +78,7 @@ fn group_named<'a>(fields: Line<'a>) -> Option<Option<&'a [u8]>>
     }
 }
 
-/// A function of a table's rows, and the grouping that the fields behind it name.
+/// Returns the aggregate of `func` over `table`, with the grouping that `fields` give.
 fn grouped<'a>(table: &'a [u8], fields: Line<'a>, func: RawFunc<'a>) -> Option<RawAggregate<'a>>
     ensures { option_map aggregate_of result
         ≡ grouped table.entry.now (fields_in fields.entry) (func_of func.entry) }
@@ -87,7 +87,7 @@ fn grouped<'a>(table: &'a [u8], fields: Line<'a>, func: RawFunc<'a>) -> Option<R
     Some(RawAggregate { table, func, by })
 }
 
-/// The aggregate of a column's numbers: the column, and then the grouping.
+/// Returns the aggregate over a column's numbers. The fields are the column, then the grouping.
 fn column_form<'a>(table: &'a [u8], word: &[u8], fields: Line<'a>) -> Option<RawAggregate<'a>>
     ensures { option_map aggregate_of result
         ≡ column_form table.entry.now word.now (fields_in fields.entry) }
@@ -97,7 +97,7 @@ fn column_form<'a>(table: &'a [u8], word: &[u8], fields: Line<'a>) -> Option<Raw
     grouped(table, fields.range(1, fields.len()), func)
 }
 
-/// The aggregate of a record that has the form for one: a count takes no column, the other functions
+/// Returns the aggregate of a record, if the record has the right form: `count` takes no column, the other functions
 /// take one.
 fn aggregate_form<'a>(line: Line<'a>) -> Option<RawAggregate<'a>>
     ensures { option_map aggregate_of result ≡ aggregate_form (fields_in line.entry) }
@@ -112,7 +112,7 @@ fn aggregate_form<'a>(line: Line<'a>) -> Option<RawAggregate<'a>>
     }
 }
 
-/// The function, where its column, if it has one, has a name that is one.
+/// Returns the function, or `BadName` if its column's text isn't a name.
 fn named_func(func: RawFunc<'_>) -> Result<Func, Refusal>
     ensures { result ≡ named_func (func_of func.entry) }
 {
@@ -124,7 +124,7 @@ fn named_func(func: RawFunc<'_>) -> Result<Func, Refusal>
     }
 }
 
-/// The column that rows are grouped by, if there is one, where it has a name that is one.
+/// Returns the grouping column, or `BadName` if its text isn't a name.
 fn named_group(column: Option<&[u8]>) -> Result<Option<Name>, Refusal>
     ensures { result ≡ named_group (option_map (λ text. text.now) column.entry) }
 {
@@ -134,7 +134,7 @@ fn named_group(column: Option<&[u8]>) -> Result<Option<Name>, Refusal>
     }
 }
 
-/// The aggregate, where its table and its columns have names that are names.
+/// Returns the aggregate, or `BadName` if the text of its table or of a column isn't a name.
 fn named_aggregate(raw: RawAggregate<'_>) -> Result<Aggregate, Refusal>
     ensures { result ≡ named_aggregate (aggregate_of raw.entry) }
 {
@@ -144,7 +144,7 @@ fn named_aggregate(raw: RawAggregate<'_>) -> Result<Aggregate, Refusal>
     Ok(Aggregate { table, func, by })
 }
 
-/// The aggregate that a record names: its form is tested before its names.
+/// Returns the aggregate that a record asks for. Its form is tested before its names.
 pub(crate) fn aggregated(line: Line<'_>) -> Result<Aggregate, Refusal>
     ensures { result ≡ aggregated (fields_in line.entry) }
 {

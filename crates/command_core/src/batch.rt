@@ -1,4 +1,4 @@
-//! Records of a script, kept flat: all their fields one behind another, and where each record ends among them.
+//! Records of a script, stored flat: all their fields in one list, and the index where each record ends in it.
 ghost use Rattle.std.specs.Prelude.{◌≡◌, ◌+◌, ◌<◌, ◌^◌, ◌++◌, ◌∷◌, [], length, option_map, slice_get, sum_by, IfOk, OnOk, Some};
 ghost use Rattle.csv.specs.Records.{IsRecord, fields_of};
 ghost use Rattle.list_core.specs.Cut.{cut, EndsAt};
@@ -13,14 +13,13 @@ use period_core::NoMemory;
 use std::alloc::Global;
 use std::marker::Model;
 
-/// The room that a large batch is begun with: so much is given back at once.
+/// The capacity of a full-size batch, in bytes. Memory is freed a batch at a time.
 pub(crate) const BYTES_OF_BATCH: usize = 4_194_304;
 
-/// A batch with more bytes may have no room for one more record.
+/// A batch with more bytes counts as full: one more record might make it grow.
 const FULL: usize = BYTES_OF_BATCH - 65_536;
 
-/// Records one after another, first to last. Contracts see the list of them, each the list of its
-/// fields' bytes.
+/// Consecutive records. Contracts see a list of records, each a list of its fields' bytes.
 #[derive(Drop)]
 pub(crate) struct Batch {
     fields: FlatFields,
@@ -41,7 +40,7 @@ impl Model for Batch {
 impl Batch {
     ghost use Rattle.command_core.specs.Seams.{joined, last};
 
-    /// No records, with room for so many bytes.
+    /// Returns a batch without records, with capacity for `bytes` bytes of fields.
     pub(crate) fn with_capacity(alloc: Global, bytes: usize) -> Result<Batch, NoMemory>
         ensures { IfOk result (λ batch. batch ≡ []) }
     {
@@ -51,14 +50,14 @@ impl Batch {
         })
     }
 
-    /// How many there are.
+    /// Returns the number of records.
     pub(crate) fn len(&self) -> usize
         ensures { result ≡ length self.now }
     {
         self.ends.len()
     }
 
-    /// The record at that place, from 0.
+    /// Returns the record at an index.
     pub(crate) fn line(&self, place: usize) -> Line<'_>
         requires { place < length self.now }
         ensures { slice_get self.now place ≡ Some (fields_in result) }
@@ -66,19 +65,19 @@ impl Batch {
         line_at(&self.fields, &self.ends, place)
     }
 
-    /// The last field of all, if there are any.
+    /// Returns the last field of the last record, or `None` if the records have no field.
     pub(crate) fn last_field(&self) -> Option<&[u8]>
         ensures { option_map (λ s. s.now) result ≡ last (joined self.now) }
     {
         self.fields.last()
     }
 
-    /// Whether one more record may call for more room.
+    /// Returns whether one more record might make the buffer grow.
     pub(crate) fn is_full(&self) -> bool {
         self.fields.size() > FULL
     }
 
-    /// Adds a record. On refusal there are none more.
+    /// Appends a record. If memory is refused, the records stay as they were.
     pub(crate) fn push(&mut self, row: &ByteRecord) -> Result<(), NoMemory>
         requires whole { IsRecord row.now }
         requires bytes { sum_by size_of self.old + size_of (fields_of row.now) < 2 ^ 32 }
@@ -89,7 +88,7 @@ impl Batch {
     }
 }
 
-/// Adds the fields of a record, and where it ends. On refusal there are none more.
+/// Appends a record's fields, and the index where the record ends. If memory is refused, the records stay as they were.
 fn push_record(
     fields: &mut FlatFields,
     ends: &mut Vec<u32>,
@@ -112,7 +111,7 @@ fn push_record(
     Ok(())
 }
 
-/// The record at a place.
+/// Returns the record at an index.
 fn line_at<'a>(fields: &'a FlatFields, ends: &[u32], place: usize) -> Line<'a>
     requires place { place < length ends.now }
     requires ends { EndsAt 0 ends.now (length fields.now) }

@@ -10,80 +10,81 @@ use crate::refusal::{Fault, Refusal};
 use period_core::{Period, Point};
 use row_core::{Name, Schema};
 
-/// A command that may be done where the tables allow it, or the fault that it has whatever they are.
-/// A query's `asof` is the commit that it reads, and without one it reads the newest.
+/// A command that tables may still refuse, or the fault that it has whatever the tables are. A query's `asof` is the
+/// commit that it reads; without one it reads the newest.
 #[derive(Drop)]
 pub enum Command<'a> {
-    /// It is refused, whatever the tables are.
+    /// A command with a fault.
     Refused(Fault),
-    /// A new table.
+    /// Makes a new table.
     Make {
         table: Name,
         schema: Schema,
     },
-    /// The body is the records behind the command's own and before its `end`.
+    /// Adds rows. The body is the records between the command's own and its `end`.
     Load {
         table: Name,
         body: Lines<'a>,
     },
-    /// Other values for a portion of the rows that have the conditions' values.
+    /// Sets values in a portion of the rows that match the conditions.
     Update {
         table: Name,
         portion: Period,
         sets: TextPairs<'a>,
         conds: TextPairs<'a>,
     },
-    /// A portion taken out of the rows that have the conditions' values.
+    /// Removes a portion of the rows that match the conditions.
     Delete {
         table: Name,
         portion: Period,
         conds: TextPairs<'a>,
     },
-    /// All rows.
+    /// Asks for all rows.
     Rows {
         table: Name,
         asof: Option<u64>,
     },
-    /// The rows that hold at a point.
+    /// Asks for the rows that hold at a point.
     At {
         table: Name,
         point: Point,
         asof: Option<u64>,
     },
-    /// The versions that some commit from the first to the last shows.
+    /// Asks for the versions that some commit in `first..=last` shows.
     Between {
         table: Name,
         first: u64,
         last: u64,
     },
-    /// The versions that some commit from the first on and before the end shows.
+    /// Asks for the versions that some commit in `first..end` shows.
     FromTo {
         table: Name,
         first: u64,
         end: u64,
     },
-    /// The division of the rows.
+    /// Asks for the division of the rows.
     Dip {
         table: Name,
         asof: Option<u64>,
     },
-    /// The rows of two tables that are equal in each pair of columns and held together.
+    /// Asks for the pairs of rows of two tables that are equal in each pair of columns, with the period in which both
+    /// hold.
     Join {
         tables: TwoTables<'a>,
         asof: Option<u64>,
     },
-    /// The rows of the left table, for as long as no row of the right one holds that is equal to them in
-    /// each pair of columns.
+    /// Asks for the left table's rows, with the periods in which no right row holds that is equal in each pair of
+    /// columns.
     Anti {
         tables: TwoTables<'a>,
         asof: Option<u64>,
     },
-    /// What the rows of each group come to, from instant to instant.
+    /// Asks for an aggregate of each group's rows, at each instant.
     Agg {
         aggregate: Aggregate,
         asof: Option<u64>,
     },
-    /// A check of a division: its number of parts, its instant, and in the body its parts.
+    /// Asks whether a division is right: its number of parts, its instant, and in the body its parts.
     Check {
         table: Name,
         parts: u64,
@@ -91,11 +92,11 @@ pub enum Command<'a> {
         asof: Option<u64>,
         body: Lines<'a>,
     },
-    /// What each commit did.
+    /// Asks what each commit did.
     Log,
 }
 
-/// The command that is refused so, at the record of that number.
+/// Returns the command that means this refusal of the record of this number.
 pub(crate) fn refused<'a>(number: u64, refusal: Refusal) -> Command<'a>
     ensures { meaning_of result ≡ refuse number refusal }
 {

@@ -1,4 +1,4 @@
-//! What the fields of a record give.
+//! Values that are read from a record's fields.
 ghost use Rattle.std.specs.Prelude.{◌≡◌, option_map};
 ghost use Rattle.command_core.specs.Fields.{
   both_ok,
@@ -27,7 +27,7 @@ use crate::words::begins;
 use period_core::{Period, Point};
 use row_core::{Name, read_number};
 
-/// The name that a text is.
+/// Returns the name that a text spells, or `BadName`.
 pub(crate) fn name_in(text: &[u8]) -> Result<Name, Refusal>
     ensures { result ≡ name_in text.now }
 {
@@ -37,7 +37,7 @@ pub(crate) fn name_in(text: &[u8]) -> Result<Name, Refusal>
     }
 }
 
-/// The point that a text is.
+/// Returns the point that a text spells, or `BadPoint`.
 fn point_in(text: &[u8]) -> Result<Point, Refusal>
     ensures { result ≡ point_in text.now }
 {
@@ -47,7 +47,7 @@ fn point_in(text: &[u8]) -> Result<Point, Refusal>
     }
 }
 
-/// The number that a text is, written as a column's, and not negative.
+/// Returns the number that a text spells in the form of a column's number, or `BadNumber`, also if it is negative.
 pub fn natural_in(text: &[u8]) -> Result<u64, Refusal>
     ensures { result ≡ natural_in text.now }
 {
@@ -57,7 +57,7 @@ pub fn natural_in(text: &[u8]) -> Result<u64, Refusal>
     }
 }
 
-/// The instant that a text is: a point, or `-` for none.
+/// Returns the instant that a text spells: a point, or `None` for `-`.
 fn instant_in(text: &[u8]) -> Result<Option<Point>, Refusal>
     ensures { result ≡ instant_in text.now }
 {
@@ -68,7 +68,8 @@ fn instant_in(text: &[u8]) -> Result<Option<Point>, Refusal>
     }
 }
 
-/// The period from one text's point on and before another's.
+/// Returns the period from the first point to before the second, or `BadPoint`, or `BadPeriod` if the first isn't
+/// before the second.
 pub(crate) fn period_in(from: &[u8], to: &[u8]) -> Result<Period, Refusal>
     ensures { result ≡ period_in from.now to.now }
 {
@@ -78,7 +79,7 @@ pub(crate) fn period_in(from: &[u8], to: &[u8]) -> Result<Period, Refusal>
     }
 }
 
-/// The name that a record is on that has no other field behind its word.
+/// Returns the name in a record that has just a name after its word.
 pub(crate) fn named(line: Line<'_>) -> Result<Name, Refusal>
     ensures { result ≡ named (fields_in line.entry) }
 {
@@ -88,14 +89,14 @@ pub(crate) fn named(line: Line<'_>) -> Result<Name, Refusal>
     }
 }
 
-/// The name and the point that two texts are.
+/// Returns a name and a point, or the first refusal.
 fn name_and_point(name: &[u8], point: &[u8]) -> Result<(Name, Point), Refusal>
     ensures { result ≡ both_ok (name_in name.now) (point_in point.now) }
 {
     Ok((name_in(name)?, point_in(point)?))
 }
 
-/// The name and the point that a record of two fields behind its word is on.
+/// Returns the name and the point in a record that has just these after its word.
 pub(crate) fn dated(line: Line<'_>) -> Result<(Name, Point), Refusal>
     ensures { result ≡ dated (fields_in line.entry) }
 {
@@ -105,7 +106,7 @@ pub(crate) fn dated(line: Line<'_>) -> Result<(Name, Point), Refusal>
     }
 }
 
-/// The name and the two numbers that texts are.
+/// Returns a name and two numbers, or the first refusal.
 fn name_and_span(name: &[u8], first: &[u8], last: &[u8]) -> Result<(Name, (u64, u64)), Refusal>
     ensures { result ≡ both_ok (name_in name.now)
         (both_ok (natural_in first.now) (natural_in last.now)) }
@@ -113,7 +114,7 @@ fn name_and_span(name: &[u8], first: &[u8], last: &[u8]) -> Result<(Name, (u64, 
     Ok((name_in(name)?, (natural_in(first)?, natural_in(last)?)))
 }
 
-/// The name and the two numbers that a record of three fields behind its word is on.
+/// Returns the name and the two numbers in a record that has just these after its word.
 pub(crate) fn spanned(line: Line<'_>) -> Result<(Name, (u64, u64)), Refusal>
     ensures { result ≡ spanned (fields_in line.entry) }
 {
@@ -123,7 +124,7 @@ pub(crate) fn spanned(line: Line<'_>) -> Result<(Name, (u64, u64)), Refusal>
     }
 }
 
-/// The name, the number and the instant that texts are.
+/// Returns a name, a number and an instant, or the first refusal.
 fn name_and_claim(
     name: &[u8],
     parts: &[u8],
@@ -135,7 +136,7 @@ fn name_and_claim(
     Ok((name_in(name)?, (natural_in(parts)?, instant_in(instant)?)))
 }
 
-/// The name, the number and the instant that a record of three fields behind its word is on.
+/// Returns the name, the number and the instant in a record that has just these after its word.
 pub(crate) fn claimed(line: Line<'_>) -> Result<(Name, (u64, Option<Point>)), Refusal>
     ensures { result ≡ claimed (fields_in line.entry) }
 {
@@ -145,7 +146,7 @@ pub(crate) fn claimed(line: Line<'_>) -> Result<(Name, (u64, Option<Point>)), Re
     }
 }
 
-/// The two tables whose names texts are, and the pairs of names that fields are.
+/// Returns two tables' names and the pairs of column names that `fields` give, or the first refusal.
 fn names_and_pairs<'a>(
     left: &[u8],
     right: &[u8],
@@ -161,7 +162,7 @@ fn names_and_pairs<'a>(
     Ok(TwoTables { left, right, on })
 }
 
-/// Two tables, and the pairs of their columns that are named behind `on`, if there are any.
+/// Returns two tables and the pairs of their columns that follow the word `on`, if it is there.
 pub(crate) fn compared<'a>(line: Line<'a>) -> Result<TwoTables<'a>, Refusal>
     ensures { map_ok compared_in result ≡ compared (fields_in line.entry) }
 {
@@ -174,7 +175,7 @@ pub(crate) fn compared<'a>(line: Line<'a>) -> Result<TwoTables<'a>, Refusal>
     }
 }
 
-/// A record without its suffix `asof,N`, and the text of that number.
+/// Returns a record without its suffix `asof,N`, and the text of `N` if there is a suffix.
 pub(crate) fn split_asof<'a>(line: Line<'a>) -> (Line<'a>, Option<&'a [u8]>)
     ensures front { fields_in result.0 ≡ (split_asof (fields_in line.entry)).0 }
     ensures text { option_map (λ s. s.now) result.1 ≡ (split_asof (fields_in line.entry)).1 }
@@ -190,7 +191,7 @@ pub(crate) fn split_asof<'a>(line: Line<'a>) -> (Line<'a>, Option<&'a [u8]>)
     }
 }
 
-/// The commit that a suffix names, where there is one.
+/// Returns the commit that a suffix names, if there is a suffix.
 pub(crate) fn commit_named(text: Option<&[u8]>) -> Result<Option<u64>, Refusal>
     ensures { result ≡ commit_named (option_map (λ s. s.now) text.entry) }
 {

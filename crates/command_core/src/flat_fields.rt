@@ -1,4 +1,4 @@
-//! Fields of records, kept flat: the bytes of all in one list, and where each field ends in it.
+//! Fields of records, stored flat: the bytes of all fields in one list, and the index where each field ends in it.
 ghost use Rattle.std.specs.Prelude.{◌≡◌, ◌+◌, ◌<◌, ◌^◌, ◌++◌, [], length, slice_get, option_map, IfOk, OnErr, OnOk, Some};
 ghost use Rattle.csv.specs.Records.{IsRecord, fields_of};
 ghost use Rattle.command_core.specs.Flat.{ends_from, size_of};
@@ -9,8 +9,7 @@ use period_core::NoMemory;
 use std::alloc::Global;
 use std::marker::Model;
 
-/// Fields one after another. Contracts see the list of them, each the list of its bytes. A script
-/// has so few bytes that 32 bits hold the place where a field ends.
+/// A list of fields. Contracts see a list of byte lists. Ends fit into 32 bits because a script has fewer than 2 GiB.
 #[derive(Drop)]
 pub struct FlatFields {
     bytes: Vec<u8>,
@@ -31,7 +30,7 @@ impl Model for FlatFields {
 impl FlatFields {
     ghost use Rattle.command_core.specs.Seams.{last};
 
-    /// No fields, with room for so many bytes.
+    /// Returns an empty list with capacity for `bytes` bytes.
     pub(crate) fn with_capacity(alloc: Global, bytes: usize) -> Result<FlatFields, NoMemory>
         ensures { IfOk result (λ fields. fields ≡ []) }
     {
@@ -41,21 +40,21 @@ impl FlatFields {
         })
     }
 
-    /// How many there are.
+    /// Returns the number of fields.
     pub fn len(&self) -> usize
         ensures { result ≡ length self.now }
     {
         self.ends.len()
     }
 
-    /// How many bytes they have.
+    /// Returns the number of bytes of all fields.
     pub(crate) fn size(&self) -> usize
         ensures { result ≡ size_of self.now }
     {
         self.bytes.len()
     }
 
-    /// The field at that place, from 0.
+    /// Returns the field at an index, or `None` past the end.
     pub fn get(&self, place: usize) -> Option<&[u8]>
         ensures { option_map (λ s. s.now) result ≡ slice_get self.now place }
     {
@@ -66,7 +65,7 @@ impl FlatFields {
         }
     }
 
-    /// The field at that place, from 0, which is there.
+    /// Returns the field at an index, which must exist.
     #[inline(always)]
     pub(crate) fn at(&self, place: usize) -> &[u8]
         requires { place < length self.now }
@@ -75,14 +74,14 @@ impl FlatFields {
         part_at(&self.bytes, &self.ends, place)
     }
 
-    /// The last one, if there are any.
+    /// Returns the last field, or `None` without any field.
     pub(crate) fn last(&self) -> Option<&[u8]>
         ensures { option_map (λ s. s.now) result ≡ last self.now }
     {
         self.get(self.ends.len().saturating_sub(1))
     }
 
-    /// Adds the fields of a record. On refusal there are none more.
+    /// Appends the fields of a record. If memory is refused, the list stays as it was.
     pub(crate) fn append(&mut self, row: &ByteRecord) -> Result<(), NoMemory>
         requires whole { IsRecord row.now }
         requires few { size_of self.old + size_of (fields_of row.now) < 2 ^ 32 }
@@ -100,8 +99,8 @@ impl FlatFields {
     }
 }
 
-/// Adds where the fields of a record end, of which the first starts there, and returns the last of
-/// these places. On refusal there are none more.
+/// Appends the ends of a record's fields, the first of which starts at `start`. Returns the last end. If memory is
+/// refused, `ends` stays as it was.
 fn push_ends(ends: &mut Vec<u32>, start: usize, row: &ByteRecord) -> Result<usize, NoMemory>
     requires { start + size_of (fields_of row.now) < 2 ^ 32 }
     ensures ok { OnOk result

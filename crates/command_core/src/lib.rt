@@ -1,4 +1,4 @@
-//! The commands of a script: what their records mean, before any table is looked at.
+//! The commands of a script: what their records mean, before any table is read.
 #![tactic(auto)]
 
 mod aggregate;

@@ -4,14 +4,14 @@ ghost use Rattle.std.specs.Prelude.{◌≡◌, ◌-◌, ◌≤◌, length, take,
 use crate::flat_fields::FlatFields;
 use row_core::Fields;
 
-/// One record of a script.
+/// A record of a script: a range of the fields of a batch.
 #[derive(Clone, Copy)]
 pub struct Line<'a> {
-    /// Fields one after another.
+    /// The fields of all records of the batch.
     pub fields: &'a FlatFields,
-    /// The place of the record's first field among them.
+    /// The index of the record's first field.
     pub from: usize,
-    /// The place behind its last.
+    /// The index after the record's last field.
     pub to: usize,
     pub ghost ordered: { from ≤ to },
     pub ghost within: { to ≤ length fields.now },
@@ -20,7 +20,7 @@ pub struct Line<'a> {
 impl<'a> Line<'a> {
     ghost use Rattle.command_core.specs.Lines.{fields_in};
 
-    /// The record of those fields from one place on and before another.
+    /// Returns the record made of the fields at indices `from..to`.
     pub fn new(fields: &'a FlatFields, from: usize, to: usize) -> Line<'a>
         requires ordered { from ≤ to }
         requires within { to ≤ length fields.now }
@@ -29,14 +29,14 @@ impl<'a> Line<'a> {
         Line { fields, from, to }
     }
 
-    /// How many fields there are.
+    /// Returns the number of fields.
     pub fn len(self) -> usize
         ensures { result ≡ length (fields_in self.entry) }
     {
         self.to - self.from
     }
 
-    /// The field at that place, from 0.
+    /// Returns the field of the record at an index, or `None` past the end.
     pub fn get(self, place: usize) -> Option<&'a [u8]>
         ensures { option_map (λ s. s.now) result ≡ slice_get (fields_in self.entry) place }
     {
@@ -47,7 +47,7 @@ impl<'a> Line<'a> {
         }
     }
 
-    /// The fields from one place on and before another, as a record.
+    /// Returns the record made of the fields `from..to` of this one.
     pub fn range(self, from: usize, to: usize) -> Line<'a>
         requires ordered { from ≤ to }
         requires within { to ≤ length (fields_in self) }
@@ -61,7 +61,7 @@ impl<'a> Line<'a> {
     }
 }
 
-/// A row is read from a record as it lies among others.
+/// Lets row_core read a row from a record without a copy.
 impl Fields for Line<'_> {
     ghost use Rattle.command_core.specs.Lines.{fields_in};
 

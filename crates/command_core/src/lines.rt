@@ -1,17 +1,17 @@
-//! Some records of a script in memory, one after another.
+//! Consecutive records of a script in memory.
 ghost use Rattle.std.specs.Prelude.{◌≡◌, ◌-◌, ◌<◌, ◌≤◌, length, take, drop, slice_get, Some};
 
 use crate::line::Line;
 use crate::records::Records;
 
-/// Some records of a script, one after another.
+/// Consecutive records of a script.
 #[derive(Clone, Copy)]
 pub struct Lines<'a> {
-    /// Records one after another.
+    /// The records that these are part of.
     pub records: &'a Records,
-    /// The place of the first of these among them.
+    /// The index of the first of these records.
     pub from: usize,
-    /// The place behind the last.
+    /// The index after the last of these records.
     pub to: usize,
     pub ghost ordered: { from ≤ to },
     pub ghost within: { to ≤ length records.now },
@@ -20,7 +20,7 @@ pub struct Lines<'a> {
 impl<'a> Lines<'a> {
     ghost use Rattle.command_core.specs.Lines.{fields_in, lines_in};
 
-    /// All of the records.
+    /// Returns all of `records`.
     pub fn all(records: &'a Records) -> Lines<'a>
         ensures { lines_in result ≡ records.entry.now }
     {
@@ -31,14 +31,14 @@ impl<'a> Lines<'a> {
         }
     }
 
-    /// How many records there are.
+    /// Returns the number of records.
     pub fn len(self) -> usize
         ensures { result ≡ length (lines_in self.entry) }
     {
         self.to - self.from
     }
 
-    /// The record at that place among these, from 0.
+    /// Returns the record of these at an index.
     pub fn get(self, place: usize) -> Line<'a>
         requires { place < length (lines_in self) }
         ensures { slice_get (lines_in self.entry) place ≡ Some (fields_in result) }
@@ -46,7 +46,7 @@ impl<'a> Lines<'a> {
         self.records.line(self.from + place)
     }
 
-    /// Those from one place on and before another.
+    /// Returns the records at indices `from..to` of these.
     pub fn range(self, from: usize, to: usize) -> Lines<'a>
         requires ordered { from ≤ to }
         requires within { to ≤ length (lines_in self) }

@@ -11,10 +11,10 @@ use crate::refusal::Refusal;
 use crate::words::begins;
 use row_core::Name;
 
-/// Pairs of a column's name and the text of a value, as fields give them in turn.
+/// Pairs of a column's name and the text of a value.
 #[derive(Clone, Copy)]
 pub struct TextPairs<'a> {
-    /// The fields, column and text in turn.
+    /// The fields: a column's name and a text, alternately.
     pub fields: Line<'a>,
     pub ghost named: { IsTrue (all_columns (pairs_of (fields_in fields))) },
 }
@@ -22,14 +22,14 @@ pub struct TextPairs<'a> {
 impl<'a> TextPairs<'a> {
     ghost use Rattle.command_core.specs.PairsIn.{pairs_in};
 
-    /// How many there are.
+    /// Returns the number of pairs.
     pub fn len(self) -> usize
         ensures { result ≡ length (pairs_in self.entry) }
     {
         pair_count(self.fields)
     }
 
-    /// The pair at that place, from 0; None exactly past the last.
+    /// Returns the pair at an index, or `None` past the end.
     pub fn get(self, place: usize) -> Option<(Name, &'a [u8])>
         ensures { option_map (λ pair. (pair.0, pair.1.now)) result
             ≡ slice_get (pairs_in self.entry) place }
@@ -46,10 +46,10 @@ impl<'a> TextPairs<'a> {
     }
 }
 
-/// Pairs of the names of two columns, as fields give them in turn.
+/// Pairs of the names of two columns.
 #[derive(Clone, Copy)]
 pub struct NamePairs<'a> {
-    /// The fields, which are the names.
+    /// The fields: the names, two for each pair.
     pub fields: Line<'a>,
     pub ghost named: { IsTrue (list_all is_name (fields_in fields)) },
 }
@@ -57,14 +57,14 @@ pub struct NamePairs<'a> {
 impl<'a> NamePairs<'a> {
     ghost use Rattle.command_core.specs.PairsIn.{name_pairs_in};
 
-    /// How many there are.
+    /// Returns the number of pairs.
     pub fn len(self) -> usize
         ensures { result ≡ length (name_pairs_in self.entry) }
     {
         pair_count(self.fields)
     }
 
-    /// The pair at that place, from 0; None exactly past the last.
+    /// Returns the pair at an index, or `None` past the end.
     pub fn get(self, place: usize) -> Option<(Name, Name)>
         ensures { result ≡ slice_get (name_pairs_in self.entry) place }
     {
@@ -83,32 +83,32 @@ impl<'a> NamePairs<'a> {
     }
 }
 
-/// Two tables whose rows are compared, and the pairs of columns by which they are.
+/// Two tables whose rows are compared, and the pairs of columns that must be equal.
 #[derive(Clone, Copy)]
 pub struct TwoTables<'a> {
     /// The left table's name.
     pub left: Name,
-    /// The right table's.
+    /// The right table's name.
     pub right: Name,
-    /// The pairs of columns, of the left table and of the right.
+    /// The pairs of columns, each of a left and a right column.
     pub on: NamePairs<'a>,
 }
 
-/// How many pairs the fields are.
+/// Returns the number of pairs that the fields are.
 fn pair_count(line: Line<'_>) -> usize
     ensures { result ≡ length (pairs_of (fields_in line.entry)) }
 {
     line.len() / 2
 }
 
-/// Whether there are pairs of fields, and none is left over.
+/// Returns whether there are fields, and an even number of them.
 fn are_pairs(line: Line<'_>) -> bool
     ensures { result ≡ are_pairs (fields_in line.entry) }
 {
     line.len() > 0 && line.len() % 2 == 0
 }
 
-/// The fields behind this word, where they are pairs; where there is no field at all, none.
+/// Returns the fields after `word` if they are pairs, otherwise `None`. Without any field, returns no fields.
 pub(crate) fn paired_behind<'a>(word: &[u8], line: Line<'a>) -> Option<Line<'a>>
     ensures { option_map fields_in result ≡ paired_behind word.now (fields_in line.entry) }
 {
@@ -123,7 +123,7 @@ pub(crate) fn paired_behind<'a>(word: &[u8], line: Line<'a>) -> Option<Line<'a>>
     }
 }
 
-/// Whether the field at that place is a name.
+/// Returns whether the field at an index is a name.
 fn is_name_at(line: Line<'_>, place: usize) -> bool
     requires { place < length (fields_in line) }
     ensures { IfSome (slice_get (fields_in line.entry) place) (λ field. result ≡ is_name field) }
@@ -134,7 +134,7 @@ fn is_name_at(line: Line<'_>, place: usize) -> bool
     }
 }
 
-/// Whether each column has a name that is one.
+/// Returns whether the first field of each pair is a name.
 fn all_columns(line: Line<'_>) -> bool
     ensures { result ≡ all_columns (pairs_of (fields_in line.entry)) }
 {
@@ -146,7 +146,7 @@ fn all_columns(line: Line<'_>) -> bool
     true
 }
 
-/// The pairs of fields, where all columns have names that are names.
+/// Returns the pairs, or `BadName` if the first field of a pair isn't a name.
 pub(crate) fn named_pairs<'a>(fields: Line<'a>) -> Result<TextPairs<'a>, Refusal>
     ensures { map_ok (λ pairs. pairs_of (fields_in pairs.fields)) result ≡ named_pairs
         (pairs_of (fields_in fields.entry)) }
@@ -158,7 +158,7 @@ pub(crate) fn named_pairs<'a>(fields: Line<'a>) -> Result<TextPairs<'a>, Refusal
     }
 }
 
-/// Whether each field is a name.
+/// Returns whether each field is a name.
 fn are_names(line: Line<'_>) -> bool
     ensures { result ≡ list_all is_name (fields_in line.entry) }
 {
@@ -170,7 +170,7 @@ fn are_names(line: Line<'_>) -> bool
     true
 }
 
-/// The pairs of names that fields are, where all of them are names.
+/// Returns the pairs of names, or `BadName` if a field isn't a name.
 pub(crate) fn name_pairs<'a>(fields: Line<'a>) -> Result<NamePairs<'a>, Refusal>
     ensures { map_ok (λ pairs. pairs_of (fields_in pairs.fields)) result
         ≡ name_pairs (fields_in fields.entry) }

@@ -1,4 +1,4 @@
-//! The records of a piece of a script, in batches that are given back one by one.
+//! The records of a piece of a script, in batches that are freed one by one.
 ghost use Rattle.std.specs.Prelude.{◌≡◌, ◌↔◌, ◌+◌, ◌<◌, ◌^◌, ◌++◌, ◌∷◌, [], length, option_map, sum_by, IfOk, IsTrue, OnOk, true};
 ghost use Rattle.csv.specs.Reading.{error_kind, stops_reader};
 ghost use Rattle.csv.specs.Records.{IsRecord, fields_of};
@@ -14,12 +14,11 @@ use std::alloc::{AllocError, Global};
 use std::marker::Model;
 use std::mem;
 
-/// The records of a piece, first to last. Contracts see the list of them, each the list of its
-/// fields' bytes.
+/// The records of a piece. Contracts see a list of records, each a list of its fields' bytes.
 #[derive(Drop)]
 pub(crate) struct PieceRecords {
     alloc: Global,
-    /// Those that have no room for more.
+    /// The batches that are full.
     full: Vec<Batch>,
     last: Batch,
 }
@@ -36,7 +35,7 @@ impl Model for PieceRecords {
 impl PieceRecords {
     ghost use Rattle.command_core.specs.Seams.{EndsInField};
 
-    /// No records, of a piece of so many bytes.
+    /// Returns no records yet, with capacity for a piece of `bytes` bytes.
     fn with_capacity(alloc: Global, bytes: usize) -> Result<PieceRecords, NoMemory>
         ensures { IfOk result (λ records. records ≡ []) }
     {
@@ -47,7 +46,7 @@ impl PieceRecords {
         })
     }
 
-    /// Adds a record.
+    /// Appends a record.
     fn push(&mut self, row: &ByteRecord) -> Result<(), NoMemory>
         requires whole { IsRecord row.now }
         requires bytes { sum_by size_of self.old + size_of (fields_of row.now) < 2 ^ 32 }
@@ -58,7 +57,7 @@ impl PieceRecords {
         self.last.push(row)
     }
 
-    /// Begins another batch where the last one is full.
+    /// Begins another batch if the last one is full.
     fn make_room(&mut self) -> Result<(), NoMemory>
         ensures { OnOk result (self.new ≡ self.old) }
     {
@@ -70,7 +69,7 @@ impl PieceRecords {
         Ok(())
     }
 
-    /// Whether the last field doesn't end with a line feed.
+    /// Returns whether the last field doesn't end with a line feed. This holds without any field.
     pub(crate) fn end_in_field(&self) -> bool
         ensures { IsTrue result ↔ EndsInField self.now }
     {
@@ -80,7 +79,7 @@ impl PieceRecords {
         }
     }
 
-    /// Puts the batches behind others.
+    /// Moves the batches to the end of `batches`.
     pub(crate) fn move_behind(self, batches: &mut Vec<Batch>) -> Result<(), NoMemory>
         ensures { OnOk result
             (joined batches.new.items ≡ joined batches.old.items ++ self) }
@@ -92,7 +91,7 @@ impl PieceRecords {
     }
 }
 
-/// The last field of some batches and of one behind them, if there are any.
+/// Returns the last field of the batches `full`, then of `behind`, or `None` if they have no field.
 fn last_field<'a>(full: &'a [Batch], behind: &'a Batch) -> Option<&'a [u8]>
     ensures { option_map (λ s. s.now) result
         ≡ last (joined (joined full.entry.now ++ behind.entry.now)) }
@@ -100,7 +99,7 @@ fn last_field<'a>(full: &'a [Batch], behind: &'a Batch) -> Option<&'a [u8]>
     behind.last_field().or(last_of(full))
 }
 
-/// The last field of some batches, if there are any.
+/// Returns the last field of the batches, or `None` if they have no field.
 fn last_of(batches: &[Batch]) -> Option<&[u8]>
     ensures { option_map (λ s. s.now) result ≡ last (joined (joined batches.now)) }
 {
@@ -111,8 +110,8 @@ fn last_of(batches: &[Batch]) -> Option<&[u8]>
     last
 }
 
-/// Why bytes in memory are not read: memory is refused. No record is refused for its length, nor
-/// for its text.
+/// Converts a fault of `csv` to `NoMemory`. The bytes are in memory, and no record is refused for its length or its
+/// text, so no other fault occurs.
 fn not_read(fault: Error) -> NoMemory
     requires { stops_reader (error_kind fault) ≡ true }
 {
@@ -123,12 +122,11 @@ fn not_read(fault: Error) -> NoMemory
     }
 }
 
-/// The records of a piece, which `csv` reads as if it were a script, without a header and of any
-/// length. The bytes are in memory, so what fails is memory.
+/// Returns the records of a piece, which `csv` reads as if it were a script, without a header and of any length.
 ///
 /// # Errors
 ///
-/// `NoMemory` where a growth is refused.
+/// `NoMemory` if an allocation fails. Nothing else can fail, because the bytes are in memory.
 pub(crate) fn read_piece(alloc: Global, piece: &[u8]) -> Result<PieceRecords, NoMemory>
     requires { length piece.now < 2 ^ 31 }
     ensures { IfOk result (AreScriptRecords piece.now) }

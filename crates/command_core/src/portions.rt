@@ -1,4 +1,4 @@
-//! What a record means that changes a portion of a table's rows.
+//! What a record of `update` or `delete` means.
 ghost use Rattle.std.specs.Prelude.{◌≡◌, option_map};
 ghost use Rattle.command_core.specs.Command.{meant_by};
 ghost use Rattle.command_core.specs.Lines.{fields_in};
@@ -13,7 +13,7 @@ use crate::pairs::{named_pairs, paired_behind};
 use crate::refusal::Refusal;
 use crate::words::begins;
 
-/// The fields of conditions: none, or pairs behind `where`.
+/// Returns the fields of the conditions: the pairs after `where`. Without any field, returns no fields.
 fn conditions_in<'a>(line: Line<'a>) -> Option<Line<'a>>
     ensures { option_map (λ conds. pairs_of (fields_in conds)) result
         ≡ conditions_in (fields_in line.entry) }
@@ -21,7 +21,7 @@ fn conditions_in<'a>(line: Line<'a>) -> Option<Line<'a>>
     paired_behind(b"where", line)
 }
 
-/// The fields of the settings, up to the first `where` in a column's place, and those of the conditions.
+/// Splits fields into settings and conditions. The conditions begin at the first `where` in a column's position.
 fn parts_in<'a>(line: Line<'a>) -> Option<(Line<'a>, Line<'a>)>
     ensures { option_map
         (λ parts. (pairs_of (fields_in parts.0), pairs_of (fields_in parts.1))) result ≡ parts_in
@@ -41,7 +41,7 @@ fn parts_in<'a>(line: Line<'a>) -> Option<(Line<'a>, Line<'a>)>
     }
 }
 
-/// The fields of the settings behind `set`, of which there is one at least, and those of the conditions.
+/// Returns the fields of the settings after `set`, at least one pair, and the fields of the conditions.
 fn settings_in<'a>(line: Line<'a>) -> Option<(Line<'a>, Line<'a>)>
     ensures { option_map
         (λ parts. (pairs_of (fields_in parts.0), pairs_of (fields_in parts.1))) result ≡ settings_in
@@ -58,7 +58,7 @@ fn settings_in<'a>(line: Line<'a>) -> Option<(Line<'a>, Line<'a>)>
     }
 }
 
-/// What a record means whose word is `update`.
+/// Returns what a record of `update` means.
 pub(crate) fn read_update<'a>(line: Line<'a>) -> Result<Command<'a>, Refusal>
     ensures { meant_by result ≡ update_meaning (fields_in line.entry) }
 {
@@ -93,7 +93,7 @@ fn update_of<'a>(
     })
 }
 
-/// What a record means whose word is `delete`.
+/// Returns what a record of `delete` means.
 pub(crate) fn read_delete<'a>(line: Line<'a>) -> Result<Command<'a>, Refusal>
     ensures { meant_by result ≡ delete_meaning (fields_in line.entry) }
 {

@@ -1,4 +1,4 @@
-//! What a record means that asks of the book.
+//! What a query's record means.
 ghost use Rattle.std.specs.Prelude.{◌≡◌};
 ghost use Rattle.command_core.specs.Command.{meant_by};
 ghost use Rattle.command_core.specs.Lines.{fields_in};
@@ -20,7 +20,7 @@ use crate::fields::{commit_named, compared, dated, named, spanned, split_asof};
 use crate::line::Line;
 use crate::refusal::Refusal;
 
-/// What a record means whose word is `rows`.
+/// Returns what a record of `rows` means.
 pub(crate) fn read_rows<'a>(line: Line<'a>) -> Result<Command<'a>, Refusal>
     ensures { meant_by result ≡ rows_meaning (fields_in line.entry) }
 {
@@ -30,7 +30,7 @@ pub(crate) fn read_rows<'a>(line: Line<'a>) -> Result<Command<'a>, Refusal>
     Ok(Command::Rows { table, asof })
 }
 
-/// What a record means whose word is `at`.
+/// Returns what a record of `at` means.
 pub(crate) fn read_at<'a>(line: Line<'a>) -> Result<Command<'a>, Refusal>
     ensures { meant_by result ≡ at_meaning (fields_in line.entry) }
 {
@@ -40,7 +40,7 @@ pub(crate) fn read_at<'a>(line: Line<'a>) -> Result<Command<'a>, Refusal>
     Ok(Command::At { table, point, asof })
 }
 
-/// What a record means whose word is `dip`.
+/// Returns what a record of `dip` means.
 pub(crate) fn read_dip<'a>(line: Line<'a>) -> Result<Command<'a>, Refusal>
     ensures { meant_by result ≡ dip_meaning (fields_in line.entry) }
 {
@@ -50,7 +50,7 @@ pub(crate) fn read_dip<'a>(line: Line<'a>) -> Result<Command<'a>, Refusal>
     Ok(Command::Dip { table, asof })
 }
 
-/// What a record means whose word is `join`.
+/// Returns what a record of `join` means.
 pub(crate) fn read_join<'a>(line: Line<'a>) -> Result<Command<'a>, Refusal>
     ensures { meant_by result ≡ join_meaning (fields_in line.entry) }
 {
@@ -64,7 +64,7 @@ pub(crate) fn read_join<'a>(line: Line<'a>) -> Result<Command<'a>, Refusal>
     }
 }
 
-/// What a record means whose word is `anti`.
+/// Returns what a record of `anti` means.
 pub(crate) fn read_anti<'a>(line: Line<'a>) -> Result<Command<'a>, Refusal>
     ensures { meant_by result ≡ anti_meaning (fields_in line.entry) }
 {
@@ -78,7 +78,7 @@ pub(crate) fn read_anti<'a>(line: Line<'a>) -> Result<Command<'a>, Refusal>
     }
 }
 
-/// What a record means whose word is `agg`.
+/// Returns what a record of `agg` means.
 pub(crate) fn read_agg<'a>(line: Line<'a>) -> Result<Command<'a>, Refusal>
     ensures { meant_by result ≡ agg_meaning (fields_in line.entry) }
 {
@@ -88,7 +88,7 @@ pub(crate) fn read_agg<'a>(line: Line<'a>) -> Result<Command<'a>, Refusal>
     Ok(Command::Agg { aggregate, asof })
 }
 
-/// What a record means whose word is `between`.
+/// Returns what a record of `between` means.
 pub(crate) fn read_between<'a>(line: Line<'a>) -> Result<Command<'a>, Refusal>
     ensures { meant_by result ≡ between_meaning (fields_in line.entry) }
 {
@@ -96,7 +96,7 @@ pub(crate) fn read_between<'a>(line: Line<'a>) -> Result<Command<'a>, Refusal>
     Ok(Command::Between { table, first, last })
 }
 
-/// What a record means whose word is `fromto`.
+/// Returns what a record of `fromto` means.
 pub(crate) fn read_from_to<'a>(line: Line<'a>) -> Result<Command<'a>, Refusal>
     ensures { meant_by result ≡ from_to_meaning (fields_in line.entry) }
 {
@@ -104,7 +104,7 @@ pub(crate) fn read_from_to<'a>(line: Line<'a>) -> Result<Command<'a>, Refusal>
     Ok(Command::FromTo { table, first, end })
 }
 
-/// What a record means whose word is `log`.
+/// Returns what a record of `log` means.
 pub(crate) fn read_log<'a>(line: Line<'a>) -> Result<Command<'a>, Refusal>
     ensures { meant_by result ≡ log_meaning (fields_in line.entry) }
 {

@@ -1,4 +1,4 @@
-//! The command that records begin with: how many of them it takes, and what they mean.
+//! The first command of some records: how many records it takes, and its meaning.
 ghost use Rattle.std.specs.Prelude.{
   ◌≡◌,
   ◌+◌,
@@ -55,11 +55,11 @@ use std::alloc::{AllocError, Global};
 pub struct CommandCut<'a> {
     /// The command.
     pub command: Command<'a>,
-    /// How many records it takes: one, a block up to its `end`, or all where there is none.
+    /// How many records it takes: one, a block up to its `end`, or all if the `end` is missing.
     pub taken: usize,
 }
 
-/// What a record means that opens no block.
+/// Returns what a record means that opens no block.
 fn read_record<'a>(alloc: Global, line: Line<'a>) -> Result<Command<'a>, Failure<Refusal>>
     ensures reads { Reads meaning_of (record_meaning (fields_in line.entry)) result }
     ensures memory { IfErr result
@@ -72,7 +72,7 @@ fn read_record<'a>(alloc: Global, line: Line<'a>) -> Result<Command<'a>, Failure
     }
 }
 
-/// What a record means that opens no block and makes no table.
+/// Returns what a record means that opens no block and makes no table.
 pub(crate) fn read_tableless<'a>(line: Line<'a>) -> Result<Command<'a>, Refusal>
     requires { begins (codes "table") (fields_in line) ≡ false }
     ensures { meant_by result ≡ record_meaning (fields_in line.entry) }
@@ -94,7 +94,7 @@ pub(crate) fn read_tableless<'a>(line: Line<'a>) -> Result<Command<'a>, Refusal>
     }
 }
 
-/// What a block means that `load` opens.
+/// Returns what a block of `load` means.
 fn read_load<'a>(opening: Line<'a>, body: Lines<'a>) -> Result<Command<'a>, Refusal>
     ensures { meant_by result ≡ load_meaning (fields_in opening.entry) (lines_in body.entry) }
 {
@@ -102,7 +102,7 @@ fn read_load<'a>(opening: Line<'a>, body: Lines<'a>) -> Result<Command<'a>, Refu
     Ok(Command::Load { table, body })
 }
 
-/// What a block means that `check` opens.
+/// Returns what a block of `check` means.
 fn read_check<'a>(opening: Line<'a>, body: Lines<'a>) -> Result<Command<'a>, Refusal>
     ensures { meant_by result ≡ check_meaning (fields_in opening.entry) (lines_in body.entry) }
 {
@@ -118,7 +118,7 @@ fn read_check<'a>(opening: Line<'a>, body: Lines<'a>) -> Result<Command<'a>, Ref
     })
 }
 
-/// What a block means, whose first record has this number.
+/// Returns what a block means. `number` is the number of its first record.
 fn read_block<'a>(opening: Line<'a>, body: Lines<'a>, number: u64) -> Command<'a>
     ensures { meaning_of result
         ≡ meaning_or_refusal number
@@ -135,7 +135,7 @@ fn read_block<'a>(opening: Line<'a>, body: Lines<'a>, number: u64) -> Command<'a
     }
 }
 
-/// How many records come before the first one that ends a block.
+/// Returns the number of records before the first `end`, or `None` if there is no `end`.
 pub(crate) fn body_len(lines: Lines<'_>) -> Option<usize>
     ensures within { IfSome result (λ n. n < length (lines_in lines.entry)) }
     ensures before { IfSome result (λ n. IsBody (take n (lines_in lines.entry))) }
@@ -151,12 +151,11 @@ pub(crate) fn body_len(lines: Lines<'_>) -> Option<usize>
     None
 }
 
-/// The next command of some records, of which there is one at least, the first of them of this
-/// number.
+/// Returns the first command of the records, which must not be empty. `number` is the number of the first record.
 ///
 /// # Errors
 ///
-/// `NoMemory` where a growth is refused, which only a `table` asks for.
+/// `NoMemory` if an allocation fails. Only `table` allocates.
 pub(crate) fn next_command<'a>(
     alloc: Global,
     lines: Lines<'a>,
@@ -186,7 +185,7 @@ pub(crate) fn next_command<'a>(
     Ok(CommandCut { command, taken: 1 })
 }
 
-/// The block that some records begin with, the first of them of this number.
+/// Returns the block that the records begin with. `number` is the number of the first record.
 pub(crate) fn next_block<'a>(opening: Line<'a>, lines: Lines<'a>, number: u64) -> CommandCut<'a>
     requires first { slice_get (lines_in lines) 0 ≡ Some (fields_in opening) }
     requires opens { opens_block (fields_in opening) ≡ true }

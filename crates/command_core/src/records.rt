@@ -1,4 +1,4 @@
-//! The records of a script, and which of them are passed.
+//! The records of a script, and how many of them were consumed.
 ghost use Rattle.std.specs.Prelude.{◌≡◌, ◌<◌, ◌≤◌, ◌^◌, drop, length, slice_get, Some};
 ghost use Rattle.command_core.specs.Lines.{fields_in};
 ghost use Rattle.command_core.specs.Seams.{joined};
@@ -7,14 +7,14 @@ use crate::batch::Batch;
 use crate::line::Line;
 use std::marker::Model;
 
-/// Records of a script, first to last. Contracts see the list of those that weren't passed, each the
-/// list of its fields' bytes.
+/// Records of a script. Contracts see the list of the records that weren't consumed yet, each a list of its fields'
+/// bytes.
 #[derive(Drop)]
 pub struct Records {
     batches: Vec<Batch>,
-    /// How many of the batches' records were passed, which are the first.
+    /// The number of consumed records, which are the first ones of the batches.
     passed: usize,
-    /// How many the batches have.
+    /// The number of records of all batches.
     count: usize,
 }
 
@@ -31,7 +31,7 @@ impl Model for Records {
 }
 
 impl Records {
-    /// Those of batches, of which none was passed.
+    /// Returns the records of `batches`, none of them consumed.
     pub(crate) fn of(batches: Vec<Batch>) -> Records
         requires { length (joined batches.items) < 2 ^ 64 }
         ensures { result ≡ joined batches.items }
@@ -44,14 +44,14 @@ impl Records {
         }
     }
 
-    /// How many there are.
+    /// Returns the number of records that are left.
     pub fn len(&self) -> usize
         ensures { result ≡ length self.now }
     {
         self.count - self.passed
     }
 
-    /// The record at that place, from 0.
+    /// Returns the record at an index, counted from the first one left.
     pub fn line(&self, place: usize) -> Line<'_>
         requires { place < length self.now }
         ensures { slice_get self.now place ≡ Some (fields_in result) }
@@ -59,7 +59,7 @@ impl Records {
         line_in(&self.batches, self.passed + place)
     }
 
-    /// Passes so many records. Memory of batches that have none but passed ones is given back.
+    /// Consumes the next `count` records. Frees the batches that have consumed records only.
     pub fn advance(&mut self, count: usize)
         requires { count ≤ length self.old }
         ensures { self.new ≡ drop count self.old }
@@ -71,7 +71,8 @@ impl Records {
     }
 }
 
-/// Gives back the first batches that have no record behind so many. Answers how many they had.
+/// Removes the leading batches that have consumed records only, if the first `passed` records are consumed. Returns how
+/// many records these batches had.
 fn give_back(batches: &mut Vec<Batch>, passed: usize) -> usize
     ensures within { result ≤ passed }
     ensures left { joined batches.new.items ≡ drop result (joined batches.old.items) }
@@ -88,7 +89,7 @@ fn give_back(batches: &mut Vec<Batch>, passed: usize) -> usize
     gone
 }
 
-/// The record at that place of all batches.
+/// Returns the record of all batches at an index.
 fn line_in(batches: &[Batch], place: usize) -> Line<'_>
     requires { place < length (joined batches.now) }
     ensures { slice_get (joined batches.now) place ≡ Some (fields_in result) }
@@ -103,7 +104,7 @@ fn line_in(batches: &[Batch], place: usize) -> Line<'_>
     unreachable!()
 }
 
-/// How many records the batches have.
+/// Returns the number of records of all batches.
 fn count_of(batches: &[Batch]) -> usize
     requires { length (joined batches.now) < 2 ^ 64 }
     ensures { result ≡ length (joined batches.now) }

@@ -1,4 +1,4 @@
-//! Why a command is refused, and where.
+//! Why a command is refused, and which record is at fault.
 ghost use Rattle.std.specs.Prelude.{◌≡◌};
 ghost use Rattle.row_core.specs.Refusals.{map_refused};
 ghost use Rattle.row_core.specs.declared.failure.Failure.TheVariants.{Refused};
@@ -9,57 +9,57 @@ use row_core::{Failure, KeyRefused, SchemaRefused};
 /// Why a command is refused.
 #[derive(Clone, Copy, Debug, PartialEq, Eq)]
 pub enum Refusal {
-    /// The word is no command, or its record or a record of its block has not the right form.
+    /// The word names no command, or a record of the command doesn't have the right form.
     BadCommand,
-    /// A table's or a column's name is none.
+    /// A text isn't the name of a table or a column.
     BadName,
-    /// A text is not the number that it should be.
+    /// A text isn't the number that it should be.
     BadNumber,
-    /// A start is not before its end, or two commits are not in order.
+    /// A start isn't before its end, or two commits aren't in order.
     BadPeriod,
-    /// A text is no point.
+    /// A text isn't a point.
     BadPoint,
-    /// A text value is no UTF-8.
+    /// A text value isn't UTF-8.
     BadUtf8,
     /// There are 1,000,000 commits, or a table would have more than 1,000,000 versions.
     Full,
-    /// There are fewer commits.
+    /// The commit that is named wasn't made yet.
     Future,
-    /// The table has a key, and two of its rows would be equal in each column of it and share an instant.
+    /// The table has a key, and two rows that are equal in each of its columns would share an instant.
     KeyOverlap,
     /// The table has no column of that name.
     NoColumn,
-    /// There is no table of that name.
+    /// No table has that name.
     NoTable,
     /// The command isn't allowed in a block of commands.
     NotInBlock,
-    /// There is a table of that name.
+    /// There is already a table of that name.
     TableExists,
     /// A text value has more than 4,096 bytes.
     TooLong,
     /// There would be more than 16 columns, or more than 64 tables.
     TooMany,
-    /// Two columns have one name, or a key names one twice.
+    /// Two columns have the same name, or a key names a column twice.
     TwiceNamed,
-    /// A block has no end.
+    /// A block has no `end`.
     Unended,
-    /// A value is not of its column's kind.
+    /// A value isn't of its column's kind.
     WrongKind,
-    /// A row has not one value for each column.
+    /// A row doesn't have one value for each column.
     WrongWidth,
 }
 
 /// A record at fault.
 #[derive(Clone, Copy, Debug, PartialEq, Eq)]
 pub struct Fault {
-    /// The number of the record, from 1 on.
+    /// The number of the record, counted from 1.
     pub number: u64,
-    /// What is wrong with it.
+    /// Why it is refused.
     pub refusal: Refusal,
 }
 
 impl Refusal {
-    /// The name as it is printed.
+    /// Returns the name as it is printed.
     pub fn text(self) -> &'static [u8]
         ensures { result.now ≡ refusal_text self }
     {
@@ -95,7 +95,7 @@ impl From<Refusal> for Failure<Refusal> {
     }
 }
 
-/// What is wrong with columns.
+/// Returns the refusal for columns that don't make a schema.
 fn schema_refusal(why: SchemaRefused) -> Refusal
     ensures { result ≡ schema_refusal why }
 {
@@ -105,7 +105,7 @@ fn schema_refusal(why: SchemaRefused) -> Refusal
     }
 }
 
-/// What is wrong with a key.
+/// Returns the refusal for columns that don't make a key.
 fn key_refusal(why: KeyRefused) -> Refusal
     ensures { result ≡ key_refusal why }
 {
@@ -115,7 +115,7 @@ fn key_refusal(why: KeyRefused) -> Refusal
     }
 }
 
-/// Why there are no columns.
+/// Converts the failure to make a schema.
 pub(crate) fn schema_failure(why: Failure<SchemaRefused>) -> Failure<Refusal>
     ensures { result ≡ map_refused schema_refusal why }
 {
@@ -125,7 +125,7 @@ pub(crate) fn schema_failure(why: Failure<SchemaRefused>) -> Failure<Refusal>
     }
 }
 
-/// Why they have no key.
+/// Converts the failure to make a key.
 pub(crate) fn key_failure(why: Failure<KeyRefused>) -> Failure<Refusal>
     ensures { result ≡ map_refused key_refusal why }
 {

@@ -1,4 +1,4 @@
-//! Reads the records of a script, some of its bytes at a time, which workers read by pieces.
+//! Reads the records of a script that arrives in several texts. Workers parse the pieces of a text in parallel.
 ghost use Rattle.std.specs.Prelude.{◌≡◌, ◌+◌, ◌<◌, ◌≤◌, ◌^◌, ◌++◌, [], List, ℕ, drop, take, length, get_or, map, IfOk, OnOk};
 ghost use Rattle.command_core.specs.Records.{AreScriptRecords};
 ghost use Rattle.command_core.specs.Seams.{AreOfFront, AreRead, joined};
@@ -14,11 +14,11 @@ use std::marker::Model;
 use std::thread;
 use std::thread::Threads;
 
-/// What reads the records of a script, as `csv` reads them, without a header and of any length. Contracts see the list
-/// of those so far, each the list of its fields' bytes.
+/// Reads the records of a script as `csv` reads them, without a header and of any length. Contracts see the list of the
+/// records already read, each a list of its fields' bytes.
 ///
-/// Of a text that isn't the last a front is read, behind which a record begins, so no byte is kept that is a record's.
-/// Large texts are read by the workers, each a piece.
+/// If a text isn't the last one, only a prefix is read, after which a record begins. So no reading state is carried
+/// from one text to the next. Workers each read a piece of a large text.
 #[derive(Drop)]
 pub struct ScriptReader {
     alloc: Global,
@@ -35,7 +35,7 @@ impl Model for ScriptReader {
 }
 
 impl ScriptReader {
-    /// Nothing was read yet.
+    /// Returns a reader that has read nothing.
     pub fn new(alloc: Global) -> ScriptReader
         ensures { result ≡ [] }
     {
@@ -45,12 +45,12 @@ impl ScriptReader {
         }
     }
 
-    /// Reads the records of a front of the text that comes next, and returns how many bytes that has: none where no
-    /// record is known to begin in the text. The text is to come again then, with more behind it.
+    /// Reads the records of a prefix of the next text, and returns its length in bytes. Returns 0 if no record is known
+    /// to begin inside the text; the caller then passes the text again, with more bytes appended.
     ///
     /// # Errors
     ///
-    /// `NoMemory` where a growth is refused: the bytes are in memory.
+    /// `NoMemory` if an allocation fails. Nothing else can fail, because the bytes are in memory.
     pub fn read_front<R: Threads + Sync>(
         &mut self,
         rt: &R,
@@ -74,11 +74,11 @@ impl ScriptReader {
         Ok(cut)
     }
 
-    /// Reads the records of the text that comes last, and returns all of the script's.
+    /// Reads the records of the last text, and returns all records of the script.
     ///
     /// # Errors
     ///
-    /// `NoMemory` where a growth is refused: the bytes are in memory.
+    /// `NoMemory` if an allocation fails. Nothing else can fail, because the bytes are in memory.
     pub fn read_rest<R: Threads + Sync>(
         self,
         rt: &R,
@@ -97,8 +97,8 @@ impl ScriptReader {
     }
 }
 
-/// The records of a text, in lists one behind another. Workers read pieces of it; where one ends within a record, one
-/// thread reads all anew.
+/// Returns the records of a text, in consecutive lists. Workers each read a piece; if a piece ends within a record, one
+/// thread reads the whole text again.
 fn read_text<R: Threads + Sync>(
     rt: &R,
     alloc: Global,
@@ -117,7 +117,7 @@ fn read_text<R: Threads + Sync>(
     Ok(read)
 }
 
-/// Adds the batches of pieces that were read, one behind another.
+/// Appends the batches of all pieces, in order.
 fn add_batches(batches: &mut Vec<Batch>, pieces: Vec<PieceRecords>) -> Result<(), NoMemory>
     ensures { OnOk result
         (joined batches.new.items ≡ joined batches.old.items ++ joined pieces.items) }
@@ -128,7 +128,7 @@ fn add_batches(batches: &mut Vec<Batch>, pieces: Vec<PieceRecords>) -> Result<()
     Ok(())
 }
 
-/// The records of each piece, which is read on a thread of its own where one can be started.
+/// Returns the records of each piece. Each piece is read on a thread of its own if one can be started.
 fn read_each<R: Threads + Sync>(
     rt: &R,
     alloc: Global,

@@ -1,5 +1,5 @@
-//! Seams of a script: it is cut behind line ends, and its pieces are read one by one. Behind most
-//! line ends a record begins, but some stand within one, between quotes.
+//! Cuts a script after line ends, so that its pieces can be read one by one. A record begins after most line ends, but
+//! not after one between quotes.
 ghost use Rattle.std.specs.Prelude.{◌≡◌, ◌≢◌, ◌↔◌, ◌+◌, ◌<◌, ◌≤◌, ◌/◌, length, map, max, min, true, IfOk, IfSome, IsFalse, IsTrue, MatchBool, Some};
 ghost use Rattle.csv.specs.Machine.{line_feed};
 ghost use Rattle.csv.specs.Reading.{strip_bom};
@@ -9,16 +9,16 @@ use crate::piece::PieceRecords;
 use period_core::NoMemory;
 use std::alloc::Global;
 
-/// A worker with fewer bytes to read would be over before another had started.
+/// The least bytes of a piece: with fewer, a worker would finish before the next one had started.
 const BYTES_OF_PIECE: usize = 1_048_576;
 
-/// What a row's record begins with. Behind a line end that stands between quotes it hardly ever follows.
+/// The first bytes of a row's record. They hardly ever follow a line end between quotes.
 const ROW: &[u8] = b"row,";
 
-/// How near to where a text is to be cut a row's record is looked for. Few are longer.
+/// How far from the wanted cut, in bytes, a row's record is searched for. Few records are longer.
 const BYTES_LOOKED_AT: usize = 65_536;
 
-/// A script cut behind line ends, into a piece for each worker at most, about as long as one another.
+/// Cuts a script after line ends, into at most one piece for each worker, of about equal length.
 pub(crate) fn pieces_of<'a>(
     alloc: Global,
     script: &'a [u8],
@@ -44,8 +44,8 @@ pub(crate) fn pieces_of<'a>(
     Ok(pieces)
 }
 
-/// The first place from one on behind a line end, where there is one. Near it a place where a row's record follows is
-/// taken before others.
+/// Returns the index after the first line end at or after `from`, or `None` if no line ends there. Prefers an index
+/// near `from` where a row's record begins.
 fn first_cut(text: &[u8], from: usize) -> Option<usize>
     requires { from ≤ length text.now }
     ensures { IfSome result (λ place. place ≤ length text.now) }
@@ -60,9 +60,9 @@ fn first_cut(text: &[u8], from: usize) -> Option<usize>
     Some(from + at + 1)
 }
 
-/// The last place of a text behind a line end where three bytes follow that are no byte order mark, which who reads
-/// those alone would pass over; the first place where there is none. Near the end a place where a row's record follows
-/// is taken before others.
+/// Returns the last index of a text where a line has ended and the next three bytes aren't a byte order mark, which a
+/// reader that begins there would skip. Returns 0 if no index fits. Prefers an index near the end where a row's record
+/// begins.
 pub(crate) fn last_cut(text: &[u8]) -> usize
     ensures within { result ≤ length text.now }
     ensures cut { 0 < result → IsCut text.now result }
@@ -75,7 +75,7 @@ pub(crate) fn last_cut(text: &[u8]) -> usize
     }
 }
 
-/// The last such place from one on where that word follows, or the first place of all.
+/// Returns the last such index at or after `from` where `word` follows, or 0 if no index fits.
 fn last_cut_before(text: &[u8], word: &[u8], from: usize) -> usize
     ensures within { result ≤ length text.now }
     ensures cut { 0 < result → IsCut text.now result }
@@ -88,7 +88,7 @@ fn last_cut_before(text: &[u8], word: &[u8], from: usize) -> usize
     0
 }
 
-/// Whether a line ends at that place, and three bytes follow that are no byte order mark.
+/// Returns whether a line ends before index `at`, and the three bytes after it aren't a byte order mark.
 fn is_cut(text: &[u8], at: usize) -> bool
     requires { at + 3 ≤ length text.now }
     ensures { result ≡ true → IsCut text.now at }
@@ -97,7 +97,7 @@ fn is_cut(text: &[u8], at: usize) -> bool
     ends_line(front) && !is_marked(behind)
 }
 
-/// Whether in none of some lists the last field ends with a line feed.
+/// Returns whether no list's last field ends with a line feed.
 pub(crate) fn end_in_fields(lists: &[PieceRecords]) -> bool
     ensures { result ≡ true → EndsInField (joined lists.now) }
 {
@@ -109,8 +109,8 @@ pub(crate) fn end_in_fields(lists: &[PieceRecords]) -> bool
     true
 }
 
-/// Whether each piece is read alone as it is among the others: behind each but the last, which has
-/// these records, another begins.
+/// Returns whether each piece, read by itself, has the records that it has within the script: after each piece except
+/// the last a record begins. `lists` are the pieces' records.
 pub(crate) fn are_seams(pieces: &[&[u8]], lists: &[PieceRecords]) -> bool
     requires { length pieces.now ≡ length lists.now }
     ensures { IsTrue result ↔ AreSeams (map (λ p. p.now) pieces.now) lists.now }
@@ -123,14 +123,14 @@ pub(crate) fn are_seams(pieces: &[&[u8]], lists: &[PieceRecords]) -> bool
     true
 }
 
-/// Whether a record begins behind a piece with these records.
+/// Returns whether a record begins after a piece with these records.
 fn is_seam(piece: &[u8], records: &PieceRecords, behind: &[u8]) -> bool
     ensures { IsTrue result ↔ IsSeam piece.now records.now behind.now }
 {
     ends_line(piece) && records.end_in_field() && !is_marked(behind)
 }
 
-/// Whether the last byte is a line feed.
+/// Returns whether the last byte is a line feed.
 pub(crate) fn ends_line(text: &[u8]) -> bool
     ensures { MatchBool result (last text.now ≡ Some line_feed) (last text.now ≢ Some line_feed) }
 {
@@ -140,7 +140,7 @@ pub(crate) fn ends_line(text: &[u8]) -> bool
     }
 }
 
-/// Whether a text begins with a byte order mark.
+/// Returns whether a text begins with a byte order mark.
 fn is_marked(text: &[u8]) -> bool
     ensures { IsFalse result ↔ (strip_bom text.now ≡ text.now) }
 {

@@ -1,4 +1,4 @@
-//! What stands next in a script, and in a block of commands that are done together.
+//! The next statement of a script, and the next command of a block of commands.
 ghost use Rattle.std.specs.Prelude.{
   ◌≡◌,
   ◌+◌,
@@ -55,7 +55,7 @@ use std::alloc::Global;
 pub enum Statement<'a> {
     /// A command.
     One(Command<'a>),
-    /// The records of the commands, behind the block's first and before its `end`.
+    /// The records of the commands, between the block's first record and its `end`.
     Together(Lines<'a>),
 }
 
@@ -64,11 +64,11 @@ pub enum Statement<'a> {
 pub struct StatementCut<'a> {
     /// The statement.
     pub statement: Statement<'a>,
-    /// How many records it takes: one, a block up to its `end`, or all where there is none.
+    /// How many records it takes: one, a block up to its `end`, or all if the `end` is missing.
     pub taken: usize,
 }
 
-/// How many records the first command of some takes; none where they don't hold the `end` that it needs.
+/// Returns how many records the first command takes, or `None` if it needs an `end` that isn't there.
 fn command_len(lines: Lines<'_>) -> Option<usize>
     requires { 0 < length (lines_in lines) }
     ensures some { IfSome result (λ n. 0 < n) }
@@ -85,7 +85,8 @@ fn command_len(lines: Lines<'_>) -> Option<usize>
     }
 }
 
-/// How many records come before the `end` of a block of commands, behind its own record.
+/// Returns how many records come before the `end` of a block of commands, or `None` if there is no `end`. `lines` begin
+/// after the block's first record.
 fn commands_len(lines: Lines<'_>) -> Option<usize>
     ensures within { IfSome result (λ n. n < length (lines_in lines.entry)) }
     ensures before { IfSome result (λ n. (number : ℕ)
@@ -106,7 +107,7 @@ fn commands_len(lines: Lines<'_>) -> Option<usize>
     None
 }
 
-/// The block of commands that some records begin with, the first of them of this number.
+/// Returns the block of commands that the records begin with. `number` is the number of the first record.
 fn next_together<'a>(opening: Line<'a>, lines: Lines<'a>, number: u64) -> StatementCut<'a>
     requires first { slice_get (lines_in lines) 0 ≡ Some (fields_in opening) }
     requires opens { begins (codes "together") (fields_in opening) ≡ true }
@@ -135,11 +136,11 @@ fn next_together<'a>(opening: Line<'a>, lines: Lines<'a>, number: u64) -> Statem
     }
 }
 
-/// The next statement of some records, of which there is one at least, the first of them of this number.
+/// Returns the first statement of the records, which must not be empty. `number` is the number of the first record.
 ///
 /// # Errors
 ///
-/// `NoMemory` where a growth is refused, which only a `table` asks for.
+/// `NoMemory` if an allocation fails. Only `table` allocates.
 pub fn next_statement<'a>(
     alloc: Global,
     lines: Lines<'a>,
@@ -167,8 +168,8 @@ pub fn next_statement<'a>(
     })
 }
 
-/// Whether a command that begins with this record isn't allowed in a block of commands, where a load stands before
-/// it or none.
+/// Returns whether a block of commands doesn't allow the command that begins with this record. `has_load` says whether
+/// the block has a load before it.
 fn is_barred(has_load: bool, opening: Line<'_>) -> bool
     ensures { result ≡ is_barred has_load (fields_in opening.entry) }
 {
@@ -180,7 +181,7 @@ fn is_barred(has_load: bool, opening: Line<'_>) -> bool
         || has_load && begins(opening, b"load")
 }
 
-/// The command that some records begin with, which a block of commands allows.
+/// Returns the first command of the records, which a block of commands allows.
 fn next_allowed<'a>(opening: Line<'a>, lines: Lines<'a>, number: u64) -> CommandCut<'a>
     requires first { slice_get (lines_in lines) 0 ≡ Some (fields_in opening) }
     requires allowed { is_barred false (fields_in opening) ≡ false }
@@ -201,8 +202,8 @@ fn next_allowed<'a>(opening: Line<'a>, lines: Lines<'a>, number: u64) -> Command
     CommandCut { command, taken: 1 }
 }
 
-/// The next command of a block of commands, of which there is one at least, its first record being of this number;
-/// a load stands before it or none.
+/// Returns the next command of a block of commands, which must have one left. `number` is the number of its first
+/// record; `has_load` says whether the block has a load before it.
 pub fn next_inside<'a>(lines: Lines<'a>, number: u64, has_load: bool) -> CommandCut<'a>
     requires some { 0 < length (lines_in lines) }
     requires whole { (members : List Member) × AreMembers number (lines_in lines) members }
@@ -227,7 +228,7 @@ pub fn next_inside<'a>(lines: Lines<'a>, number: u64, has_load: bool) -> Command
     }
 }
 
-/// How many records come before the first load of a block of commands.
+/// Returns how many records come before the first load of a block of commands, or `None` if it has no load.
 pub fn first_load(lines: Lines<'_>) -> Option<usize>
     requires whole { (number : ℕ) × (members : List Member)
         × AreMembers number (lines_in lines) members }

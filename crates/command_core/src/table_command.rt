@@ -1,4 +1,4 @@
-//! What a record means that makes a table.
+//! What a record of `table` means.
 ghost use Rattle.std.specs.Prelude.{◌≡◌, ◌≤◌, IfOk, MatchOption, Some, false, length, option_map, true};
 ghost use Rattle.std.specs.List.{list_all};
 ghost use Rattle.row_core.specs.Name.{is_name};
@@ -16,18 +16,18 @@ use period_core::NoMemory;
 use row_core::{Failure, Kind, Name, Schema};
 use std::alloc::Global;
 
-/// A column's name, which may be none, and its kind.
+/// The text that should name a column, and the column's kind.
 type RawColumn<'a> = (&'a [u8], Kind);
 
-/// A new table as its record gives it, where no name has been tested.
+/// A new table as its record gives it, before any name is tested.
 #[derive(Drop)]
 struct RawTable<'a> {
     columns: Vec<RawColumn<'a>>,
-    /// The names of the key's columns, one a field; no field where there is no key.
+    /// The texts that should name the key's columns. A table without a key has none.
     key: Line<'a>,
 }
 
-/// The kind of that word.
+/// Returns the kind that a word names.
 fn kind_named(word: &[u8]) -> Option<Kind>
     ensures { result ≡ kind_named word.now }
 {
@@ -40,7 +40,7 @@ fn kind_named(word: &[u8]) -> Option<Kind>
     }
 }
 
-/// The column that the first two fields give: a name, which may be none, and a kind.
+/// Returns the column that the first two fields give, or `None` if the second isn't a kind. The name isn't tested.
 fn first_column<'a>(line: Line<'a>) -> Option<RawColumn<'a>>
     requires { 2 ≤ length (fields_in line) }
     ensures { option_map raw_column result ≡ first_column (fields_in line.entry) }
@@ -54,7 +54,8 @@ fn first_column<'a>(line: Line<'a>) -> Option<RawColumn<'a>>
     }
 }
 
-/// The columns and the key of the fields behind a table's name, where these have the right form.
+/// Returns the columns and the key that the fields after a table's name give, or `None` if they don't have the right
+/// form.
 fn raw_table<'a>(alloc: Global, fields: Line<'a>) -> Result<Option<RawTable<'a>>, NoMemory>
     ensures { IfOk result (λ table. option_map form_of table
         ≡ table_form (fields_in fields.entry)) }
@@ -78,7 +79,7 @@ fn raw_table<'a>(alloc: Global, fields: Line<'a>) -> Result<Option<RawTable<'a>>
     Ok(Some(RawTable { columns, key: rest }))
 }
 
-/// The columns by their names, where these are names.
+/// Returns the columns, or `None` if the text of one isn't a name.
 fn name_columns(alloc: Global, raw: &[RawColumn<'_>]) -> Result<Option<Vec<(Name, Kind)>>, NoMemory>
     ensures { IfOk result
         (λ columns. MatchOption columns (list_all (λ column. is_name column.0) (raw_of raw.now)
@@ -96,7 +97,7 @@ fn name_columns(alloc: Global, raw: &[RawColumn<'_>]) -> Result<Option<Vec<(Name
     Ok(Some(columns))
 }
 
-/// The names of a key's columns, where they are names.
+/// Returns the names of a key's columns, or `None` if a text isn't a name.
 fn name_key(alloc: Global, key: Line<'_>) -> Result<Option<Vec<Name>>, NoMemory>
     ensures { IfOk result
         (λ names. MatchOption names (list_all is_name (fields_in key.entry) ≡ false)
@@ -115,7 +116,7 @@ fn name_key(alloc: Global, key: Line<'_>) -> Result<Option<Vec<Name>>, NoMemory>
     Ok(Some(names))
 }
 
-/// The columns with those of the names as their key, where they may be a table's.
+/// Returns the schema of these columns with this key, or why it is refused.
 fn make_schema(
     alloc: Global,
     columns: &[(Name, Kind)],
@@ -127,8 +128,7 @@ fn make_schema(
     schema.with_key(alloc, key).map_err(key_failure)
 }
 
-/// A table of columns and a key, where its name and theirs are names, and the columns with that key may
-/// be a table's.
+/// Returns the new table, or `BadName` if a text isn't a name, or why the columns and the key don't make a schema.
 fn name_table<'a>(
     alloc: Global,
     table: &[u8],
@@ -149,7 +149,7 @@ fn name_table<'a>(
     Ok(Command::Make { table, schema })
 }
 
-/// What a record means whose word is `table`.
+/// Returns what a record of `table` means.
 pub(crate) fn read_table<'a>(alloc: Global, line: Line<'a>) -> Result<Command<'a>, Failure<Refusal>>
     ensures { Reads meaning_of (table_meaning (fields_in line.entry)) result }
 {

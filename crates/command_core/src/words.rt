@@ -1,4 +1,4 @@
-//! What a record says by its words.
+//! What the words of a record say.
 ghost use Rattle.std.specs.Prelude.{◌≡◌};
 ghost use Rattle.command_core.specs.Lines.{fields_in};
 ghost use Rattle.command_core.specs.Words.{begins, is_end, opens_block, verb_of};
@@ -22,7 +22,7 @@ pub(crate) enum Verb {
     Log,
 }
 
-/// Whether the first field is this word.
+/// Returns whether the first field is `word`.
 pub fn begins(line: Line<'_>, word: &[u8]) -> bool
     ensures { result ≡ begins word.now (fields_in line.entry) }
 {
@@ -32,7 +32,7 @@ pub fn begins(line: Line<'_>, word: &[u8]) -> bool
     }
 }
 
-/// The command of one record that the first field is the word of.
+/// Returns the command of one record that the first field names.
 pub(crate) fn verb_of(line: Line<'_>) -> Option<Verb>
     ensures { result ≡ verb_of (fields_in line.entry) }
 {
@@ -65,14 +65,14 @@ pub(crate) fn verb_of(line: Line<'_>) -> Option<Verb>
     }
 }
 
-/// Whether the record is the one field `end`.
+/// Returns whether the record is the one field `end`.
 pub(crate) fn is_end(line: Line<'_>) -> bool
     ensures { result ≡ is_end (fields_in line.entry) }
 {
     line.len() == 1 && begins(line, b"end")
 }
 
-/// Whether the record opens a block.
+/// Returns whether the record opens a block.
 pub(crate) fn opens_block(line: Line<'_>) -> bool
     ensures { result ≡ opens_block (fields_in line.entry) }
 {

@@ -5,7 +5,7 @@ use Rattle.std.proofs.lemmas.Bool.{cases_lt}
 use Rattle.std.proofs.lemmas.Nat.{leading_length}
 use Rattle.dip_core.specs.Digits.{HasBinaryDigits}
 
--- the greater power has the greater exponent
+-- a greater power has a greater exponent
 pub exponent-less : (i j : ℕ) → 2 ^ i < 2 ^ j → i < j
 exponent-less i j less = elim (cases_lt i j) [
   | inl h ↦ h
@@ -15,13 +15,13 @@ exponent-less i j less = elim (cases_lt i j) [
       absurd (omega arith)
 ]
 
--- the next power is twice as much
+-- the next power is twice as large
 pub power-more : (i : ℕ) → 2 ^ (i + 1) ≡ 2 * 2 ^ i
 power-more i =
     let next : 2 ^ suc i ≡ 2 ^ i * 2 = pow-suc 2 i in
     rw add-one (omega (arith, next))
 
--- the place above one that lies within so many levels lies within one less
+-- the parent of an index within some levels of the heap is within one level less
 pub half-power : (place levels : ℕ) → 0 < place → place + 1 ≤ 2 ^ levels
     → (less : ℕ) × (levels ≡ less + 1) × ((place - 1) / 2 + 1 ≤ 2 ^ less)
 half-power place zero more within = absurd (omega arith)

@@ -1,4 +1,4 @@
--- Items of distinct ids have a placed division: sorted, and placed one after another.
+-- Items with distinct ids have a placed division: they are sorted and placed one after another.
 use Rattle.std.proofs.Common.{◌≡◌, ℕ, zero, suc, ◌-◌, ◌<◌, ◌≤◌, ℤ, ◌≤ℤ◌, ◌<ℤ◌, List, [], ◌∷◌, ◌++◌, length, get_or, Option, Some, None, arith, refl, sym, ap, ◌∙◌, inl, inr, ◌⊎◌, subst, append_assoc}
 use Rattle.std.specs.Prelude.{All, IsPermutation}
 use Rattle.std.specs.Option.{ForSome}
@@ -24,9 +24,9 @@ use Rattle.dip_core.proofs.OrderLemmas.{not_below-trans, not_below_back}
 use Rattle.dip_core.proofs.LastLemmas.{last_end_is, same_end}
 use Rattle.dip_core.proofs.StepLemmas.{ArePlaced-added, IsGreatest-added}
 
--- ---- the items in their order
+-- ---- the sorted items
 
--- a list that rises, of these items
+-- a sorted permutation of the items
 abbrev Risen : List Item → List Item → Type 0
 Risen items xs = IsPermutation items xs × IsRising xs
 
@@ -65,11 +65,11 @@ sorted_items (x ∷ items) =
 
 -- ---- the part that an item goes into
 
--- what is found among the parts
+-- either no part is free, or there is a best part
 abbrev Found : List (List Item) → ℤ → Type 0
 Found parts start = NoPartIsFree parts start ⊎ ((k : ℕ) × IsBestPart parts start k)
 
--- one more part before them
+-- with one more part before them
 module _ (part : List Item) (parts : List (List Item)) (start : ℤ) (end : ℤ) (ends : last_end part ≡ Some end) where
   none_still : NoPartIsFree parts start → start <ℤ end → NoPartIsFree (part ∷ parts) start
   none_still none late zero f e = let same : end ≡ f = same_end part end f ends e in omega (arith, ints)
@@ -219,7 +219,7 @@ some_instant-of_many items parts t division some is = record {
       (IsPermutation-sym items (all_of parts) division.together) is;
 }
 
--- a least division has as many parts as the placed one, whose instant is known
+-- a least division has the same number of parts as the placed one, whose instant is known
 pub some_instant : (items : List Item) (parts : List (List Item)) → IsLeastDivision items parts
     → (instant : Option ℤ) × IsInstantOf parts instant
 some_instant items parts divided =
@@ -262,7 +262,7 @@ some_dip items distinct =
       },
     )
 
--- a placed division is the one that exists, which is least
+-- a placed division equals the one that exists, which is least
 pub least-from_placed : (items : List Item) (parts : List (List Item)) → HasDistinctIds items
     → IsDivision items parts → IsPlaced parts
     → All IsRising parts → IsLeast items (length parts)

@@ -1,5 +1,5 @@
--- Of the divisions of some items, one at most is placed: going over the items in the order in which they are
--- placed, where each of them lies is decided by where the items before it lie.
+-- Items have at most one placed division. By induction in placing order: the parts of the items before an item
+-- determine the part of that item.
 use Rattle.std.proofs.Common.{◌≡◌, ℕ, zero, suc, ◌+◌, ◌<◌, ◌≤◌, ℤ, ◌≤ℤ◌, ◌<ℤ◌, Bool, true, false, cond, List, [], ◌∷◌, length, get_or, arith, refl, sym, ap, ◌∙◌, inl, inr, subst}
 use Rattle.std.specs.Prelude.{All, AllPairs, Option, Some, None, Any, Contains, count_by}
 use Rattle.std.specs.declared.cmp.Ordering.{Ordering}
@@ -22,13 +22,13 @@ use Rattle.dip_core.proofs.AddedLemmas.{part_at-past}
 use Rattle.dip_core.proofs.OrderLemmas.{from_le, not_before_itself, place_total}
 use Rattle.dip_core.proofs.StepLemmas.{contains-all_of}
 
--- ---- how many items come before one
+-- ---- the number of items before one
 
--- x comes before y, as a test
+-- `x` comes before `y` (a boolean)
 abbrev is_before : Item → Item → Bool
 is_before x y = is_lt (place_cmp x y)
 
--- how many of the items come before x
+-- the number of items before `x`
 abbrev rank : List Item → Item → ℕ
 rank items x = count_by (λ y. is_before y x) items
 
@@ -73,7 +73,7 @@ rank-le (z ∷ items) y x before =
     (rank-le items y x before) in
     omega (arith, more, rank-cons z items y, rank-cons z items x)
 
--- an item that comes before another has fewer before it
+-- if an item comes before another one, fewer items come before it
 rank-lt : (items : List Item) (y x : Item) → IsBefore y x → Contains items y → rank items y < rank items x
 rank-lt [] y x before member = absurd (Contains-none y member)
 rank-lt (z ∷ items) y x before (zero, h, e) =
@@ -87,9 +87,9 @@ rank-lt (z ∷ items) y x before (suc k, h, e) =
     (rank-lt items y x before (k, omega arith, e)) in
     omega (arith, more, rank-cons z items y, rank-cons z items x)
 
--- ---- what is asked of a part speaks only of its items before x
+-- ---- the conditions on a part depend only on its items before x
 
--- each item of one part that comes before x is an item of the other
+-- each item of one part that comes before `x` is an item of the other
 abbrev EarlierIn : List Item → List Item → Item → Type 0
 EarlierIn part other x = (y : Item) → IsBefore y x → Contains part y → Contains other y
 
@@ -118,13 +118,13 @@ module _ (part other : List Item) (x : Item) (there : EarlierIn part other x) (b
     all_earlier (λ y. y.period.to ≤ℤ e) part other x back latest.1,
   )
 
--- ---- where an item lies is decided by where the items before it lie
+-- ---- the parts of the items before x determine the part of x
 
--- each part's items before x are those of the other division's part of that number
+-- each part's items before `x` are in the other division's part with the same number
 abbrev EarlierAgree : List (List Item) → List (List Item) → Item → Type 0
 EarlierAgree one other x = (k : ℕ) → EarlierIn (part_at one k) (part_at other k) x
 
--- a part with an item is one
+-- a part with an item exists
 is_part : (parts : List (List Item)) (k : ℕ) (y : Item) → Contains (part_at parts k) y → k < length parts
 is_part parts k y member = elim (cases_lt k (length parts)) [
   | inl within ↦ within
@@ -136,7 +136,7 @@ free_is_part parts k x free = let (i, y, h, e, before) = free.0 in is_part parts
 
 module _ (one other : List (List Item)) (x : Item) (there : EarlierAgree one other x)
     (back : EarlierAgree other one x) where
-  -- in the best of the free parts of both
+  -- if `x` is in the best free part of both divisions, the part numbers are equal
   both_best : (k m : ℕ) → LiesInBestFree one k x → LiesInBestFree other m x → k ≡ m
   both_best k m best best' =
       let free_there : IsFree (part_at other k) x =
@@ -158,14 +158,14 @@ module _ (one other : List (List Item)) (x : Item) (there : EarlierAgree one oth
         ]
       ]
 
-  -- it doesn't open a part of one where a part of the other is free
+  -- `x` doesn't open a part of one division if a part of the other is free
   best_or_opens : (k m : ℕ) → LiesInBestFree one k x → OpensPart other m x → ⊥
   best_or_opens k m best opens =
       let free_there : IsFree (part_at other k) x =
       free_in (part_at one k) (part_at other k) x (there k) (back k) best.free in
       opens.none k (free_is_part other k x free_there) free_there
 
--- a part that isn't empty has a first item
+-- a non-empty part has a first item
 first_item : (part : List Item) → 0 < length part → (x : Item) × IsFirstOf part x
 first_item [] some = absurd (omega arith)
 first_item (x ∷ []) some = (
@@ -199,7 +199,8 @@ first_item (x ∷ (y ∷ part)) some =
       )
     ]
 
--- it doesn't open a part of one before the part that it opens of the other, which has an item before it
+-- `x` doesn't open part `k` of one division and a higher part of the other, because the other's part `k` has an item
+-- before `x`
 opens_sooner : (one other : List (List Item)) (x : Item) → EarlierAgree other one x → IsPlaced other
     → All (λ part. 0 < length part) other
     → (k m : ℕ) → OpensPart one k x → OpensPart other m x → k < m → m < length other → ⊥
@@ -209,7 +210,7 @@ opens_sooner one other x back placed filled k m opens opens' less within =
     let before : IsBefore z x = placed.rise k m z x less within first opens'.opens in
     All-contains (λ y. IsBefore y x → ⊥) (part_at one k) z opens.opens.1 (back k z before first.0) before
 
--- in both it lies in the part of one number
+-- in both divisions `x` is in the part with the same number
 one_part : (one other : List (List Item)) (x : Item) → EarlierAgree one other x → EarlierAgree other one x
     → IsPlaced one → IsPlaced other
     → All (λ part. 0 < length part) one → All (λ part. 0 < length part) other
@@ -232,7 +233,7 @@ one_part one other x there back placed placed' filled filled' k m member member'
       ]
     ]
 
--- ---- all items lie in the parts of the same numbers
+-- ---- all items are in parts with the same numbers
 
 part_with : (parts : List (List Item)) (x : Item) → Contains (all_of parts) x → (k : ℕ) × Contains (part_at parts k) x
 part_with [] x member = absurd (Contains-none x member)
@@ -241,7 +242,7 @@ part_with (part ∷ parts) x member = elim (Contains-append_cases part (all_of p
   | inr later ↦ let (k, there) = part_with parts x later in (suc k, there)
 ]
 
--- an item of one part of one division is in a part of the other
+-- an item of one division is in some part of the other
 in_other : (items : List Item) (one other : List (List Item)) (k : ℕ) (x : Item) → IsDivision items one
     → IsDivision items other → Contains (part_at one k) x → (m : ℕ) × Contains (part_at other m) x
 in_other items one other k x division division' member =
@@ -250,7 +251,7 @@ in_other items one other k x division division' member =
     (Contains-permutation (all_of one) items x (IsPermutation-sym items (all_of one) division.together)
     (contains-all_of one k x member)))
 
--- x lies in the part of the same number
+-- if `x` is in part `k` of one division, it is in part `k` of the other
 abbrev Agree : List (List Item) → List (List Item) → Item → Type 0
 Agree one other x = (k : ℕ) → Contains (part_at one k) x → Contains (part_at other k) x
 
@@ -269,7 +270,7 @@ module _ (items : List Item) (one other : List (List Item)) (division : IsDivisi
       one_part one other x there back placed placed' division.filled division'.filled k m member member' in
       subst (λ n. Contains (part_at other n) x) (sym same) member'
 
--- those of fewer than n items before them
+-- the items that have fewer than `n` items before them
 agree_below : (items : List Item) (one other : List (List Item)) → IsDivision items one → IsDivision items other
     → IsPlaced one → IsPlaced other
     → (n : ℕ) (x : Item) → rank items x < n → Agree one other x × Agree other one x
@@ -296,7 +297,7 @@ agree items one other division division' placed placed' x =
 
 -- ---- so the parts are the same lists
 
--- x ends at or before the start of y
+-- `x` ends at or before the start of `y`
 abbrev Precede : Item → Item → Type 0
 Precede x y = x.period.to ≤ℤ y.period.from
 
@@ -306,7 +307,7 @@ not_both_precede x y one other =
     let held' : y.period.from <ℤ y.period.to = y.period.ordered in
     omega (arith, ints)
 
--- items that rise without overlaps end one before the next
+-- in ascending items without overlaps, each ends at or before the start of the later ones
 precede-from_rising : (part : List Item) → IsApart part → IsRising part → AllPairs Precede part
 precede-from_rising part apart rising i j d less h =
     by_order (get_or part i d) (get_or part j d) (apart i j d less h) (rising i j d less h)
@@ -319,7 +320,7 @@ precede-from_rising part apart rising i j d less h =
         (λ inside. absurd (no_overlap (Overlap-from_ends x.period y.period (omega (arith, ints)) inside)))
         (λ past. past)
 
--- no more parts than the other has
+-- one division has no more parts than the other
 no_more : (one other : List (List Item)) → All (λ part. 0 < length part) one → ((x : Item) → Agree one other x)
     → length one ≤ length other
 no_more one other filled agrees = elim (cases_lt (length other) (length one)) [

@@ -15,13 +15,13 @@ use Rattle.dip_core.proofs.AddedLemmas.{part_at-added_same, part_at-added_other,
 use Rattle.dip_core.proofs.HeapLemmas.{top}
 use Rattle.dip_core.proofs.LastLemmas.{is_part, same_end, last_end-push}
 
--- it is the last end of its part
+-- `e` is the last end of its part
 abbrev IsLastEnd : List (List Item) → Ending → Type 0
 IsLastEnd parts e = last_end (part_at parts e.number) ≡ Some e.end
 
 -- ---- counts
 
--- how many of them are of part k
+-- the number of ends that belong to part `k`
 abbrev ends_of : ℕ → List Ending → ℕ
 ends_of k ends = count_by (λ e. e.number == k) ends
 
@@ -35,14 +35,14 @@ first_or_later k e ends false q later some total =
     let (y, (i, within, at), is) = later (omega (arith, total')) in
     (y, (suc i, omega arith, at), is)
 
--- what is counted is there
+-- if the count is positive, there is such an end
 counted-somewhere : (k : ℕ) (ends : List Ending) → 0 < ends_of k ends → (e : Ending) × Contains ends e × (e.number ≡ k)
 counted-somewhere k [] some = absurd (omega arith)
 counted-somewhere k (e ∷ ends) some =
     first_or_later k e ends (e.number == k) refl (counted-somewhere k ends) some
     (sum_by-cons (λ (y : Ending). cond (y.number == k) 1 0) e ends)
 
--- what is nowhere is not counted
+-- without such an end the count is 0
 counted-nowhere : (k : ℕ) (ends : List Ending) → All (λ e. e.number ≢ k) ends → ends_of k ends ≡ 0
 counted-nowhere k ends none = elim (cases_lt 0 (ends_of k ends)) [
   | inl some ↦
@@ -51,9 +51,9 @@ counted-nowhere k ends none = elim (cases_lt 0 (ends_of k ends)) [
   | inr none' ↦ omega arith
 ]
 
--- ---- how they change
+-- ---- changes
 
--- in another order
+-- reordering keeps the last ends
 pub HoldLastEnds-permutation : (parts : List (List Item)) (xs ys : List Ending) → IsPermutation xs ys
     → HoldLastEnds parts xs → HoldLastEnds parts ys
 HoldLastEnds-permutation parts xs ys same was = record {
@@ -62,7 +62,7 @@ HoldLastEnds-permutation parts xs ys same was = record {
   each = λ k h. sum_by-IsPermutation (λ (e : Ending). cond (e.number == k) 1 0) xs ys same ∙ was.each k h;
 }
 
--- where the part of the first one has one more item
+-- the part of the first end gets one more item
 HoldLastEnds-joined : (parts : List (List Item)) (first : Ending) (rest : List Ending) (x : Item) (new : Ending)
     → new.end ≡ x.period.to → new.number ≡ first.number
     → HoldLastEnds parts (first ∷ rest) → HoldLastEnds (added parts first.number x) (new ∷ rest)
@@ -107,7 +107,7 @@ HoldLastEnds-joined parts first rest x new end number was =
         subst (λ b. cond b 1 0 ≤ ends_of first.number rest) (eq-eqb (get_or rest i d).number first.number e) again in
         absurd (omega (arith, one, total', again'))
 
--- where there is one more part
+-- there is one more part
 pub HoldLastEnds-opened : (parts : List (List Item)) (ends : List Ending) (x : Item) (new : Ending)
     → new.end ≡ x.period.to → new.number ≡ length parts
     → HoldLastEnds parts ends → HoldLastEnds (added parts (length parts) x) (ends ++ new ∷ [])
@@ -158,7 +158,7 @@ HoldLastEnds-opened parts ends x new end number was =
           omega (arith, one, total')
     ]
 
--- the same of a list that is not taken apart
+-- the same for a list given by index instead of head and tail
 pub HoldLastEnds-set : (parts : List (List Item)) (ends : List Ending) (k : ℕ) (x : Item) (new : Ending)
     → 0 < length ends → HoldsAt (λ e. e.number ≡ k) ends 0 → new.end ≡ x.period.to → new.number ≡ k
     → HoldLastEnds parts ends → HoldLastEnds (added parts k x) (set ends 0 new)
@@ -170,7 +170,7 @@ HoldLastEnds-set parts (e ∷ rest) k x new some first end number was =
 
 -- ---- the part that ends first
 
--- the end of each part is there
+-- each part's end is in the list
 end_of : (parts : List (List Item)) (ends : List Ending) (j : ℕ) (f : ℤ) → HoldLastEnds parts ends
     → last_end (part_at parts j) ≡ Some f → (e : Ending) × Contains ends e × (e.number ≡ j) × (e.end ≡ f)
 end_of parts ends j f hold ends_j =
@@ -186,7 +186,7 @@ end_of parts ends j f hold ends_j =
           (subst (λ n. last_end (part_at parts n) ≡ Some e.end) number known) ends_j,
     )
 
--- where the first one has ended, its part is the best
+-- if the first end is over, its part is the best
 pub best-first : (parts : List (List Item)) (ends : List Ending) (start : ℤ) (k : ℕ) → HoldLastEnds parts ends
     → IsFirstOver ends start k → IsBestPart parts start k
 best-first parts [] start k hold is = let some : 0 < 0 = is.some in absurd (omega arith)
@@ -206,14 +206,14 @@ best-first parts (first ∷ rest) start k hold is =
           ];
     }
 
--- where none has ended, no part is free
+-- if no end is over, no part is free
 pub none-over : (parts : List (List Item)) (ends : List Ending) (start : ℤ) → All (λ e. start <ℤ e.end) ends
     → HoldLastEnds parts ends → NoPartIsFree parts start
 none-over parts ends start none hold = λ j f ends_j.
     let (e, member, e_number, e_end) = end_of parts ends j f hold ends_j in
     subst (λ z. start <ℤ z) e_end (All-contains (λ (y : Ending). start <ℤ y.end) ends e none member)
 
--- where the first one goes on, all do
+-- if the first end isn't over, none is
 pub none-first : (ends : List Ending) (start : ℤ) → HoldsAt (λ e. start <ℤ e.end) ends 0 → IsHeap ends
     → All (λ e. start <ℤ e.end) ends
 none-first ends start first heap = λ k d within.
@@ -223,7 +223,7 @@ none-first ends start first heap = λ k d within.
       | inr same ↦ let s : (get_or ends 0 d).end ≡ (get_or ends k d).end = same.0 in omega (arith, ints)
     ]
 
--- the first one's number is a part's
+-- the first end's part number is within the parts
 pub first-within : (parts : List (List Item)) (ends : List Ending) (k : ℕ) → 0 < length ends
     → HoldsAt (λ e. e.number ≡ k) ends 0 → HoldLastEnds parts ends → k < length parts
 first-within parts [] k some number hold = absurd (omega arith)

@@ -1,4 +1,4 @@
--- A heap of last ends: what comes first, and one step of moving an end down or up.
+-- A heap of last ends: the order, and one step of moving an end down or up.
 use Rattle.std.proofs.Common.{◌≡◌, ℕ, zero, suc, ◌+◌, ◌-◌, ◌*◌, ◌/◌, ◌<◌, ◌≤◌, List, length, get_or, arith, refl, sym, ap, ◌∙◌, inl, inr, subst}
 use Rattle.std.specs.List.{SwappedAt}
 use Rattle.std.proofs.lemmas.Bool.{cases_eq}
@@ -16,7 +16,7 @@ first-trans x y z (inl p) (inr q) = let e : y.end ≡ z.end = q.0 in inl (omega 
 first-trans x y z (inr p) (inl q) = let e : x.end ≡ y.end = p.0 in inl (omega (arith, ints))
 first-trans x y z (inr p) (inr q) = inr (p.0 ∙ q.0, omega arith)
 
--- the same at values that are equal to those
+-- the same for equal values
 first-at : (a b x y : Ending) → a ≡ x → b ≡ y → ComesFirst x y → ComesFirst a b
 first-at a b x y p q h = subst (λ v. ComesFirst v b) (sym p) (subst (λ w. ComesFirst x w) (sym q) h)
 
@@ -35,14 +35,14 @@ top-within ends d heap (suc most) k few within = elim (cases_eq k 0) [
       (heap ((k - 1) / 2) k d (omega arith) (omega arith) within)
 ]
 
--- the one at the root comes no later than any
+-- the root comes no later than any other end
 pub top : (ends : List Ending) (d : Ending) (k : ℕ) → IsHeap ends → k < length ends
     → ComesFirst (get_or ends 0 d) (get_or ends k d)
 top ends d k heap within = top-within ends d heap k k (omega arith) within
 
 -- ---- moving down
 
--- one that moves changes places with the first of those below it
+-- an end that moves down is swapped with the first of its children
 pub down-goes : (xs ys : List Ending) (j c : ℕ) → SwappedAt xs ys j c → length ys ≡ length xs → j * 2 + 1 ≤ c
     → c ≤ j * 2 + 2 → c < length xs
     → ((d : Ending) → ComesFirst (get_or xs c d) (get_or xs j d)) → ComesFirstBelow xs j c → IsHeapButBelow xs j
@@ -73,7 +73,7 @@ down-goes xs ys j c sw long lo hi within before best was = record {
 
 -- ---- moving up
 
--- one that moves changes places with the one above it
+-- an end that moves up is swapped with its parent
 pub up-goes : (xs ys : List Ending) (a j : ℕ) → SwappedAt xs ys a j → length ys ≡ length xs → a * 2 + 1 ≤ j
     → j ≤ a * 2 + 2 → j < length xs
     → ((d : Ending) → ComesFirst (get_or xs j d) (get_or xs a d)) → IsHeapButAbove xs j → IsHeapButAbove ys a

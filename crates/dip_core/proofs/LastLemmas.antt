@@ -9,24 +9,24 @@ use Rattle.dip_core.specs.Division.{part_at}
 use Rattle.dip_core.specs.Placing.{last_end}
 use Rattle.dip_core.proofs.AddedLemmas.{part_at-past}
 
--- the last item of a part, whatever the default
+-- the end of the part's last item, whatever the default
 pub last_end_is : (part : List Item) (d : Item) → 0 < length part
     → last_end part ≡ Some (get_or part (length part - 1) d).period.to
 last_end_is part d filled =
     ap (λ o. option_map (λ (x : Item). x.period.to) o) (slice_get-get_or part (length part - 1) d (omega arith))
 
--- two ends of one part are one
+-- a part has one last end
 pub same_end : (part : List Item) (e f : ℤ) → last_end part ≡ Some e → last_end part ≡ Some f → e ≡ f
 same_end part e f p q = cc
 
--- a part that ends is one
+-- a part with a last end exists
 pub is_part : (parts : List (List Item)) (k : ℕ) (end : ℤ) → last_end (part_at parts k) ≡ Some end → k < length parts
 is_part parts k end ends = elim (cases_lt k (length parts)) [
   | inl less ↦ less
   | inr past ↦ (let none = rw (part_at-past parts k past) at ends in absurd (cc))
 ]
 
--- the end of a part to which x was added
+-- the last end of a part to which `x` was appended
 pub last_end-push : (part : List Item) (x : Item) → last_end (part ++ x ∷ []) ≡ Some x.period.to
 last_end-push part x =
     let long : length (part ++ x ∷ []) ≡ length part + 1 = length-append part (x ∷ []) in

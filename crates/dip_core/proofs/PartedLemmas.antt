@@ -17,22 +17,22 @@ Item-same a b p i c m = λ k. record { period = p k; id = i k; class = c k; amou
 
 -- ---- all items of some parts
 
--- those of some parts and of those behind them
+-- the items of two lists of parts, one appended to the other
 pub all_of-append : (ps qs : List (List Item)) → all_of (ps ++ qs) ≡ all_of ps ++ all_of qs
 all_of-append ps qs = flat_map-append (λ (p : List Item). p) ps qs
 
--- those of one part more
+-- the items of the first `l + 1` parts
 pub all_of-more : (ps : List (List Item)) (l : ℕ) → l < length ps
     → all_of (take (l + 1) ps) ≡ all_of (take l ps) ++ part_at ps l
 all_of-more ps l h =
     ap all_of (take_more ps l [] h) ∙ all_of-append (take l ps) (part_at ps l ∷ [])
     ∙ ap (λ z. all_of (take l ps) ++ z) (append-nil (part_at ps l))
 
--- those of the first parts, and of the others
+-- the items of the first `l` parts and of the others
 pub all_of-split : (ps : List (List Item)) (l : ℕ) → all_of (take l ps) ++ all_of (drop l ps) ≡ all_of ps
 all_of-split ps l = sym (all_of-append (take l ps) (drop l ps)) ∙ ap all_of (take-append-drop l ps)
 
--- a part has no more items than all parts have
+-- a part has no more items than all parts together
 pub length-part_at : (ps : List (List Item)) (k : ℕ) → length (part_at ps k) ≤ length (all_of ps)
 length-part_at [] k = omega arith
 length-part_at (p ∷ ps) zero = omega (arith, length-append p (all_of ps))
@@ -40,19 +40,19 @@ length-part_at (p ∷ ps) (suc k) = let r = length-part_at ps k in omega (arith,
 
 -- ---- ids
 
--- how many items have that id
+-- the number of items with the id
 abbrev count_of : ℕ → List Item → ℕ
 count_of i items = count_by (λ x. x.id == i) items
 
--- an item is one with its id
+-- an item counts as one with its id
 has_id : (items : List Item) (x : Item) (i : ℕ) → Contains items x → x.id ≡ i → 1 ≤ count_of i items
 has_id items x i h e = counted (λ (y : Item). y.id == i) items x h ((Decides-eqb x.id i).1 e)
 
--- those of two lists
+-- the count in two lists together is the sum
 count_of-append : (i : ℕ) (xs ys : List Item) → count_of i (xs ++ ys) ≡ count_of i xs + count_of i ys
 count_of-append i xs ys = sum_by-append (λ (y : Item). cond (y.id == i) 1 0) xs ys
 
--- where ids are distinct in two lists together, they are in the first
+-- if ids are distinct in two lists together, they are distinct in the first
 pub distinct-earlier : (xs ys : List Item) → HasDistinctIds (xs ++ ys) → HasDistinctIds xs
 distinct-earlier xs ys distinct i =
     let both = count_of-append i xs ys in
@@ -66,7 +66,7 @@ distinct-later xs ys distinct i =
     let most = distinct i in
     omega (arith, most, both)
 
--- and no item of the one has the id of an item of the other
+-- and no item of one list has the id of an item of the other
 pub ids-apart : (xs ys : List Item) (x y : Item) → HasDistinctIds (xs ++ ys) → Contains xs x → Contains ys y
     → x.id ≡ y.id → ⊥
 ids-apart xs ys x y distinct h k e =
@@ -76,7 +76,7 @@ ids-apart xs ys x y distinct h k e =
     let most = distinct x.id in
     omega (arith, one, other, most, both)
 
--- where ids are distinct, items of one id are one
+-- if ids are distinct, two items with the same id are the same
 pub one_item : (items : List Item) (x y : Item) → HasDistinctIds items → Contains items x → Contains items y
     → x.id ≡ y.id → x ≡ y
 one_item [] x y distinct h k e = absurd (Contains-none x h)

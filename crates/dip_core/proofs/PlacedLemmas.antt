@@ -1,4 +1,4 @@
--- A division stays placed when an item that comes after all others goes into its place.
+-- A division stays placed when an item that comes after all others is added by the placing rule.
 use Rattle.std.proofs.Common.{◌≡◌, ◌≢◌, ℕ, ◌+◌, ◌-◌, ◌<◌, ◌≤◌, ℤ, ◌≤ℤ◌, ◌<ℤ◌, List, [], ◌∷◌, ◌++◌, length, get_or, Some, arith, refl, sym, ap, ◌∙◌, inl, inr, ◌⊎◌, subst}
 use Rattle.std.specs.Prelude.{All, Any, Contains}
 use Rattle.std.proofs.lemmas.Bool.{cases_lt}
@@ -20,7 +20,7 @@ last_end_of : (part : List Item) (d : Item) (e : ℤ) → 0 < length part → la
 last_end_of part d e filled ends =
     let same : last_end part ≡ Some (get_or part (length part - 1) d).period.to = last_end_is part d filled in cc
 
--- a chain's last end is its latest
+-- the last end of a chain is its latest end
 last_end_latest : (part : List Item) (e : ℤ) → IsChain part → 0 < length part → last_end part ≡ Some e
     → All (λ y. y.period.to ≤ℤ e) part
 last_end_latest part e chain filled ends k d h =
@@ -38,7 +38,7 @@ last_end_latest part e chain filled ends k d h =
           omega (arith, ints)
     ]
 
--- where all of a part come before x, its last end is the latest end before x
+-- if all items of a part come before `x`, its last end is the latest end before `x`
 latest-last_end : (part : List Item) (x : Item) (e f : ℤ) → IsChain part → 0 < length part
     → ((y : Item) → Contains part y → IsBefore y x) → last_end part ≡ Some e → IsLatestEnd part x f → f ≡ e
 latest-last_end part x e f chain filled before ends latest =
@@ -70,7 +70,7 @@ not_in_empty c z empty member =
     let no_length : length c ≡ 0 = ap length empty in
     absurd (omega arith)
 
--- a part all of whose items come before x is free for x where its last end is at or before x's start
+-- if all items of a part come before `x` and its last end is at or before the start of `x`, the part is free for `x`
 free-from_end : (part : List Item) (x : Item) (e : ℤ) → IsChain part → 0 < length part
     → ((y : Item) → Contains part y → IsBefore y x) → last_end part ≡ Some e → e ≤ℤ x.period.from → IsFree part x
 free-from_end part x e chain filled before ends over = (
@@ -106,7 +106,7 @@ latest-from_end part x e chain filled before ends =
       λ k d h earlier. last_end_latest part e chain filled ends k d h,
     )
 
--- the last end of a part that is free for x
+-- the last end of a part that is free for `x`
 end-from_free : (part : List Item) (x : Item) → 0 < length part → ((y : Item) → Contains part y → IsBefore y x)
     → IsFree part x → (get_or part (length part - 1) x).period.to ≤ℤ x.period.from
 end-from_free part x filled before free =

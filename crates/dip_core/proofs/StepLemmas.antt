@@ -1,4 +1,4 @@
--- What is known of the parts stays known when an item that is not below the others goes into its place.
+-- The invariant of the parts is kept when an item that is not below the others is placed.
 use Rattle.std.proofs.Common.{◌≡◌, ◌≢◌, ℕ, zero, suc, ◌+◌, ◌-◌, ◌<◌, ◌≤◌, ℤ, ◌≤ℤ◌, ◌<ℤ◌, true, cond, List, [], ◌∷◌, ◌++◌, length, get_or, Some, None, arith, refl, sym, ap, ◌∙◌, inl, inr, subst, length-append, eq-eqb}
 use Rattle.std.specs.Prelude.{All, Contains, Option, sum_by, count_by, ◌==◌}
 use Rattle.std.specs.Option.{ForSome}
@@ -20,7 +20,7 @@ use Rattle.dip_core.proofs.CrowdLemmas.{test-from_holds, crowd-all_of}
 use Rattle.dip_core.proofs.OrderLemmas.{not_below-trans, not_below_itself, from_le, before-from_not_below}
 use Rattle.dip_core.proofs.PlacedLemmas.{IsPlaced-added, same_or_other}
 
--- no item placed so far is above x
+-- no placed item is above `x`
 none_above : (parts : List (List Item)) (last : Option Item) (x : Item) → IsGreatest parts last
     → ForSome last (λ z. IsBelow x z → ⊥) → All (λ y. IsBelow x y → ⊥) (all_of parts)
 none_above parts None x empty above =
@@ -86,9 +86,9 @@ filled-added parts k x within filled =
     All-added (λ part. 0 < length part) parts k x within filled
     (omega (arith, length-append (part_at parts k) (x ∷ [])))
 
--- ---- the crowd
+-- ---- the overlap count
 
--- each part's last item holds the instant
+-- each part has an item that holds the instant
 one_each : (parts : List (List Item)) (t : ℤ) → All (λ part. 1 ≤ crowd part t) parts
     → length parts ≤ crowd (all_of parts) t
 one_each parts t each =
@@ -114,7 +114,7 @@ holder_counts part k d t h holds =
     let yes : holds_at t (get_or part k d).period ≡ true = test-from_holds t (get_or part k d).period holds in
     rw yes at one
 
--- where no part has ended, every part holds x's start
+-- if no part has ended, each has an item that holds the start of `x`
 all_hold : (parts : List (List Item)) (x : Item) → All (λ part. 0 < length part) parts
     → NoPartIsFree parts x.period.from → All (λ y. IsBelow x y → ⊥) (all_of parts)
     → length parts ≤ crowd (all_of parts) x.period.from
@@ -139,7 +139,7 @@ crowd-added : (parts : List (List Item)) (k : ℕ) (x : Item) (t : ℤ)
     → crowd (all_of (added parts k x)) t ≡ crowd (all_of parts) t + cond (holds_at t x.period) 1 0
 crowd-added parts k x t = sum_by-added (λ y. cond (holds_at t y.period) 1 0) parts k x
 
--- the first item of the part that is the last one stays
+-- the last part's first item doesn't change when a part gets one more item
 opener-joined : (parts : List (List Item)) (k : ℕ) (x d : Item) → k < length parts
     → All (λ part. 0 < length part) parts → get_or (part_at (added parts k x) (length parts - 1)) 0 d ≡ opener parts d
 opener-joined parts k x d within filled = elim (same_or_other (length parts - 1) k) [
@@ -191,7 +191,7 @@ crowded-opened parts x filled none_free above d some =
     (subst (λ (y : Item). length parts + 1 ≤ crowd (all_of (added parts (length parts) x)) y.period.from)
     (sym opens) enough)
 
--- ---- the places
+-- ---- the placing rule
 
 other_ids : (parts : List (List Item)) (k : ℕ) (x : Item) → HasDistinctIds (all_of (added parts k x)) → (y : Item)
     → Contains (all_of parts) y → y.id ≢ x.id

@@ -1,4 +1,4 @@
--- What proofs by hand cite, step by step.
+-- The imports of proofs that are written by hand, step by step.
 pub use Rattle.std.proofs.Common.{[], ◌+◌, ◌∷◌, ◌++◌, refl}
 pub use Rattle.std.proofs.raw_atomic.Walks.{proved}
 pub use mir.Syntax.{named}

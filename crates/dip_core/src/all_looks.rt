@@ -1,12 +1,12 @@
-//! The looks at last ends that were ever taken.
+//! A ghost count of all looks made. A look is a comparison of last ends.
 
 ghost use Rattle.std.specs.Prelude.{◌≡◌, ◌+◌, ℕ};
 ghost use Rattle.std.specs.Borrow.{ftrue};
 
 use std::marker::Model;
 
-/// How many looks were ever taken, those of refused placements too: nothing lowers it. Contracts alone see the number:
-/// a value has no bytes.
+/// The number of looks ever made, also by placements that were refused memory. It never decreases. The number exists
+/// only in contracts: a value has no bytes.
 #[derive(Drop)]
 pub(crate) struct AllLooks {
     pub ghost count: { ℕ },
@@ -17,14 +17,14 @@ impl Model for AllLooks {
 }
 
 impl AllLooks {
-    /// None.
+    /// Returns a count of zero.
     pub fn none() -> AllLooks
         ensures { result.count ≡ 0 }
     {
         AllLooks {}
     }
 
-    /// These, and one more.
+    /// Returns this count plus one.
     pub fn and_one(&self) -> AllLooks
         ensures { result.count ≡ self.now.count + 1 }
     {
@@ -32,7 +32,7 @@ impl AllLooks {
     }
 }
 
-// A value has no bytes, so any thread may have it.
+// A value has no bytes, so any thread may use it.
 unsafe impl Send for AllLooks {}
 
 unsafe impl Sync for AllLooks {}

@@ -14,7 +14,8 @@ use std::alloc::Global;
 use std::marker::Model;
 use std::thread::Threads;
 
-/// At most 1,000,000 items in the least number of parts without overlaps. Contracts see the list of its parts.
+/// A division of at most 1,000,000 items into the least number of parts without overlaps. Contracts see it as the list
+/// of its parts.
 #[derive(Drop)]
 pub struct Division {
     parts: Vec<PartItems>,
@@ -33,7 +34,7 @@ impl Model for Division {
 }
 
 impl Division {
-    /// The only way to a division: a placer ends with parts of which the type's facts hold.
+    /// Makes a division of the placer's parts. No other function makes one.
     pub(crate) fn from_parts(parts: Vec<PartItems>) -> Division
         requires { IsDivided parts.items }
         ensures { result ≡ parts.items }
@@ -41,14 +42,14 @@ impl Division {
         Division { parts }
     }
 
-    /// How many parts there are, at most 1,000,000. They divide all their items, each part's items rise,
-    /// and no division of those items has fewer parts.
+    /// Returns the number of parts, at most 1,000,000. The parts divide their items, each part's items are in
+    /// ascending order, and no division of those items has fewer parts.
     pub fn parts(&self) -> u32
         ensures value { result ≡ length self.now }
         ensures few { length self.now ≤ item_limit }
         ensures small { length (all_of self.now) ≤ item_limit }
 
-        // What the type keeps of each division.
+        // The invariant of the type.
         ensures division { IsDivision (all_of self.now) self.now }
         ensures chained { All IsChain self.now }
         ensures rising { All IsRising self.now }
@@ -58,7 +59,7 @@ impl Division {
         self.parts.len() as u32
     }
 
-    /// The part of that number, which is below `parts`.
+    /// Returns the part with that number, which must be below `parts`.
     pub fn part(&self, number: u32) -> Part<'_>
         requires { number < length self.now }
         ensures { result.items.now ≡ part_at self.now number }
@@ -69,7 +70,7 @@ impl Division {
         }
     }
 
-    /// The least instant that as many of its items hold as there are parts; None exactly without parts.
+    /// Returns the earliest instant whose overlap count equals the number of parts, or `None` without parts.
     pub fn instant(&self) -> Option<Point>
         ensures { IsInstantOf self.now result }
     {
@@ -77,7 +78,8 @@ impl Division {
     }
 }
 
-/// The start of the last part's first item: that part was opened because each other one went on.
+/// Returns the start of the last part's first item. That part was opened because every other part still had an item at
+/// that instant.
 fn instant_of(parts: &[PartItems]) -> Option<Point>
     requires { ArePlaced parts.now }
     ensures none { IsNone result ↔ (parts.now ≡ []) }
@@ -91,12 +93,12 @@ fn instant_of(parts: &[PartItems]) -> Option<Point>
     Some(items[0].period.from)
 }
 
-/// Divides items that are already in their order, at most 1,000,000, into the least number of parts without overlaps.
-/// Items of distinct ids are placed one after another, as `Placer::place` does.
+/// Divides at most 1,000,000 items, which must be sorted, into the least number of parts without overlaps. If ids are
+/// distinct, the division is the items' dip: each item is in the part that `Placer::place` chooses for it.
 ///
 /// # Errors
 ///
-/// `NoMemory` if a growth is refused.
+/// `NoMemory` if an allocation is refused.
 pub fn divide_sorted(alloc: Global, sorted: &[Item]) -> Result<Division, NoMemory>
     requires sorted { IsSorted item_cmp sorted.now }
     requires few { length sorted.now ≤ item_limit }
@@ -112,9 +114,13 @@ pub fn divide_sorted(alloc: Global, sorted: &[Item]) -> Result<Division, NoMemor
     Ok(placer.finish())
 }
 
-/// Divides the items, which are at most 1,000,000, into the least number of parts without overlaps. Items
-/// of distinct ids are placed one after another, by start, end and id, as `Placer::place` does. Many are sorted
-/// on several threads, but by one worker on one.
+/// Divides at most 1,000,000 items into the least number of parts without overlaps. If ids are distinct, the division
+/// is the items' dip: each item is in the part that `Placer::place` chooses for it, if items are placed by start, end
+/// and id. A long list is sorted on several threads if `workers` is more than 1.
+///
+/// # Errors
+///
+/// `NoMemory` if an allocation is refused.
 pub fn create_dip<R: Threads + Sync>(
     rt: &R,
     alloc: Global,

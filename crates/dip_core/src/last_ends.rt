@@ -1,8 +1,8 @@
-//! The last ends of parts, with the number of times that they were looked at.
+//! The last ends of parts, and a count of how often they were compared ("looks").
 //!
-//! Nothing outside this file sees an end. `is_over` and `comes_first` alone answer about ends, and each counts itself as
-//! one look. That a call compares one end, or two, and that no other function here compares any, is to be read: a
-//! clause sees what is counted.
+//! Code outside this file can't read an end. Only `is_over` and `comes_first` answer about ends, and each counts one
+//! look. Contracts see the count, not the comparisons: that each call compares one end or two, and that no other
+//! function here compares ends, is checked by reading the code.
 
 ghost use Rattle.std.specs.Prelude.{◌≡◌, ◌+◌, ◌-◌, ◌^◌, ◌<◌, ◌≤◌, ◌≤ℤ◌, ◌<ℤ◌, [], ◌∷◌, ◌++◌, MatchBool, OnErr, OnOk, length, set, take, IsPermutation};
 ghost use Rattle.std.specs.List.{HoldsAt, SwappedAt};
@@ -14,7 +14,7 @@ use period_core::Point;
 use std::alloc::Global;
 use std::marker::Model;
 
-/// Where the last item of a part ends, and the part's number.
+/// The end of a part's last item, and the part's number.
 #[derive(Clone, Copy)]
 struct LastEnd {
     end: Point,
@@ -31,7 +31,7 @@ impl Model for LastEnd {
     ghost inverse = { λ e. record { end = e.end; number = e.number } };
 }
 
-/// Whether the part ends before the other, or with it and has the lower number.
+/// Returns whether the first part ends earlier, or at the same instant and has the lower number.
 fn comes_before(one: &LastEnd, other: &LastEnd) -> bool
     ensures { MatchBool result (ComesFirst one.now other.now) (ComesFirst other.now one.now) }
 {
@@ -41,8 +41,8 @@ fn comes_before(one: &LastEnd, other: &LastEnd) -> bool
     one.end < other.end
 }
 
-/// Last ends, in the order that a placement gives them. Contracts see their list, how many looks are counted, and how
-/// many were ever taken.
+/// The last ends as a list, which placements keep as a heap. Contracts see the list, the counted looks, and the number
+/// of looks ever made.
 #[derive(Drop)]
 pub(crate) struct LastEnds {
     ends: Vec<LastEnd>,
@@ -60,7 +60,7 @@ impl Model for LastEnds {
 }
 
 impl LastEnds {
-    /// No last end, and no look.
+    /// Returns an empty list, with no looks counted.
     pub fn new(alloc: Global) -> LastEnds
         ensures { result ≡ record { ends = []; looks = 0; all_looks = 0 } }
     {
@@ -71,7 +71,7 @@ impl LastEnds {
         }
     }
 
-    /// How many looks there were, but for those of placements that were refused memory.
+    /// Returns the number of looks, without the looks of placements that were refused memory.
     pub fn looks(&self) -> u64
         ensures { result ≡ self.now.looks }
     {
@@ -84,7 +84,7 @@ impl LastEnds {
         self.ends.len()
     }
 
-    /// The number of the part whose end stands at that place. This is no look.
+    /// Returns the number of the part whose end is at index `place`. This is not a look.
     pub fn number(&self, place: usize) -> usize
         requires { place < length self.now.ends }
         ensures { HoldsAt (λ e. e.number ≡ result) self.now.ends place }
@@ -92,7 +92,7 @@ impl LastEnds {
         self.ends[place].number
     }
 
-    /// Whether the part at that place has ended by the start: one look.
+    /// Returns whether the part at index `place` has ended by `start`. Counts one look.
     pub fn is_over(&mut self, place: usize, start: Point) -> bool
         requires within { place < length self.old.ends }
         requires room { self.old.looks + 1 < 2 ^ 64 }
@@ -106,7 +106,8 @@ impl LastEnds {
         self.ends[place].end <= start
     }
 
-    /// Whether the part at a place ends before that at the other, or with it and has the lower number: one look.
+    /// Returns whether the part at index `place` ends before the one at index `other`, or at the same instant and has
+    /// the lower number. Counts one look.
     pub fn comes_first(&mut self, place: usize, other: usize) -> bool
         requires within { place < length self.old.ends }
         requires other_within { other < length self.old.ends }
@@ -121,7 +122,7 @@ impl LastEnds {
         comes_before(&self.ends[place], &self.ends[other])
     }
 
-    /// One look more.
+    /// Counts one look.
     fn count_look(&mut self)
         requires { self.old.looks + 1 < 2 ^ 64 }
         ensures counted { self.new.looks ≡ self.old.looks + 1 }
@@ -132,7 +133,7 @@ impl LastEnds {
         self.all_looks = self.all_looks.and_one();
     }
 
-    /// The ends at both places change them.
+    /// Swaps the ends at two indices.
     pub fn swap(&mut self, place: usize, other: usize)
         requires within { place < length self.old.ends }
         requires other_within { other < length self.old.ends }
@@ -145,7 +146,7 @@ impl LastEnds {
         self.ends.swap(place, other);
     }
 
-    /// Puts a last end into the place of the first.
+    /// Replaces the first end.
     pub fn replace_first(&mut self, end: Point, number: usize)
         requires { 0 < length self.old.ends }
         ensures ends { self.new.ends
@@ -156,7 +157,7 @@ impl LastEnds {
         self.ends[0] = LastEnd { end, number };
     }
 
-    /// Adds a last end behind the others. On NoMemory nothing is changed.
+    /// Appends an end. On `NoMemory` nothing is changed.
     pub fn push(&mut self, end: Point, number: usize) -> Result<(), NoMemory>
         ensures ends { OnOk result
             (self.new.ends ≡ self.old.ends ++ record { end = end; number = number } ∷ []) }
@@ -168,7 +169,7 @@ impl LastEnds {
         Ok(())
     }
 
-    /// Takes the end behind the others away again.
+    /// Removes the last end of the list.
     pub fn pop(&mut self)
         requires { 0 < length self.old.ends }
         ensures ends { self.new.ends ≡ take (length self.old.ends - 1) self.old.ends }
@@ -179,7 +180,7 @@ impl LastEnds {
         self.ends.truncate(kept);
     }
 
-    /// Takes the looks of a refused placement back: as many are counted as before it. They were taken, though.
+    /// Resets the counted looks after a refused placement. `all_looks` keeps them.
     pub fn take_back(&mut self, before: u64)
         requires { before ≤ self.old.looks }
         ensures { self.new

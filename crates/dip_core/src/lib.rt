@@ -1,7 +1,7 @@
 #![tactic(auto)]
 
-//! Divides items into the least number of parts in which no two items overlap, and gives an instant that as
-//! many items hold as there are parts.
+//! Divides items into the least number of parts without overlaps, and finds an instant whose overlap count (the number
+//! of items that hold it) equals the number of parts.
 
 mod all_looks;
 mod division;

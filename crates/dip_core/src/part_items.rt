@@ -22,7 +22,7 @@ impl Model for PartItems {
 }
 
 impl PartItems {
-    /// A part begins with its first item, so none is ever empty.
+    /// Returns a part with that item, so no part is ever empty.
     pub fn open(alloc: Global, item: &Item) -> Result<PartItems, NoMemory>
         ensures { IfOk result (λ part. part ≡ item.now ∷ []) }
     {
@@ -31,7 +31,7 @@ impl PartItems {
         Ok(PartItems { items })
     }
 
-    /// Adds the item at the end. On NoMemory the part is as before, so it can be placed again.
+    /// Appends the item. On `NoMemory` the part is unchanged, so the item can be placed again.
     pub fn push(&mut self, item: &Item) -> Result<(), NoMemory>
         ensures ok { OnOk result (self.new ≡ self.old ++ item.now ∷ []) }
         ensures err { OnErr result (self.new ≡ self.old) }
@@ -40,7 +40,7 @@ impl PartItems {
         Ok(())
     }
 
-    /// Lent to the parts of a division, which copy none.
+    /// Returns the items without copying them.
     pub fn items(&self) -> &[Item]
         ensures { result.now ≡ self.now }
     {

@@ -8,8 +8,8 @@ use crate::{Item, NoMemory};
 use std::alloc::Global;
 use std::marker::Model;
 
-/// Parts that items are added to. Until all are placed nobody reads an item of them, so that no placement
-/// sees an end that isn't looked up in `LastEnds`. Contracts see the parts.
+/// The parts that items are added to. No item can be read before all are placed, so a placement reads ends only in
+/// `LastEnds`. Contracts see the parts.
 #[derive(Drop)]
 pub(crate) struct Parts {
     list: Vec<PartItems>,
@@ -39,7 +39,7 @@ impl Parts {
         self.list.len()
     }
 
-    /// Adds the item at the end of the part of that number. On NoMemory nothing is changed.
+    /// Appends the item to the part with that number. On `NoMemory` nothing is changed.
     pub fn push(&mut self, number: usize, item: &Item) -> Result<(), NoMemory>
         requires { number < length self.old }
         ensures ok { OnOk result (self.new ≡ added self.old number item.now) }
@@ -49,7 +49,7 @@ impl Parts {
         Ok(())
     }
 
-    /// Adds the item as a new last part. On NoMemory nothing is changed.
+    /// Adds a new last part with the item. On `NoMemory` nothing is changed.
     pub fn open(&mut self, alloc: Global, item: &Item) -> Result<(), NoMemory>
         ensures ok { OnOk result (self.new ≡ added self.old (length self.old) item.now) }
         ensures err { OnErr result (self.new ≡ self.old) }
@@ -59,7 +59,7 @@ impl Parts {
         Ok(())
     }
 
-    /// The parts, once all items are placed.
+    /// Returns the parts, after all items are placed.
     pub fn finish(self) -> Vec<PartItems>
         ensures { result.items ≡ self }
     {

@@ -1,4 +1,4 @@
-//! The placement of one item: last ends in a binary heap, with that of the part that ends first at its root.
+//! The placement of one item. Last ends form a binary heap; its root is the end of the part that ends first.
 
 ghost use Rattle.std.specs.Prelude.{◌≡◌, ℕ, ◌+◌, ◌-◌, ◌*◌, ◌^◌, ◌<◌, ◌≤◌, ◌<ℤ◌, MatchOption, IfOk, OnErr, OnOk, All, length, IsPermutation};
 ghost use Rattle.std.specs.List.{HoldsAt};
@@ -11,8 +11,8 @@ use crate::{Item, NoMemory};
 use period_core::Point;
 use std::alloc::Global;
 
-/// Adds the item where the placing rule says, and answers the number of that part. On NoMemory nothing is changed but
-/// the number of looks, as those taken still count.
+/// Adds the item to the part that the placing rule names, and returns that part's number. On `NoMemory` only the
+/// number of looks may have changed, because the looks that were made still count.
 pub(crate) fn place_item(
     alloc: Global,
     parts: &mut Parts,
@@ -41,8 +41,8 @@ pub(crate) fn place_item(
     }
 }
 
-/// The number of the part that ends first, where that part has ended by the start; where it goes on, all do. Only the
-/// root is looked at, where there is one.
+/// Returns the number of the part that ends first, if that part has ended by `start`. If it hasn't, no part has. Only
+/// the root is compared, so an empty heap costs no look.
 fn first_over(ends: &mut LastEnds, start: Point) -> Option<usize>
     requires heap { IsHeap ends.old.ends }
     requires room { ends.old.looks + 1 < 2 ^ 64 }
@@ -63,7 +63,8 @@ fn first_over(ends: &mut LastEnds, start: Point) -> Option<usize>
     }
 }
 
-/// Adds the item to the part of that number, which ends first, and answers the number as `open_part` does.
+/// Appends the item to the part with that number, which must be the one that ends first. Returns the number, as
+/// `open_part` does.
 fn join_part(
     parts: &mut Parts,
     ends: &mut LastEnds,
@@ -92,7 +93,7 @@ fn join_part(
     Ok(number)
 }
 
-/// Adds the item as a new last part, so that the others keep their numbers, and answers the new part's.
+/// Adds the item as a new last part, so the others keep their numbers. Returns the new part's number.
 fn open_part(
     alloc: Global,
     parts: &mut Parts,
@@ -123,7 +124,7 @@ fn open_part(
     Ok(number)
 }
 
-/// Of the two places below a place, that of the one that comes first, by one look at most.
+/// Returns the child of index `place` that comes first. Costs at most one look.
 fn first_below(ends: &mut LastEnds, place: usize) -> usize
     requires within { place * 2 + 1 < length ends.old.ends }
     requires room { ends.old.looks + 1 < 2 ^ 64 }
@@ -149,7 +150,7 @@ fn first_below(ends: &mut LastEnds, place: usize) -> usize
     }
 }
 
-/// Makes a heap of one whose first may come after others: it moves down past them, by two looks a level.
+/// Restores the heap if its first end may come after others: moves it down, with two looks per level.
 fn sift_down(ends: &mut LastEnds)
     requires some { 0 < length ends.old.ends }
     requires heap { IsHeapButBelow ends.old.ends 0 }
@@ -172,7 +173,7 @@ fn sift_down(ends: &mut LastEnds)
     }
 }
 
-/// Makes a heap of one whose last may come before others: it moves up past them, by one look a level.
+/// Restores the heap if its last end may come before others: moves it up, with one look per level.
 fn sift_up(ends: &mut LastEnds)
     requires some { 0 < length ends.old.ends }
     requires heap { IsHeapButAbove ends.old.ends (length ends.old.ends - 1) }

@@ -1,4 +1,4 @@
-//! Items placed one after another.
+//! Placing items one after another.
 
 ghost use Rattle.std.specs.Prelude.{◌≡◌, ℕ, ◌+◌, ◌*◌, ◌<◌, ◌≤◌, [], length, Some, None, IfOk, OnOk, OnErr};
 ghost use Rattle.std.specs.Option.{ForSome};
@@ -14,8 +14,8 @@ use crate::{Division, Item, NoMemory};
 use std::alloc::Global;
 use std::marker::Model;
 
-/// Places items one after another, none below the one before it, into parts without overlaps. Contracts see the parts,
-/// the item that was placed last, how many comparisons of last ends that took, and how many were ever made.
+/// Places items one after another, in ascending order, into parts without overlaps. Contracts see the parts, the item
+/// placed last, the counted looks, and the number of looks ever made.
 #[derive(Drop)]
 pub struct Placer {
     alloc: Global,
@@ -42,7 +42,7 @@ impl Model for Placer {
 }
 
 impl Placer {
-    /// A placer without parts.
+    /// Returns a placer without parts.
     pub fn new(alloc: Global) -> Placer
         ensures { result ≡ record { parts = []; last = None; looks = 0; all_looks = 0 } }
     {
@@ -55,7 +55,7 @@ impl Placer {
         }
     }
 
-    /// The item that was placed last, which is the greatest; None where there is none.
+    /// Returns the item placed last, which is the greatest, or `None` before the first item.
     pub fn last(&self) -> Option<Item>
         ensures value { result ≡ self.now.last }
         ensures greatest { IsGreatest self.now.parts result }
@@ -63,7 +63,7 @@ impl Placer {
         self.last
     }
 
-    /// How many items were placed, at most 1,000,000.
+    /// Returns the number of items placed, at most 1,000,000.
     pub fn len(&self) -> u64
         ensures value { result ≡ length (all_of self.now.parts) }
         ensures small { result ≤ item_limit }
@@ -71,17 +71,17 @@ impl Placer {
         self.len
     }
 
-    /// How many comparisons of a last end with a start, or of two last ends and their numbers, the calls of
-    /// `place` that were Ok have taken.
+    /// Returns the number of looks of successful `place` calls. A look is a comparison of a last end with a start, or
+    /// of two last ends and their part numbers.
     pub fn looks(&self) -> u64
         ensures { result ≡ self.now.looks }
     {
         self.ends.looks()
     }
 
-    /// Places the item, and answers the number of its part: of those that have ended by its start the one
-    /// that ended first, of several such the lowest, and where there is none a new part. On NoMemory
-    /// nothing is changed.
+    /// Places the item and returns the number of its part. Among the parts that have ended by its start, it takes the
+    /// one that ended first, and the lowest number if several did. If no part has ended, it opens a new one. On
+    /// `NoMemory` nothing is changed.
     pub fn place(&mut self, item: Item) -> Result<u32, NoMemory>
         requires rises { ForSome self.old.last (λ last. ¬ IsBelow item last) }
         requires room { length (all_of self.old.parts) < item_limit }
@@ -90,8 +90,8 @@ impl Placer {
         ensures last { OnOk result (self.new.last ≡ Some item) }
         ensures err { OnErr result (IsAsBefore self.old self.new) }
 
-        // At most two looks for each binary digit of the number of parts, and one at least where there is one. All that
-        // were taken are counted.
+        // At most two looks per binary digit of the number of parts, and at least one if there is a part. Every look
+        // made is counted.
         ensures looked { OnOk result (0 < length self.old.parts → self.old.looks < self.new.looks) }
         ensures honest { OnOk result
             (self.new.all_looks + self.old.looks ≡ self.old.all_looks + self.new.looks) }
@@ -112,7 +112,7 @@ impl Placer {
         Ok(number as u32)
     }
 
-    /// The parts as a division of all items that were placed.
+    /// Returns the division of all items that were placed.
     pub fn finish(self) -> Division
         ensures parts { result ≡ self.parts }
         ensures least { IsLeastDivision (all_of self.parts) result }

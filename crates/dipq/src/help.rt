@@ -1,6 +1,6 @@
-//! What the program says of itself.
+//! The texts that describe the program.
 
-/// Printed where the arguments are invalid.
+/// Printed if the arguments are invalid.
 pub const USAGE: &str = "usage: dipq [--workers N]";
 
 /// The page that `--help` prints.

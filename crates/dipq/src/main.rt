@@ -1,5 +1,4 @@
-//! Does what the program's words ask for: answers the script on standard input with the records that its
-//! commands give, or prints the help page.
+//! Does what the program's words ask for: answers the script on standard input, or prints the help page.
 #![tactic(auto)]
 
 ghost use Rattle.words_core.specs.Words.{IsWorkers};
@@ -15,7 +14,7 @@ use std::process::ExitCode;
 use std::sync::Wait;
 use std::thread::Threads;
 
-/// Runs the script on standard input with so many workers, and flushes what was written.
+/// Runs the script on standard input, and flushes the output.
 fn answer(
     rt: &(impl Input + Print + Alloc<A = Global> + Threads + Wait + Sync),
     workers: u32,

@@ -18,8 +18,8 @@ use std::process::ExitCode;
 use std::sync::Wait;
 use std::thread::Threads;
 
-/// Runs the script on standard input with so many workers. Where a person types it, each read has a prompt. Standard
-/// output has no buffer, so each answer is out before more is read.
+/// Runs the script on standard input. If it is a terminal, each read has a prompt. Standard output has no buffer, so
+/// each answer is out before more is read.
 fn answer(
     rt: &(impl Input + Print + Eprint + Alloc<A = Global> + Threads + Wait + Sync),
     is_terminal: bool,

@@ -1,10 +1,10 @@
-//! An input that a person types.
+//! Input from a terminal.
 use std::io::{self, Eprint, Read};
 
-/// What stands before each line that a person types.
+/// Printed before each line that a person types.
 const PROMPT: &str = "> ";
 
-/// A reader that prints a prompt on standard error before each read, where a person types.
+/// A reader that prints a prompt on standard error before each read, if its input is a terminal.
 #[derive(Drop)]
 pub struct Prompted<'a, P, R> {
     pub rt: &'a P,

@@ -1,4 +1,4 @@
-//! Claimed divisions, and what a check says of them.
+//! Claimed divisions, and checks of them.
 
 use crate::items::{day, five};
 use cert_core::{Certificate, Claim, Verdict, check_division};
@@ -6,7 +6,7 @@ use dip_core::{Item, ids_rise};
 use refusal_core::{Ended, Fault, holds, try_each};
 use std::alloc::Global;
 
-// Adds an id to the last part; once more where memory was refused, and then there is as much as before.
+// Adds an id to the last part. If memory is refused, checks that the part is unchanged, and tries again.
 fn push(claim: &mut Claim, id: u64) -> Result<(), Ended> {
     let parts = claim.len();
     holds(parts > 0)?;
@@ -18,7 +18,7 @@ fn push(claim: &mut Claim, id: u64) -> Result<(), Ended> {
     Ok(claim.push(id)?)
 }
 
-// The claim of these parts.
+// Returns the claim of these parts.
 fn claim(alloc: Global, parts: &[&[u64]]) -> Result<Claim, Ended> {
     let mut claim = Claim::new(alloc);
     for part in parts {
@@ -32,7 +32,7 @@ fn claim(alloc: Global, parts: &[&[u64]]) -> Result<Claim, Ended> {
     Ok(claim)
 }
 
-// Checks what is claimed of the items.
+// Checks a claimed division of the items.
 fn check(
     alloc: Global,
     items: &[Item],
@@ -46,7 +46,7 @@ fn check(
     holds(verdict == want)
 }
 
-// A division of the five items, with the least number of parts.
+// A least division of the five items.
 const DIVISION: &[&[u64]] = &[&[1, 4], &[2, 3], &[5]];
 
 #[test]

@@ -1,4 +1,4 @@
-//! Items that are placed one after another, and divided at once.
+//! Items that are placed one by one, or divided at once.
 
 ghost use Rattle.std.specs.Prelude.{IsTrue};
 ghost use Rattle.std.specs.Option.{ForSome};
@@ -12,7 +12,7 @@ use std::alloc::Global;
 use std::cmp::Ordering;
 use std::thread::Threads;
 
-// Whether the item isn't below the last one.
+// Returns whether the item isn't below the last one.
 fn may_follow(last: Option<Item>, item: &Item) -> bool
     ensures { IsTrue result → ForSome last (λ last. IsBelow item.now last → ⊥) }
 {
@@ -22,7 +22,7 @@ fn may_follow(last: Option<Item>, item: &Item) -> bool
     }
 }
 
-// Places the item; once more where memory was refused, and then nothing was changed.
+// Places the item. If memory is refused, checks that nothing changed, and tries again.
 fn place(placer: &mut Placer, item: &Item) -> Result<u32, Ended> {
     let (len, looks, last) = (placer.len(), placer.looks(), placer.last());
     holds(may_follow(placer.last(), item))?;
@@ -34,7 +34,7 @@ fn place(placer: &mut Placer, item: &Item) -> Result<u32, Ended> {
     Ok(placer.place(*item)?)
 }
 
-// The divisions are the same, and have this instant.
+// Checks that the divisions are the same, and have this instant.
 fn check_same(placed: &Division, divided: &Division, instant: Point) -> Result<(), Ended> {
     holds(placed.instant() == Some(instant) && divided.instant() == Some(instant))?;
     holds(placed.parts() == divided.parts())?;
@@ -44,7 +44,7 @@ fn check_same(placed: &Division, divided: &Division, instant: Point) -> Result<(
     Ok(())
 }
 
-// Places the items, each into the part of that number, and divides them at once.
+// Places the items, each into the part with this number, and also divides them at once.
 fn divide<R: Threads + Sync>(
     rt: &R,
     alloc: Global,

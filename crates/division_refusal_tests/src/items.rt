@@ -1,10 +1,10 @@
-//! Items of January 2024. They need no memory, so each trial is given them.
+//! Items of January 2024. They need no memory, so every trial can have them.
 
 use dip_core::Item;
 use period_core::{Period, Point};
 use std::process::Abort;
 
-// The midnight of that day.
+// Returns midnight at the start of the day.
 pub(crate) fn day(rt: &impl Abort, day: u8) -> Point {
     assert!(rt; day < 32);
     let (tens, ones) = (b'0' + day / 10, b'0' + day % 10);
@@ -12,12 +12,12 @@ pub(crate) fn day(rt: &impl Abort, day: u8) -> Point {
     Point::parse(&text).expect(rt, "a day")
 }
 
-// From one day on, and before another.
+// Returns the period from one day to before another.
 pub(crate) fn january(rt: &impl Abort, from: u8, to: u8) -> Period {
     Period::new(day(rt, from), day(rt, to)).expect(rt, "a period")
 }
 
-// The item of that id and class.
+// Returns an item with this id and class.
 pub(crate) fn item(rt: &impl Abort, id: u64, from: u8, to: u8, class: u64) -> Item {
     Item {
         period: january(rt, from, to),
@@ -27,7 +27,7 @@ pub(crate) fn item(rt: &impl Abort, id: u64, from: u8, to: u8, class: u64) -> It
     }
 }
 
-// Five items, of which three hold on the third, in the order in which they are placed.
+// Five items, in the order in which they are placed. Three of them hold on the third.
 pub(crate) fn five(rt: &impl Abort) -> [Item; 5] {
     [
         item(rt, 1, 1, 5, 0),

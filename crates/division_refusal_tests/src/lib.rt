@@ -1,4 +1,4 @@
-//! What stands where memory is refused to what divides items, checks divisions, merges parts and collects pieces.
+//! Tests of refused memory when items are divided, divisions are checked, parts are merged and pieces are collected.
 #![tactic(auto)]
 
 #[cfg(test)]

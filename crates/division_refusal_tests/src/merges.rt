@@ -1,4 +1,4 @@
-//! What two parts share, the gaps between them, and steps taken together.
+//! Hits and gaps of two parts, and steps that are combined.
 
 use crate::items::{day, item, january};
 use dip_core::{Item, Part};
@@ -18,7 +18,7 @@ fn cursor(items: &[Item]) -> Result<Cursor<'_>, Ended> {
     Ok(Cursor::new(part(items)?))
 }
 
-// Two sides, what their parts share, and the gaps of the left one.
+// Two sides, their hits, and the gaps of the left side.
 #[derive(Drop)]
 struct Case<'a> {
     lefts: &'a [Item],
@@ -27,7 +27,8 @@ struct Case<'a> {
     gaps: &'a [Gap],
 }
 
-// Finds the hits behind one that is there; once more where memory was refused, and then that one alone is there.
+// Finds the hits, in a list that already has one. If memory is refused, checks that only that one is left, and tries
+// again.
 fn find_hits(alloc: Global, case: &Case<'_>, first: Hit) -> Result<(), Ended> {
     let mut hits = Vec::with_capacity(alloc, 1)?;
     hits.push(first)?;
@@ -42,7 +43,7 @@ fn find_hits(alloc: Global, case: &Case<'_>, first: Hit) -> Result<(), Ended> {
     holds(hits.get(1..) == Some(case.hits))
 }
 
-// The same of gaps.
+// The same for gaps.
 fn find_gaps(alloc: Global, case: &Case<'_>, first: Gap) -> Result<(), Ended> {
     let mut gaps = Vec::with_capacity(alloc, 1)?;
     gaps.push(first)?;
@@ -57,7 +58,7 @@ fn find_gaps(alloc: Global, case: &Case<'_>, first: Gap) -> Result<(), Ended> {
     holds(gaps.get(1..) == Some(case.gaps))
 }
 
-// The gaps of the whole left part, those beside the right one, and what both share.
+// Finds the gaps of the whole left part, its gaps against the right part, and what these have in common.
 fn share_gaps(alloc: Global, case: &Case<'_>, whole: Gap) -> Result<(), Ended> {
     let alone = Gaps::whole(alloc, part(case.lefts)?)?;
     let beside = Gaps::of(alloc, cursor(case.lefts)?, cursor(case.rights)?)?;
@@ -106,13 +107,13 @@ fn hits_and_gaps_are_found_later(rt: HostRuntime) -> Result<(), Fault> {
     Ok(())
 }
 
-// The steps of one item with an amount.
+// Returns the steps of one item with an amount.
 fn steps(alloc: Global, item: &Item, amount: i64) -> Result<Steps, Ended> {
     let items = [Item { amount, ..*item }];
     Ok(Steps::of_part(alloc, part(&items)?)?)
 }
 
-// What some items come to.
+// Returns the aggregates of some items.
 fn tally(count: u64, sum: i128, min: i64, max: i64) -> Tally {
     Tally {
         count,
@@ -122,7 +123,7 @@ fn tally(count: u64, sum: i128, min: i64, max: i64) -> Tally {
     }
 }
 
-// Two items that hold together for three days, of the amounts 1 and 2.
+// Combines the steps of two items that hold at the same time for three days, with the amounts 1 and 2.
 fn take_together(alloc: Global, items: &[Item; 2], days: &[Point; 4]) -> Result<(), Ended> {
     let one = steps(alloc, &items[0], 1)?;
     let other = steps(alloc, &items[1], 2)?;
@@ -146,7 +147,7 @@ fn steps_are_taken_together_later(rt: HostRuntime) -> Result<(), Fault> {
     try_each(&rt, |alloc| take_together(alloc, &items, &days))
 }
 
-// Items of two classes, while no memory is left.
+// Finds no hit of items of two classes while no memory is left.
 #[test]
 fn no_hit_needs_no_memory(rt: HostRuntime) -> Result<(), Fail> {
     let lefts = [item(&rt, 1, 1, 10, 1)];

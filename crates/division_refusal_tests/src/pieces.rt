@@ -1,4 +1,4 @@
-//! Pieces of the pairs of a job, which are collected in any order, and runs of all its pairs.
+//! Collects the pieces of a job's pairs in any order, and runs all its pairs.
 
 ghost use Rattle.std.specs.Prelude.{◌<◌, ◌≤◌};
 
@@ -12,7 +12,7 @@ use std::test::Fail;
 use std::thread::Threads;
 use work_core::{Collector, OpenGate, Outs, PairName, PairWork, Piece, Why, run_pairs};
 
-// The pair that is collected last, and the others.
+// The pair that is collected last, and the other pairs.
 const LAST: PairName = PairName { left: 0, right: 1 };
 
 const OTHERS: [PairName; 3] = [
@@ -21,7 +21,7 @@ const OTHERS: [PairName; 3] = [
     PairName { left: 1, right: 0 },
 ];
 
-// The items in two parts.
+// Divides the items, which need two parts.
 fn divide(rt: &(impl Abort + Alloc<A = Global> + Threads + Sync), items: &[Item]) -> Division {
     assert!(rt; items.len() <= 1_000_000);
     let items = Vec::from_slice(rt.alloc(), items).expect(rt, "memory");
@@ -30,12 +30,12 @@ fn divide(rt: &(impl Abort + Alloc<A = Global> + Threads + Sync), items: &[Item]
     division
 }
 
-// The left side: two items that overlap.
+// Divides the left side: two items that overlap.
 fn divide_left(rt: &(impl Abort + Alloc<A = Global> + Threads + Sync)) -> Division {
     divide(rt, &[item(rt, 1, 1, 10, 1), item(rt, 2, 5, 8, 2)])
 }
 
-// The right side: three items, of which the third overlaps the second and has some class.
+// Divides the right side: three items. The third overlaps the second and has this class.
 fn divide_right(rt: &(impl Abort + Alloc<A = Global> + Threads + Sync), class: u64) -> Division {
     let items = [
         item(rt, 1, 3, 6, 1),
@@ -45,7 +45,7 @@ fn divide_right(rt: &(impl Abort + Alloc<A = Global> + Threads + Sync), class: u
     divide(rt, &items)
 }
 
-// The piece of a pair that the job has.
+// Returns the piece of one of the job's pairs.
 fn piece<'j, W: PairWork>(
     alloc: Global,
     job: &'j W,
@@ -55,7 +55,7 @@ fn piece<'j, W: PairWork>(
     Ok(Piece::make(alloc, job, name)?)
 }
 
-// The values of the four pairs: two hits, none, none and one.
+// Checks the values of the four pairs: two hits, none, none and one.
 fn check_values(outs: &Outs<JoinOut>) -> Result<(), Ended> {
     holds(outs.len() == 4)?;
     for (number, want) in [(0, 2), (1, 0), (2, 0), (3, 1)] {
@@ -65,7 +65,7 @@ fn check_values(outs: &Outs<JoinOut>) -> Result<(), Ended> {
     Ok(())
 }
 
-// The collector refuses the job's piece for this reason.
+// Checks that the collector refuses the job's piece for this reason.
 fn refuse<'j, W: PairWork>(
     alloc: Global,
     collector: &mut Collector<'j, W>,
@@ -79,7 +79,7 @@ fn refuse<'j, W: PairWork>(
     }
 }
 
-// Collects the pieces, but for the last one; the other job differs in its inputs.
+// Collects all pieces except the last one. The other job differs in its inputs.
 fn collect_others<'j, W: PairWork>(
     alloc: Global,
     job: &'j W,
@@ -95,7 +95,7 @@ fn collect_others<'j, W: PairWork>(
     Ok(collector)
 }
 
-// Collects all pieces, and finishes before the last one in vain.
+// Collects all pieces. Checks that finishing before the last one fails.
 fn collect<'j>(
     alloc: Global,
     job: &'j JoinPairs<'j>,
@@ -122,7 +122,7 @@ fn a_refused_piece_is_made_later(rt: HostRuntime) -> Result<(), Fault> {
     try_each(&rt, |alloc| collect(alloc, &job, &other))
 }
 
-// Runs all pairs by so many workers.
+// Runs all pairs with this number of workers.
 fn run<R: Threads + Sync>(
     rt: &R,
     alloc: Global,
@@ -142,7 +142,7 @@ fn a_run_is_out_of_memory_or_whole(rt: HostRuntime) -> Result<(), Fault> {
     try_each(&rt, |alloc| run(&rt, alloc, &job, 4))
 }
 
-// Once the collector and the pieces are there.
+// Needs no memory once the collector and the pieces are made.
 #[test]
 fn collecting_needs_no_memory(rt: HostRuntime) -> Result<(), Fail> {
     let alloc = rt.alloc();

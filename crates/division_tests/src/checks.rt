@@ -1,4 +1,4 @@
-//! Checks of claimed divisions: verdicts, and claims that are made part by part.
+//! Tests of checks of claimed divisions: their verdicts, and claims that are made part by part.
 
 use crate::divisions::item;
 use cert_core::{Certificate, Claim, Verdict, check_division};
@@ -8,7 +8,7 @@ use std::alloc::Global;
 use std::process::Abort;
 use std::test::Fail;
 
-// Five rows that three parts hold.
+// Five rows. Three parts are needed.
 fn five(rt: &impl Abort) -> [Item; 5] {
     [
         item(rt, 1, b"01", b"05"),
@@ -31,7 +31,7 @@ fn claim(rt: &(impl Abort + Alloc<A = Global>), parts: &[&[u64]]) -> Result<Clai
     Ok(claim)
 }
 
-// Checks the verdict on the five rows of a claim, a count and an instant.
+// Checks the verdict on a claimed division of the five rows, with this count and this instant.
 fn check_verdict(
     rt: &(impl Abort + Alloc<A = Global>),
     parts: &[&[u64]],

@@ -1,4 +1,4 @@
-//! Divisions: where a placer puts rows one after another, and what a part is.
+//! Tests of divisions: the parts into which a placer puts consecutive rows, and the definition of a part.
 
 ghost use Rattle.std.specs.Prelude.{IsTrue};
 ghost use Rattle.std.specs.Option.{ForSome};
@@ -13,7 +13,7 @@ use std::process::Abort;
 use std::test::Fail;
 use std::thread::Threads;
 
-/// A row of January 2024, by the days of its start and its end.
+/// A row of January 2024, given by the days of its start and its end.
 pub fn item(rt: &impl Abort, id: u64, from: &[u8; 2], to: &[u8; 2]) -> Item {
     let from = Point::parse(&[
         b'2', b'0', b'2', b'4', b'-', b'0', b'1', b'-', from[0], from[1],
@@ -30,7 +30,7 @@ pub fn item(rt: &impl Abort, id: u64, from: &[u8; 2], to: &[u8; 2]) -> Item {
     }
 }
 
-// Whether the item isn't below the last one.
+// Returns whether the item isn't below the last one.
 fn may_follow(last: Option<Item>, item: &Item) -> bool
     ensures { IsTrue result → ForSome last (λ last. IsBelow item.now last → ⊥) }
 {
@@ -40,8 +40,8 @@ fn may_follow(last: Option<Item>, item: &Item) -> bool
     }
 }
 
-// The division that comes of placing the items, each of which goes into the part of that number. Only the first takes
-// no look at a last end.
+// Places the items, checks that each goes into the part with this number, and returns their division. Only the first
+// item is placed without a comparison.
 fn placed(
     rt: &(impl Abort + Alloc<A = Global>),
     items: &[Item],
@@ -58,7 +58,7 @@ fn placed(
     Ok(placer.finish())
 }
 
-// Both divisions have the same parts.
+// Checks that both divisions have the same parts.
 fn check_same(rt: &impl Abort, one: &Division, other: &Division) {
     assert!(rt; one.instant() == other.instant());
     assert!(rt; one.parts() == other.parts());
@@ -68,7 +68,7 @@ fn check_same(rt: &impl Abort, one: &Division, other: &Division) {
     }
 }
 
-// A placer puts the items into the parts of these numbers, and what comes of it is their division.
+// Checks that a placer puts the items into the parts with these numbers, and that this is their division.
 fn check_placing(
     rt: &(impl Abort + Alloc<A = Global> + Threads + Sync),
     items: &[Item],
@@ -112,7 +112,7 @@ fn takes_the_part_that_ended_first(rt: HostRuntime) -> Result<(), Fail> {
     check_placing(&rt, &together, &[0, 1, 0])
 }
 
-// So many days, from 1970-01-01 on.
+// Returns the first `count` days from 1970-01-01 on.
 fn days(rt: &impl Alloc<A = Global>, count: u32) -> Result<Vec<Point>, Fail> {
     let mut days = Vec::new(rt.alloc());
     let mut date = Date::new(1970, 1, 1)?;
@@ -124,7 +124,7 @@ fn days(rt: &impl Alloc<A = Global>, count: u32) -> Result<Vec<Point>, Fail> {
     Ok(days)
 }
 
-// 5,000 items of ten days, of which each starts a day before the one that comes ahead of it.
+// Returns 5,000 items of ten days each, in descending order: each starts a day before the previous one.
 fn falling(rt: &impl Alloc<A = Global>) -> Result<Vec<Item>, Fail> {
     let days = days(rt, 5_010)?;
     let mut items = Vec::new(rt.alloc());

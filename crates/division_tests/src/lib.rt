@@ -1,4 +1,4 @@
-//! Tests from outside of divisions, and of checks of those that others made.
+//! Black-box tests of divisions, and of checks of divisions that others made.
 #![tactic(auto)]
 
 #[cfg(test)]

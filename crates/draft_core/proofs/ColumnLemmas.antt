@@ -1,4 +1,4 @@
--- Rows that lie by columns.
+-- Rows stored by column.
 use Rattle.std.proofs.Common.{◌≡◌, ℕ, zero, suc, ◌+◌, ◌<◌, ◌≤◌, List, [], ◌∷◌, ◌++◌, length, length-append, length-take-le, map, set, take, take_at, get_or, refl, subst, ap, sym, ◌∙◌, arith}
 use Rattle.std.specs.Prelude.{All, pos, slice_get, Some, None, OnErr, Result, Ok, Err}
 use Rattle.std.proofs.lemmas.List.{get_or-map, get_or-take, length-map, take_more_set}
@@ -14,14 +14,14 @@ use Rattle.row_core.specs.declared.value.Kind.{Kind}
 use Rattle.row_core.specs.declared.value.Value.{Value}
 use Rattle.row_core.specs.declared.value.Value.TheVariants.{Int}
 
--- the values of the columns at their first places
+-- the first `count` values of each column
 abbrev first_values : ℕ → List ColumnValues → List (List Value)
 first_values count columns = map (λ column. take count (values_of_column column)) columns
 
 abbrev all_values : List ColumnValues → List (List Value)
 all_values columns = map values_of_column columns
 
--- a row at a place below `count` is given by the first `count` values of each column
+-- a row at an index below `count` depends only on the first `count` values of each column
 values_at-first : (count place : ℕ) (columns : List ColumnValues) → place < count
     → values_at (all_values columns) place ≡ values_at (first_values count columns) place
 values_at-first count place [] inside = refl
@@ -75,7 +75,7 @@ rows-append place (p ∷ ps) qs columns =
     (rows-append (suc place) ps qs columns
     ∙ ap (λ n. rows_by_column (suc place) ps columns ++ rows_by_column n qs columns) there)
 
--- one more row
+-- one row more
 pub rows-push : (ps : List Period) (p : Period) (old new : List ColumnValues) (values : List Value)
     → first_values (length ps) new ≡ first_values (length ps) old
     → values_at (all_values new) (length ps) ≡ values
@@ -90,7 +90,7 @@ rows-push ps p old new values same last =
     (rows-kept (length ps) 0 ps old new same within)
     ∙ ap (λ v. rows_by_column 0 ps (all_values old) ++ record { period = p; values = v } ∷ []) last
 
--- rows whose values lie so many places further on
+-- rows whose values are `count` indexes later
 rows-behind : (count place size : ℕ) (qs : List Period) (columns more : List (List Value))
     → ((i : ℕ) → i < size → values_at columns (count + i) ≡ values_at more i) → place + length qs ≤ size
     → rows_by_column (count + place) qs columns ≡ rows_by_column place qs more
@@ -119,7 +119,7 @@ rows-put_behind ps qs old new more same behind =
     ∙ ap (λ l. rows_by_column 0 ps (all_values old) ++ l)
     (rows-behind (length ps) 0 (length qs) qs (all_values new) (all_values more) behind (omega arith))
 
--- what is there of a row
+-- columns' kinds and rows
 abbrev pub alike : List Kind → List Draft → AlikeRows
 alike kinds rows = record { kinds = kinds; rows = rows }
 
@@ -151,7 +151,7 @@ no_value-at place [] i e = refl
 no_value-at place (x ∷ xs) zero e = absurd (cc)
 no_value-at place (x ∷ xs) (suc i) e = no_value-at place xs i e
 
--- one more column's value
+-- the value in one column more
 pub values_at-more : (place : ℕ) (cs : List ColumnValues) (c : ColumnValues) (v : Value)
     → slice_get (values_of_column c) place ≡ Some v
     → values_at (all_values (cs ++ c ∷ [])) place ≡ values_at (all_values cs) place ++ v ∷ []
@@ -173,7 +173,7 @@ pub long-set : (count i : ℕ) (cs : List ColumnValues) (c : ColumnValues) → A
     → count ≤ length (values_of_column c) → AreLong count (set cs i c)
 long-set count i cs c long fits = All-set (λ column. count ≤ length (values_of_column column)) cs i c fits long
 
--- a column whose first values have others after them
+-- the first values of a column, followed by others
 pub first-more : (count : ℕ) (old new more : List Value) → count ≤ length old → new ≡ take count old ++ more
     → (take count new ≡ take count old) × (length new ≡ count + length more)
 first-more count old new more long is =
@@ -217,7 +217,7 @@ pub no_value-in_column : (ps : List Period) (cs : List ColumnValues) (a : AlikeR
 no_value-in_column ps cs a place i is inside none =
     sym (ap (λ l. slice_get l i) (values-in_row ps cs a place is inside) ∙ no_value-at place cs i none)
 
--- ---- columns in turn, each replaced by one that has more after the first values
+-- ---- each column in turn is replaced by one with more values after the first
 
 pub step-kept : (count i : ℕ) (old cs : List ColumnValues) (c now : ColumnValues) (more : List Value)
     → Keep count old cs → AreLong count cs → i < length cs → now ≡ get_or cs i now
@@ -325,12 +325,12 @@ module _ {X Y : Type 0} (f : X → Kind) (g : Y → Kind) where
       sym (get_or-map f xs i d (f d) inside) ∙ ap (λ l. get_or l i (f d)) same
       ∙ get_or-map g ys i y (f d) (inside-both xs ys i same inside) ∙ ap g (sym at)
 
--- what holds, holds on an error
+-- a fact holds on an error too
 pub on_err : {T E P : Type 0} (r : Result T E) → P → OnErr r P
 on_err (Ok value) p = tt
 on_err (Err error) p = p
 
--- columns with the same values are as long
+-- columns with the same values have the same lengths
 pub long-same : (count : ℕ) (old new : List ColumnValues) → all_values new ≡ all_values old → AreLong count old
     → AreLong count new
 long-same count old new same long =
@@ -340,7 +340,7 @@ long-same count old new same long =
     subst (λ values. count ≤ length values) (get_or-map values_of_column new k d (values_of_column d) inside)
     (all k (values_of_column d) (omega (arith, inside, length-map new values_of_column)))
 
--- the next of a list that is gone through
+-- the next element of a list during a loop
 pub next-there : {X : Type 0} (all done rest next : List X) (x : X) (place : ℕ) → all ≡ done ++ rest → rest ≡ x ∷ next
     → place ≡ length done → (x ≡ get_or all place x) × (place < length all)
 next-there {X = X} all done rest next x place whole more at =

@@ -29,7 +29,7 @@ kind_at (column.Numbers numbers) place inside =
 kind_at (column.Texts texts) place inside =
     ap kind_of (get_or-map Text texts place [] (Int (pos 0)) (omega (arith, inside, length-map texts Text)))
 
--- a row fits as its columns do
+-- a row fits if its columns do
 row-fits : (count place : ℕ) (schema : List Column) (columns : List ColumnValues) → AreLong count columns
     → place < count
     → fits schema (values_at (map values_of_column columns) place) ≡ kinds_fit schema (map kind_of_column columns)
@@ -51,7 +51,7 @@ only : (b : Bool) → (b && true) ≡ b
 only true = refl
 only false = refl
 
--- so do all rows, where there are any
+-- the same of all rows, if there are any
 pub rows-fit : (count place : ℕ) (ps : List Period) (schema : List Column) (columns : List ColumnValues)
     → AreLong count columns → place + length ps ≤ count → 0 < length ps
     → list_all {X = Draft} (λ d. fits schema d.values) (rows_by_column place ps (map values_of_column columns))
@@ -68,7 +68,7 @@ rows-fit count place (p ∷ q ∷ qs) schema columns long within some =
     (rows-fit count (suc place) (q ∷ qs) schema columns long (omega (arith, within)) (omega arith))
     ∙ both (kinds_fit schema (map kind_of_column columns))
 
--- whether the kind of a column is the one at its place
+-- the test of a column's kind, by index
 pub kind_there : (columns : List Column) (values : List ColumnValues) (i : ℕ) (s : Column) (c : ColumnValues) (k : Kind)
     → i < length values → s ≡ get_or columns i s → c ≡ get_or values i c → k ≡ kind_of_column c
     → is_fit_kind (get_or columns i s) (get_or (map kind_of_column values) i k) ≡ is_fit_kind s k
@@ -76,14 +76,14 @@ kind_there columns values i s c k inside at_column at_values is =
     ap (λ x. is_fit_kind x (get_or (map kind_of_column values) i k)) (sym at_column)
     ∙ ap (is_fit_kind s) (get_or-map kind_of_column values i c k inside ∙ ap kind_of_column (sym at_values) ∙ sym is)
 
--- a kind is itself
+-- a kind equals itself
 pub same_kind-self : (one other : Kind) → one ≡ other → same_kind one other ≡ true
 same_kind-self kind.Int kind.Int same = refl
 same_kind-self kind.Text kind.Text same = refl
 same_kind-self kind.Int kind.Text same = absurd (cc)
 same_kind-self kind.Text kind.Int same = absurd (cc)
 
--- false decides what is not so
+-- `false` decides what doesn't hold
 pub false-where_not : {P : Type 0} → (P → ⊥) → IsTrue false ↔ P
 false-where_not not_so = (λ wrong. let never : false ≡ true = wrong in absurd (cc), λ p. absurd (not_so p))
 

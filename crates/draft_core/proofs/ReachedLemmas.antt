@@ -1,4 +1,4 @@
--- Rows are reached where their periods are, and whether any is, from one place to the next.
+-- A row overlaps a portion if its period does; and the test of one index more.
 use Rattle.std.proofs.Common.{◌≡◌, ℕ, zero, suc, ◌+◌, ◌<◌, ◌||◌, Bool, List, [], ◌∷◌, Some, ap, false, get_or, length, map, refl, sym, take, ◌∙◌}
 use Rattle.std.specs.List.{list_any, slice_get}
 use Rattle.std.specs.Prelude.{option_map, unwrap_or}
@@ -29,11 +29,11 @@ any_reached-rows portion ps columns (place ∷ places) =
     ap (λ b. b || list_any (is_reached portion rows) places) here
     ∙ ap (λ b. is_met portion ps place || b) (any_reached-rows portion ps columns places)
 
--- the item at a place passes the test; past the last none does
+-- the item at an index passes the test; false past the last
 abbrev pub passes_at : {X : Type 0} → (X → Bool) → List X → ℕ → Bool
 passes_at test items place = unwrap_or (option_map test (slice_get items place)) false
 
--- whether an item at one of the first places passes the test, by one place more
+-- whether an item at one of the first indexes passes, with one index more
 pub any_at-more : {X : Type 0} (test : X → Bool) (items : List X) (places : List ℕ) (i : ℕ) (item : X)
     (any here : Bool) → i < length places → slice_get items (get_or places i 0) ≡ Some item → here ≡ test item
     → any ≡ list_any (passes_at test items) (take i places)

@@ -1,4 +1,4 @@
--- Texts one after another: more of them, the first of them, each of them.
+-- Texts stored one after another: adding, truncating and reading.
 use Rattle.std.proofs.Common.{ℕ, zero, suc, ◌≡◌, ◌<◌, ◌≤◌, ◌+◌, ◌-◌, List, [], ◌∷◌, ◌++◌, All, Some, length, take, drop, map, slice_get, refl, sym, subst, ap, ◌∙◌, arith, length-append, length-take-le, drop-drop, take_at, take-append-drop}
 use Rattle.std.proofs.Math.Seq.{drop-append_seam}
 use Rattle.std.proofs.lemmas.List.Elements.{All-append, All-cons, All-nil, All-push, All-tail, All-take}
@@ -6,22 +6,22 @@ use Rattle.list_core.specs.Cut.{cut, EndsAt, start_at}
 use Rattle.list_core.proofs.CutLemmas.{EndsAt-behind, EndsAt-from, EndsAt-more, cut-behind, cut-more, part-append}
 use Rattle.row_core.specs.Texts.{IsText}
 
--- the places where texts end are those of these bytes, and each text is one
+-- the ends fit the bytes, and each part is a text
 abbrev pub AreTexts : List ℕ → List ℕ → Type 0
 AreTexts ends bytes = EndsAt 0 ends (length bytes) × All IsText (cut 0 ends bytes)
 
--- the same places and bytes
+-- the same for equal ends and bytes
 pub same_texts : (ends bytes ends' bytes' : List ℕ) → ends' ≡ ends → bytes' ≡ bytes → AreTexts ends bytes
     → AreTexts ends' bytes'
 same_texts ends bytes ends' bytes' e b are = rw (e, b) are
 
--- the same bytes, with the places as they were before more
+-- the ends as they were before more were added
 pub texts-back : (ends bytes more grown ends' bytes' : List ℕ) (n : ℕ) → grown ≡ ends ++ more → n ≡ length ends
     → ends' ≡ take n grown → bytes' ≡ bytes → AreTexts ends bytes → AreTexts ends' bytes'
 texts-back ends bytes more grown ends' bytes' n g size e b are =
     same_texts ends bytes ends' bytes' (e ∙ ap (take n) g ∙ take_at ends more n (sym size)) b are
 
--- a text at a place
+-- a text at an index
 pub text-there : (texts : List (List ℕ)) (i : ℕ) (text : List ℕ) → All IsText texts → slice_get texts i ≡ Some text
     → IsText text
 text-there [] i text all e = cc
@@ -29,9 +29,9 @@ text-there (first ∷ texts) zero text all e =
     let same : first ≡ text = cc in subst IsText same (all 0 first (omega arith))
 text-there (first ∷ texts) (suc i) text all e = text-there texts i text (All-tail IsText first texts all) e
 
--- ---- one more
+-- ---- one text more
 
--- by where it ends after the bytes, as they are lent
+-- with its end, as it is borrowed
 pub pushed-text : (ends bytes text lent grown longer : List ℕ) (end : ℕ) → AreTexts ends bytes → IsText text
     → lent ≡ bytes → end ≡ length lent + length text → grown ≡ ends ++ end ∷ [] → longer ≡ bytes ++ text
     → AreTexts grown longer × (cut 0 grown longer ≡ cut 0 ends bytes ++ text ∷ [])
@@ -47,9 +47,9 @@ pushed-text ends bytes text lent grown longer end (at, all) is b e g l =
       parts,
     )
 
--- ---- more after them
+-- ---- more texts
 
--- where texts end that come after n bytes
+-- the ends of texts after the first `n` bytes
 abbrev pub behind : ℕ → List ℕ → List ℕ
 behind n ends = map (λ end. n + end) ends
 
@@ -70,7 +70,7 @@ EndsAt-shifted : (n from : ℕ) (ends : List ℕ) (size : ℕ) → EndsAt from e
 EndsAt-shifted n from [] size h = ap (λ k. n + k) h
 EndsAt-shifted n from (end ∷ ends) size (h, more) = (omega (arith, h), EndsAt-shifted n end ends size more)
 
--- of other texts, by what is lent of them
+-- other texts, as they are borrowed
 pub appended-texts : (ends bytes more text lent shared grown longer : List ℕ) (start : ℕ) → AreTexts ends bytes
     → AreTexts more text → start ≡ length bytes → lent ≡ more → shared ≡ text → grown ≡ ends ++ behind start lent
     → longer ≡ bytes ++ shared → AreTexts grown longer × (cut 0 grown longer ≡ cut 0 ends bytes ++ cut 0 more text)
@@ -95,19 +95,19 @@ appended-texts ends bytes more text lent shared grown longer start (at, all) (at
       parts,
     )
 
--- no text ends after the bytes
+-- no text ends after the last byte
 pub ends-within : (from : ℕ) (ends : List ℕ) (size : ℕ) → EndsAt from ends size → All (λ end. end ≤ size) ends
 ends-within from [] size h = All-nil (λ end. end ≤ size)
 ends-within from (end ∷ ends) size (h, more) =
     All-cons (λ end. end ≤ size) end ends (EndsAt-from end ends size more) (ends-within end ends size more)
 
--- ---- the first of them
+-- ---- the first texts
 
 start_at-next : (from end : ℕ) (ends : List ℕ) (k : ℕ) → start_at from (end ∷ ends) (suc k) ≡ start_at end ends k
 start_at-next from end ends zero = refl
 start_at-next from end ends (suc k) = refl
 
--- the text of a number starts after the start, and within the bytes
+-- a text starts within the bytes
 start_at-within : (from : ℕ) (ends : List ℕ) (size k : ℕ) → EndsAt from ends size → k < length ends
     → (from ≤ start_at from ends k) × (start_at from ends k ≤ size)
 start_at-within from [] size k h lt = absurd (omega arith)

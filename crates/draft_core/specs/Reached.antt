@@ -1,10 +1,10 @@
--- The rows that a portion reaches.
+-- Rows that overlap a portion.
 use Rattle.std.specs.Prelude.{Bool, ℕ, List, false, is_some, option_map, slice_get, unwrap_or}
 use Rattle.period_core.specs.Period.{meet}
 use Rattle.period_core.specs.declared.period.Period.{Period}
 use Rattle.row_core.specs.declared.draft.Draft.{Draft}
 
--- the row at a place shares an instant with the portion; past the last none does
+-- the row at an index overlaps the portion; false past the last
 abbrev pub is_reached : Period → List Draft → ℕ → Bool
 is_reached portion rows place =
     unwrap_or (option_map (λ (row : Draft). is_some (meet row.period portion)) (slice_get rows place)) false

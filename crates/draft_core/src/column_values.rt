@@ -15,7 +15,7 @@ use crate::texts::Texts;
 use row_core::{Failure, Kind, Text, Value, ValueRef, ValueRefused, read_number};
 use std::alloc::Global;
 
-/// The values of a column, one after another.
+/// The values of a column, one for each row.
 #[derive(Debug, Drop)]
 pub(crate) enum ColumnValues {
     Numbers(Vec<i64>),
@@ -23,7 +23,8 @@ pub(crate) enum ColumnValues {
 }
 
 impl ColumnValues {
-    /// No values yet, of that kind, with room for so many; the bytes of texts have none.
+    /// Returns an empty column of that kind, with capacity for `count` values. No capacity is reserved for the bytes of
+    /// texts.
     pub(crate) fn with_room(alloc: Global, kind: Kind, count: usize) -> Result<Self, NoMemory>
         ensures kind { IfOk result (λ column. kind_of_column column ≡ kind) }
         ensures values { IfOk result (λ column. values_of_column column ≡ []) }
@@ -34,7 +35,7 @@ impl ColumnValues {
         }
     }
 
-    /// Their kind.
+    /// Returns the kind of the values.
     pub(crate) fn kind(&self) -> Kind
         ensures { result ≡ kind_of_column self.now }
     {
@@ -44,7 +45,7 @@ impl ColumnValues {
         }
     }
 
-    /// The value at that place, from 0 on.
+    /// Returns the value at the given index.
     #[inline(always)]
     pub(crate) fn at(&self, place: usize) -> ValueRef<'_>
         requires { place < length (values_of_column self.now) }
@@ -56,7 +57,7 @@ impl ColumnValues {
         }
     }
 
-    /// A copy of the value at that place, from 0 on.
+    /// Returns a copy of the value at the given index.
     pub(crate) fn copy_at(&self, alloc: Global, place: usize) -> Result<Value, NoMemory>
         requires { place < length (values_of_column self.now) }
         ensures { IfOk result (λ value. slice_get (values_of_column self.now) place ≡ Some value) }
@@ -67,7 +68,7 @@ impl ColumnValues {
         }
     }
 
-    /// Leaves the first `count` values.
+    /// Keeps the first `count` values only.
     fn truncate(&mut self, count: usize)
         ensures kind { kind_of_column self.new ≡ kind_of_column self.old }
         ensures values { values_of_column self.new ≡ take count (values_of_column self.old) }
@@ -78,8 +79,7 @@ impl ColumnValues {
         }
     }
 
-    /// Adds a value of the kind after the first `count`, which alone are left of those that are
-    /// there. On refusal none is added.
+    /// Keeps the first `count` values only, and adds a value of the column's kind. If memory is refused, none is added.
     pub(crate) fn push(&mut self, count: usize, value: &Value) -> Result<(), NoMemory>
         requires { kind_of value.now ≡ kind_of_column self.old }
         ensures kind { kind_of_column self.new ≡ kind_of_column self.old }
@@ -97,8 +97,7 @@ impl ColumnValues {
         Ok(())
     }
 
-    /// Adds the value of the kind that the bytes write, after the first `count`, which alone are
-    /// left of those that are there. On refusal none is added.
+    /// Keeps the first `count` values only, and adds the value that the bytes denote. On an error none is added.
     pub(crate) fn read(&mut self, count: usize, bytes: &[u8]) -> Result<(), Failure<ValueRefused>>
         ensures kind { kind_of_column self.new ≡ kind_of_column self.old }
         ensures ok { OnOk result ((value : AnyValue)
@@ -117,8 +116,8 @@ impl ColumnValues {
         Ok(())
     }
 
-    /// Adds the first values of another column of the kind, `more_count` of them, after the first
-    /// `count` of these, which alone are left. On refusal none is added.
+    /// Keeps the first `count` values only, and adds the first `more_count` values of another column of the same kind.
+    /// If memory is refused, none is added.
     pub(crate) fn append(
         &mut self,
         count: usize,
@@ -145,7 +144,7 @@ impl ColumnValues {
         Ok(())
     }
 
-    /// Values equal to these.
+    /// Returns a copy of the column.
     pub(crate) fn copy(&self, alloc: Global) -> Result<ColumnValues, NoMemory>
         ensures kind { IfOk result (λ copy. kind_of_column copy ≡ kind_of_column self.now) }
         ensures values { IfOk result (λ copy. values_of_column copy ≡ values_of_column self.now) }
@@ -159,7 +158,7 @@ impl ColumnValues {
     }
 }
 
-/// Adds a number. On refusal there are none more.
+/// Adds a number. If memory is refused, the list is unchanged.
 fn push_number(numbers: &mut Vec<i64>, number: i64) -> Result<(), NoMemory>
     ensures ok { OnOk result (numbers.new.items ≡ numbers.old.items ++ number ∷ []) }
     ensures err { OnErr result (numbers.new.items ≡ numbers.old.items) }
@@ -168,7 +167,7 @@ fn push_number(numbers: &mut Vec<i64>, number: i64) -> Result<(), NoMemory>
     Ok(())
 }
 
-/// The number that the bytes write.
+/// Reads a number.
 fn number_of(bytes: &[u8]) -> Result<i64, Failure<ValueRefused>>
     ensures ok { IfOk result (λ number. value_of kind.Int bytes.now ≡ Ok (value.Int number)) }
     ensures err { IfErr result (λ failure. IsAnswer {T = AnyValue}
@@ -177,7 +176,7 @@ fn number_of(bytes: &[u8]) -> Result<i64, Failure<ValueRefused>>
     Ok(read_number(bytes)?)
 }
 
-/// The text of the bytes, lent.
+/// Returns the bytes as a text, without copying them.
 fn text_of(bytes: &[u8]) -> Result<&str, Failure<ValueRefused>>
     ensures ok { IfOk result (λ text. value_of kind.Text bytes.now ≡ Ok (value.Text text.now)) }
     ensures short { IfOk result (λ text. length text.now ≤ text_limit) }

@@ -1,4 +1,4 @@
-//! Rows of the same kinds of values, which lie by columns.
+//! Rows with the same kinds of values, stored by column.
 
 ghost use Rattle.std.specs.Prelude.{◌≡◌, ◌↔◌, ◌==◌, ◌<◌, ◌≤◌, ◌+◌, ◌++◌, ◌∷◌, [], ℕ, Some, drop, get_or, length, map, option_map, slice_get, All, IfErr, IfOk, IsTrue, List, OnErr, OnOk, Ok, Err};
 ghost use Rattle.std.specs.List.{list_all, list_any};
@@ -24,8 +24,8 @@ use row_core::{
 use std::alloc::Global;
 use std::marker::Model;
 
-/// Rows whose values lie by columns: each row has a value of the same kind in each. What a column
-/// has after the last row's value is no row's. Contracts see the kinds and the rows.
+/// Rows stored by column: in each column, every row has a value of the column's kind. A column may have values after
+/// the last row's; they belong to no row. Contracts see the kinds and the rows.
 #[derive(Debug, Drop)]
 pub(crate) struct Columns {
     periods: Vec<Period>,
@@ -47,7 +47,7 @@ impl Model for Columns {
 }
 
 impl Columns {
-    /// No rows, and no values in a row.
+    /// Returns an empty list of rows, without columns.
     pub(crate) fn empty(alloc: Global) -> Columns
         ensures { result ≡ record { kinds = []; rows = [] } }
     {
@@ -57,7 +57,7 @@ impl Columns {
         }
     }
 
-    /// No rows, whose values will be of these kinds, with room for so many.
+    /// Returns an empty list of rows, with columns of these kinds and capacity for `count` rows.
     pub(crate) fn with_room(
         alloc: Global,
         kinds: &[Kind],
@@ -73,43 +73,42 @@ impl Columns {
         Ok(Columns { periods, values })
     }
 
-    /// How many rows there are.
+    /// Returns the number of rows.
     pub(crate) fn len(&self) -> usize
         ensures { result ≡ length self.now.rows }
     {
         self.periods.len()
     }
 
-    /// Whether there are none.
+    /// Returns whether there are no rows.
     pub(crate) fn is_empty(&self) -> bool
         ensures { result ≡ (length self.now.rows == 0) }
     {
         self.len() == 0
     }
 
-    /// Whether the values are of the kinds.
+    /// Returns whether the values are of the columns' kinds.
     pub(crate) fn are_of(&self, values: &[Value]) -> bool
         ensures { IsTrue result ↔ (map kind_of values.now ≡ self.now.kinds) }
     {
         are_of(&self.values, values)
     }
 
-    /// Whether others are of the same kinds.
+    /// Returns whether the other rows have the same kinds.
     pub(crate) fn are_like(&self, other: &Columns) -> bool
         ensures { IsTrue result ↔ (other.now.kinds ≡ self.now.kinds) }
     {
         are_like(&self.values, &other.values)
     }
 
-    /// Whether each row has as many values as there are columns of a table, each of its column's
-    /// kind.
+    /// Returns whether each row has a value for each column of a table, of that column's kind.
     pub(crate) fn all_fit(&self, schema: &Schema) -> bool
         ensures { result ≡ list_all (λ d. fits schema.now d.values) self.now.rows }
     {
         self.is_empty() || kinds_fit(&self.values, schema.as_slice())
     }
 
-    /// How many values the row at that place has.
+    /// Returns the number of values of the row at the given index.
     pub(crate) fn width_at(&self, place: usize) -> usize
         requires { place < length self.now.rows }
         ensures { result ≡ length (get_or self.now.rows place no_draft).values }
@@ -117,7 +116,7 @@ impl Columns {
         self.values.len()
     }
 
-    /// When the row at that place holds.
+    /// Returns the period of the row at the given index.
     #[inline(always)]
     pub(crate) fn period_at(&self, place: usize) -> Period
         requires { place < length self.now.rows }
@@ -126,7 +125,7 @@ impl Columns {
         self.periods[place]
     }
 
-    /// Whether the portion shares an instant with a row at one of the places.
+    /// Returns whether the portion overlaps a row at one of the indexes.
     pub(crate) fn any_reached(&self, portion: &Period, places: &[u32]) -> bool
         requires { All (λ place. place < length self.now.rows) places.now }
         ensures { result ≡ list_any (is_reached portion.now self.now.rows) places.now }
@@ -134,7 +133,7 @@ impl Columns {
         any_met(&self.periods, portion, places)
     }
 
-    /// The value of the row at that place in a column; none past the last.
+    /// Returns the value of the row at the given index in a column, or `None` past the last column.
     #[inline(always)]
     pub(crate) fn value_at(&self, place: usize, column: usize) -> Option<ValueRef<'_>>
         requires { place < length self.now.rows }
@@ -147,7 +146,7 @@ impl Columns {
         }
     }
 
-    /// A copy of the value of the row at that place in a column; none past the last.
+    /// Returns a copy of the value of the row at the given index in a column, or `None` past the last column.
     pub(crate) fn copy_value_at(
         &self,
         alloc: Global,
@@ -164,7 +163,7 @@ impl Columns {
         }
     }
 
-    /// Copies of the values of the row at that place.
+    /// Returns copies of the values of the row at the given index.
     pub(crate) fn values_at(&self, alloc: Global, place: usize) -> Result<Vec<Value>, NoMemory>
         requires { place < length self.now.rows }
         ensures { IfOk result (λ values. values.items
@@ -173,7 +172,7 @@ impl Columns {
         copy_values(alloc, &self.values, place)
     }
 
-    /// Copies of all rows, each on its own.
+    /// Returns copies of all rows, each stored separately.
     pub(crate) fn drafts(&self, alloc: Global) -> Result<Vec<Draft>, NoMemory>
         ensures { IfOk result (λ drafts. drafts.items ≡ self.now.rows) }
     {
@@ -187,8 +186,8 @@ impl Columns {
         Ok(drafts)
     }
 
-    /// Adds a row of the period, with copies of the values, which are of the kinds. On refusal
-    /// there are none more.
+    /// Adds a row with the period and copies of the values, which must be of the columns' kinds. If memory is refused,
+    /// the rows are unchanged.
     pub(crate) fn push(&mut self, period: Period, values: &[Value]) -> Result<(), NoMemory>
         requires { map kind_of values.now ≡ self.old.kinds }
         ensures ok { OnOk result (self.new ≡ record self.old {
@@ -202,8 +201,7 @@ impl Columns {
         Ok(())
     }
 
-    /// Adds the row of the fields: two points, and one field for each column, which are of the
-    /// kinds.
+    /// Adds the row of the fields: two points, and one field for each column. The columns must have these kinds.
     pub(crate) fn read<L: Fields>(
         &mut self,
         columns: &[Column],
@@ -222,7 +220,7 @@ impl Columns {
         Ok(())
     }
 
-    /// Puts rows of the same kinds after these. On refusal there are none more.
+    /// Adds rows of the same kinds at the end. If memory is refused, the rows are unchanged.
     pub(crate) fn append(&mut self, more: Columns) -> Result<(), NoMemory>
         requires { more.kinds ≡ self.old.kinds }
         ensures ok { OnOk result (self.new
@@ -248,8 +246,8 @@ impl DeepCopy for Columns {
     }
 }
 
-/// Whether the portion shares an instant with a period at one of the places. This writes nothing
-/// and doesn't branch at a period, so that it takes the same short time wherever they lie.
+/// Returns whether the portion overlaps a period at one of the indexes. The loop writes nothing and has no branch that
+/// depends on a period, so its time doesn't depend on where the periods are.
 fn any_met(periods: &[Period], portion: &Period, places: &[u32]) -> bool
     requires { All (λ place. place < length periods.now) places.now }
     ensures { result ≡ list_any (is_met portion.now periods.now) places.now }
@@ -261,7 +259,7 @@ fn any_met(periods: &[Period], portion: &Period, places: &[u32]) -> bool
     any
 }
 
-/// Whether the values are of the columns' kinds.
+/// Returns whether the values are of the columns' kinds.
 fn are_of(columns: &[ColumnValues], values: &[Value]) -> bool
     ensures { IsTrue result ↔ (map kind_of values.now ≡ map kind_of_column columns.now) }
 {
@@ -276,7 +274,7 @@ fn are_of(columns: &[ColumnValues], values: &[Value]) -> bool
     true
 }
 
-/// Whether other columns are of the columns' kinds.
+/// Returns whether the other columns are of the same kinds.
 fn are_like(columns: &[ColumnValues], others: &[ColumnValues]) -> bool
     ensures { IsTrue result
         ↔ (map kind_of_column others.now ≡ map kind_of_column columns.now) }
@@ -292,7 +290,7 @@ fn are_like(columns: &[ColumnValues], others: &[ColumnValues]) -> bool
     true
 }
 
-/// Whether there are as many as a table has columns, each of the column's kind.
+/// Returns whether there is a column of values for each column of a table, of that column's kind.
 fn kinds_fit(values: &[ColumnValues], columns: &[Column]) -> bool
     ensures { result ≡ kinds_fit columns.now (map kind_of_column values.now) }
 {
@@ -307,7 +305,7 @@ fn kinds_fit(values: &[ColumnValues], columns: &[Column]) -> bool
     true
 }
 
-/// The column at that place; none past the last.
+/// Returns the column at index `column`, or `None` past the last.
 #[inline(always)]
 fn column_at(columns: &[ColumnValues], column: usize) -> Option<&ColumnValues>
     ensures { option_copied result ≡ slice_get columns.now column }
@@ -315,7 +313,7 @@ fn column_at(columns: &[ColumnValues], column: usize) -> Option<&ColumnValues>
     columns.get(column)
 }
 
-/// Copies of the values that the columns have at a place.
+/// Returns copies of the values at the given index of each column.
 fn copy_values(
     alloc: Global,
     columns: &[ColumnValues],
@@ -332,7 +330,7 @@ fn copy_values(
     Ok(values)
 }
 
-/// Columns equal to those.
+/// Returns copies of the columns.
 fn copy_columns(alloc: Global, columns: &[ColumnValues]) -> Result<Vec<ColumnValues>, NoMemory>
     ensures kinds { IfOk result (λ copy. map kind_of_column copy.items
         ≡ map kind_of_column columns.now) }
@@ -346,7 +344,7 @@ fn copy_columns(alloc: Global, columns: &[ColumnValues]) -> Result<Vec<ColumnVal
     Ok(copies)
 }
 
-/// Adds each column's value after its first `count`.
+/// Adds a value to each column, after its first `count` values.
 fn push_values(
     columns: &mut Vec<ColumnValues>,
     count: usize,
@@ -366,8 +364,8 @@ fn push_values(
     Ok(())
 }
 
-/// Adds the first values of other columns of the same kinds, so many of each, after the first
-/// `count` of these.
+/// Adds the first `more_count` values of each of the other columns, after the first `count` values of these. The kinds
+/// must be the same.
 fn append_values(
     columns: &mut Vec<ColumnValues>,
     count: usize,
@@ -392,8 +390,8 @@ fn append_values(
     Ok(())
 }
 
-/// The period of the row of the fields, whose values are added in their columns after the first
-/// `count`, up to the first that is refused anything.
+/// Reads the row of the fields: returns its period, and adds its values to the columns, after their first `count`
+/// values. Stops at the first field that is refused, or if memory is.
 fn read_onto<L: Fields>(
     values: &mut Vec<ColumnValues>,
     count: usize,
@@ -418,8 +416,8 @@ fn read_onto<L: Fields>(
     Ok(period)
 }
 
-/// Adds the value of each field after the two points to its column, after the first `count`, up to
-/// the first field that is refused anything.
+/// Adds the value of each field after the two points to its column, after the first `count` values. Stops at the first
+/// field that is refused, or if memory is.
 fn read_values<L: Fields>(
     values: &mut Vec<ColumnValues>,
     count: usize,

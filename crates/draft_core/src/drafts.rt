@@ -1,4 +1,4 @@
-//! Rows that are to be loaded.
+//! Lists of rows without ids.
 
 ghost use Rattle.std.specs.Prelude.{◌≡◌, ◌↔◌, ◌⊎◌, ◌<◌, ◌==◌, ◌++◌, ◌∷◌, [], get_or, length, map, option_map, slice_get, All, IfOk, IsNone, MatchOption, OnErr, OnOk, Some};
 ghost use Rattle.std.specs.List.{list_all, list_any};
@@ -19,15 +19,14 @@ use row_core::{Draft, Kind, Schema, Value, ValueRef, Values};
 use std::alloc::Global;
 use std::marker::Model;
 
-/// How drafts lie: by columns, as those of one table do; or each on its own, where some haven't
-/// values of the same kinds as the others.
+/// How drafts are stored: by column, like the rows of a table; or each separately, if their values differ in kind.
 #[derive(Debug, Drop)]
 pub(crate) enum Form {
     Alike(Columns),
     Apart(Vec<Draft>),
 }
 
-/// Rows that are to be loaded, in their order. Contracts see the list.
+/// Rows without ids, in order. Contracts see the list.
 #[derive(Debug, Drop)]
 pub struct Drafts {
     alloc: Global,
@@ -46,14 +45,14 @@ impl Model for Drafts {
 }
 
 impl Drafts {
-    /// The empty list, which takes no memory.
+    /// Returns the empty list, which allocates nothing.
     pub fn new(alloc: Global) -> Self
         ensures { result ≡ [] }
     {
         Drafts::of_columns(alloc, Columns::empty(alloc))
     }
 
-    /// The rows of those columns.
+    /// Returns the rows of the columns.
     pub(crate) fn of_columns(alloc: Global, columns: Columns) -> Self
         ensures { result ≡ columns.rows }
     {
@@ -63,7 +62,7 @@ impl Drafts {
         }
     }
 
-    /// How many there are.
+    /// Returns the number of drafts.
     pub fn len(&self) -> usize
         ensures { result ≡ length self.now }
     {
@@ -73,14 +72,14 @@ impl Drafts {
         }
     }
 
-    /// Whether there are none.
+    /// Returns whether the list is empty.
     pub fn is_empty(&self) -> bool
         ensures { result ≡ (length self.now == 0) }
     {
         self.len() == 0
     }
 
-    /// The draft at that place, from 0 on; none past the last.
+    /// Returns the draft at the given index, or `None` past the last.
     pub fn get(&self, place: usize) -> Option<DraftRef<'_>>
         ensures { option_map lent_draft result ≡ slice_get self.now place }
     {
@@ -91,7 +90,7 @@ impl Drafts {
         }
     }
 
-    /// The draft at that place, from 0 on.
+    /// Returns the draft at the given index.
     #[inline(always)]
     pub fn at(&self, place: usize) -> DraftRef<'_>
         requires { place < length self.now }
@@ -107,9 +106,8 @@ impl Drafts {
     ///
     /// # Errors
     ///
-    /// `NoMemory` where a growth is refused, or where the texts of a column would have 2^32 bytes
-    /// or more, which those of 1,000,000 rows never have. Then there are none more, and the draft
-    /// is dropped.
+    /// `NoMemory` if an allocation is refused, or if the texts of a column would have 2^32 bytes or more. The texts of
+    /// 1,000,000 rows never have this many. The list is then unchanged, and the draft is dropped.
     pub fn push(&mut self, draft: Draft) -> Result<(), NoMemory>
         ensures ok { OnOk result (self.new ≡ self.old ++ draft ∷ []) }
         ensures err { OnErr result (self.new ≡ self.old) }
@@ -117,11 +115,11 @@ impl Drafts {
         self.push_row(draft.period, draft.values.as_slice())
     }
 
-    /// Adds a draft of the period, with copies of the values, at the end.
+    /// Adds a draft with the period and copies of the values at the end.
     ///
     /// # Errors
     ///
-    /// `NoMemory` as of `push`: there are none more.
+    /// `NoMemory` in the same cases as `push`; the list is then unchanged.
     pub fn push_row(&mut self, period: Period, values: &[Value]) -> Result<(), NoMemory>
         ensures ok { OnOk result
             (self.new ≡ self.old ++ record { period = period; values = values.now } ∷ []) }
@@ -130,11 +128,11 @@ impl Drafts {
         push_row(self.alloc, &mut self.form, period, values)
     }
 
-    /// Puts more drafts after these.
+    /// Adds drafts at the end.
     ///
     /// # Errors
     ///
-    /// `NoMemory` as of `push`: there are none more.
+    /// `NoMemory` in the same cases as `push`; the list is then unchanged.
     pub fn append(&mut self, more: Drafts) -> Result<(), NoMemory>
         ensures ok { OnOk result (self.new ≡ self.old ++ more) }
         ensures err { OnErr result (self.new ≡ self.old) }
@@ -142,7 +140,7 @@ impl Drafts {
         append(self.alloc, &mut self.form, more.form)
     }
 
-    /// Whether each draft has as many values as there are columns, each of its column's kind.
+    /// Returns whether each draft has a value for each column, of that column's kind.
     pub fn all_fit(&self, schema: &Schema) -> bool
         ensures { result ≡ list_all (λ d. fits schema.now d.values) self.now }
     {
@@ -152,8 +150,8 @@ impl Drafts {
         }
     }
 
-    /// Whether the portion shares an instant with a draft at one of the places. Of drafts that lie
-    /// by columns it reads the periods alone.
+    /// Returns whether the portion overlaps a draft at one of the indexes. If drafts are stored by column, this reads
+    /// their periods only.
     pub fn any_reached(&self, portion: &Period, places: &[u32]) -> bool
         requires { All (λ place. place < length self.now) places.now }
         ensures { result ≡ list_any (is_reached portion.now self.now) places.now }
@@ -164,7 +162,7 @@ impl Drafts {
         }
     }
 
-    /// When the draft at that place holds.
+    /// Returns the period of the draft at the given index.
     #[inline(always)]
     pub(crate) fn period_at(&self, place: usize) -> Period
         requires { place < length self.now }
@@ -176,7 +174,7 @@ impl Drafts {
         }
     }
 
-    /// How many values the draft at that place has.
+    /// Returns the number of values of the draft at the given index.
     pub(crate) fn width_at(&self, place: usize) -> usize
         requires { place < length self.now }
         ensures { result ≡ length (get_or self.now place no_draft).values }
@@ -187,7 +185,7 @@ impl Drafts {
         }
     }
 
-    /// The value of the draft at that place in a column; none past the last.
+    /// Returns the value of the draft at the given index in a column, or `None` past the last column.
     #[inline(always)]
     pub(crate) fn value_at(&self, place: usize, column: usize) -> Option<ValueRef<'_>>
         requires { place < length self.now }
@@ -200,7 +198,7 @@ impl Drafts {
         }
     }
 
-    /// A copy of the value of the draft at that place in a column; none past the last.
+    /// Returns a copy of the value of the draft at the given index in a column, or `None` past the last column.
     pub(crate) fn copy_value_at(
         &self,
         alloc: Global,
@@ -217,7 +215,7 @@ impl Drafts {
         }
     }
 
-    /// Copies of the values of the draft at that place.
+    /// Returns copies of the values of the draft at the given index.
     pub(crate) fn values_at(&self, alloc: Global, place: usize) -> Result<Vec<Value>, NoMemory>
         requires { place < length self.now }
         ensures { IfOk result (λ values. values.items ≡ (get_or self.now place no_draft).values) }
@@ -236,7 +234,7 @@ impl DeepCopy for Drafts {
     }
 }
 
-/// Rows equal to those, which lie as they do.
+/// Returns a copy of the rows, stored in the same way.
 fn copy_form(alloc: Global, form: &Form) -> Result<Form, NoMemory>
     ensures rows { IfOk result (λ copy. drafts_in copy ≡ drafts_in form.now) }
     ensures alike { IfOk result (λ copy. AreAlike copy ↔ AreAlike form.now) }
@@ -247,7 +245,7 @@ fn copy_form(alloc: Global, form: &Form) -> Result<Form, NoMemory>
     }
 }
 
-/// Whether the portion shares an instant with a draft at one of the places.
+/// Returns whether the portion overlaps a draft at one of the indexes.
 fn any_reached(drafts: &[Draft], portion: &Period, places: &[u32]) -> bool
     requires { All (λ place. place < length drafts.now) places.now }
     ensures { result ≡ list_any (is_reached portion.now drafts.now) places.now }
@@ -259,7 +257,7 @@ fn any_reached(drafts: &[Draft], portion: &Period, places: &[u32]) -> bool
     any
 }
 
-/// The value of the draft at that place in a column; none past the last.
+/// Returns the value of the draft at the given index in a column, or `None` past the last column.
 fn value_apart(drafts: &[Draft], place: usize, column: usize) -> Option<ValueRef<'_>>
     requires { place < length drafts.now }
     ensures { option_map lent_value result
@@ -271,7 +269,7 @@ fn value_apart(drafts: &[Draft], place: usize, column: usize) -> Option<ValueRef
     }
 }
 
-/// A copy of the value at that place; none past the last.
+/// Returns a copy of the value at the given index, or `None` past the last.
 fn copy_value(alloc: Global, values: &Values, place: usize) -> Result<Option<Value>, NoMemory>
     ensures { IfOk result (λ value. value ≡ slice_get values.now place) }
 {
@@ -281,14 +279,14 @@ fn copy_value(alloc: Global, values: &Values, place: usize) -> Result<Option<Val
     }
 }
 
-/// Whether each draft has as many values as there are columns, each of its column's kind.
+/// Returns whether each draft has a value for each column, of that column's kind.
 fn all_fit(drafts: &[Draft], schema: &Schema) -> bool
     ensures { result ≡ list_all (λ d. fits schema.now d.values) drafts.now }
 {
     drafts.iter().all(|draft| schema.fits(&draft.values))
 }
 
-/// Adds a draft of the period, with copies of the values. On refusal there are none more.
+/// Adds a draft with the period and copies of the values. If memory is refused, the list is unchanged.
 fn push_row(
     alloc: Global,
     form: &mut Form,
@@ -310,7 +308,7 @@ fn push_row(
     Ok(())
 }
 
-/// Adds a draft, with copies of the values, to those that lie each on its own.
+/// Adds a draft with copies of the values to drafts that are stored separately.
 fn push_apart(
     alloc: Global,
     drafts: &mut Vec<Draft>,
@@ -326,8 +324,8 @@ fn push_apart(
     Ok(())
 }
 
-/// Adds a draft, with copies of the values, to columns of their kinds; where the columns are of
-/// others, it is answered with all drafts, each on its own. The first draft sets the kinds.
+/// Adds a draft with copies of the values to the columns, if they are of its kinds. Otherwise returns all drafts, each
+/// stored separately. The first draft determines the kinds.
 fn push_alike(
     alloc: Global,
     columns: &mut Columns,
@@ -355,7 +353,7 @@ fn push_alike(
     Ok(Some(drafts))
 }
 
-/// The kinds of the values.
+/// Returns the kinds of the values.
 fn kinds_of(alloc: Global, values: &[Value]) -> Result<Vec<Kind>, NoMemory>
     ensures { IfOk result (λ kinds. kinds.items ≡ map kind_of values.now) }
 {
@@ -366,7 +364,7 @@ fn kinds_of(alloc: Global, values: &[Value]) -> Result<Vec<Kind>, NoMemory>
     Ok(kinds)
 }
 
-/// Puts more drafts after those. On refusal there are none more.
+/// Adds drafts at the end. If memory is refused, the list is unchanged.
 fn append(alloc: Global, form: &mut Form, more: Form) -> Result<(), NoMemory>
     ensures ok { OnOk result (drafts_in form.new ≡ drafts_in form.old ++ drafts_in more) }
     ensures alike { OnOk result (AreAlike form.new ↔ TakesRows form.old more) }
@@ -382,7 +380,7 @@ fn append(alloc: Global, form: &mut Form, more: Form) -> Result<(), NoMemory>
     Ok(())
 }
 
-/// Puts more drafts after those that lie each on its own.
+/// Adds drafts to drafts that are stored separately.
 fn append_apart(alloc: Global, drafts: &mut Vec<Draft>, more: Form) -> Result<(), NoMemory>
     ensures ok { OnOk result (drafts.new.items ≡ drafts.old.items ++ drafts_in more) }
     ensures err { OnErr result (drafts.new.items ≡ drafts.old.items) }
@@ -395,8 +393,7 @@ fn append_apart(alloc: Global, drafts: &mut Vec<Draft>, more: Form) -> Result<()
     Ok(())
 }
 
-/// Puts more drafts after those in columns; where they are of other kinds, all are answered, each
-/// on its own.
+/// Adds drafts to the columns. If they are of other kinds, returns all drafts, each stored separately.
 fn append_alike(
     alloc: Global,
     columns: &mut Columns,
@@ -414,8 +411,7 @@ fn append_alike(
     }
 }
 
-/// Puts the rows of more columns after those; where they are of other kinds, all are answered, each
-/// on its own.
+/// Adds the rows of other columns to these. If they are of other kinds, returns all drafts, each stored separately.
 fn append_columns(
     alloc: Global,
     columns: &mut Columns,
@@ -442,7 +438,7 @@ fn append_columns(
     Ok(Some(both(columns.drafts(alloc)?, more.drafts(alloc)?)?))
 }
 
-/// These drafts, and more after them.
+/// Concatenates the two lists.
 fn both(drafts: Vec<Draft>, more: Vec<Draft>) -> Result<Vec<Draft>, NoMemory>
     ensures { IfOk result (λ all. all.items ≡ drafts.items ++ more.items) }
 {

@@ -1,7 +1,7 @@
 #![tactic(auto)]
 
-//! Rows that are to be loaded, and those that a table keeps: they lie by columns, and are read from
-//! bytes straight into these.
+//! Rows without ids: those to be loaded, and those of a table. They are stored by column, and are read from bytes
+//! directly into the columns.
 
 mod column_values;
 mod columns;

@@ -1,4 +1,4 @@
-//! Rows that are read one after another, straight into columns.
+//! Reading rows directly into columns.
 
 ghost use Rattle.std.specs.Prelude.{◌≡◌, ◌<◌, ◌++◌, ◌∷◌, [], length, map, IfErr, OnOk, Ok, Err};
 ghost use Rattle.row_core.specs.Reading.{row_of};
@@ -11,13 +11,12 @@ use row_core::{Failure, Fields, RowRefused, Schema};
 use std::alloc::Global;
 use std::marker::Model;
 
-/// Reads rows of a table's columns, one after another. Contracts see the columns, and the rows so
-/// far.
+/// Reads rows of a table one by one. Contracts see the table's columns, and the rows read.
 #[derive(Drop)]
 pub struct RowReader<'a> {
     alloc: Global,
     schema: &'a Schema,
-    /// How many rows the first one makes room for.
+    /// The capacity in rows that the first row reserves.
     room: usize,
     rows: Columns,
 }
@@ -30,13 +29,13 @@ impl<'a> Model for RowReader<'a> {
 
     ghost view = { λ r. record { columns = r.schema.now; rows = r.rows.rows } };
 
-    // The first row makes the columns.
+    // The first row creates the columns.
     ghost invariant = { λ r. 0 < length r.rows.rows
         → map (λ column. column.kind) r.schema.now ≡ r.rows.kinds };
 }
 
 impl<'a> RowReader<'a> {
-    /// No row yet, of these columns. The first one makes room for so many.
+    /// Returns a reader that has read no rows. The first row reserves capacity for `room` rows.
     pub fn new(alloc: Global, schema: &'a Schema, room: usize) -> Self
         ensures { result ≡ record { columns = schema.entry.now; rows = [] } }
     {
@@ -48,9 +47,12 @@ impl<'a> RowReader<'a> {
         }
     }
 
-    /// Reads one more row: two points, and one field for each column. Want of memory is answered
-    /// only where no field is refused; so are texts of a column that would have 2^32 bytes or more,
-    /// which those of 1,000,000 rows never have.
+    /// Reads one row more: two points, and one field for each column.
+    ///
+    /// # Errors
+    ///
+    /// The first refusal of a field. If no field is refused, `NoMemory` if an allocation is refused, or if the texts of
+    /// a column would have 2^32 bytes or more. The texts of 1,000,000 rows never have this many.
     pub fn read<L: Fields>(self, fields: L) -> Result<Self, Failure<RowRefused>>
         ensures { IsAnswer
             (map_ok (λ row. record self.entry { rows = self.entry.rows ++ row ∷ [] })
@@ -77,7 +79,7 @@ impl<'a> RowReader<'a> {
         }
     }
 
-    /// The rows.
+    /// Returns the rows.
     pub fn into_rows(self) -> Drafts
         ensures { result ≡ self.entry.rows }
     {
@@ -85,8 +87,8 @@ impl<'a> RowReader<'a> {
     }
 }
 
-/// Adds the row of the fields, up to the first that is refused anything. The first row makes room for
-/// so many.
+/// Adds the row of the fields. Stops at the first field that is refused, or if memory is. The first row reserves
+/// capacity for `room` rows.
 fn add_row<L: Fields>(
     alloc: Global,
     schema: &Schema,

@@ -1,4 +1,4 @@
-//! Texts that lie one after another.
+//! Texts stored one after another.
 
 ghost use Rattle.std.specs.Prelude.{◌≡◌, ◌<◌, ◌≤◌, ◌+◌, ◌^◌, ◌++◌, ◌∷◌, [], All, length, map, slice_get, take, IfOk, OnErr, OnOk, Some};
 ghost use Rattle.row_core.specs.Limits.{text_limit};
@@ -9,9 +9,9 @@ use std::alloc::{AllocError, Global};
 use std::fmt;
 use std::marker::Model;
 
-/// Texts one after another: the bytes of all, and where each ends among them. A table has so few
-/// texts, and these are so short, that 32 bits hold such a place; rows that no table may take can
-/// have more. Contracts see the list of the texts.
+/// Texts stored one after another: the bytes of all, and the index where each ends. 32 bits are enough for such an
+/// index, since a table has few enough rows and a text few enough bytes; only rows that no table accepts can need more.
+/// Contracts see the list of the texts.
 #[derive(Drop)]
 pub(crate) struct Texts {
     bytes: Vec<u8>,
@@ -32,7 +32,7 @@ impl Model for Texts {
 }
 
 impl Texts {
-    /// No texts, with room for the ends of so many.
+    /// Returns an empty list of texts, with capacity for the ends of `count` texts.
     pub(crate) fn with_room(alloc: Global, count: usize) -> Result<Self, NoMemory>
         ensures { IfOk result (λ texts. texts ≡ []) }
     {
@@ -42,25 +42,25 @@ impl Texts {
         })
     }
 
-    /// How many there are.
+    /// Returns the number of texts.
     pub(crate) fn len(&self) -> usize
         ensures { result ≡ length self.now }
     {
         self.ends.len()
     }
 
-    /// The text at that place, from 0 on.
+    /// Returns the text at the given index.
     #[inline(always)]
     pub(crate) fn at(&self, place: usize) -> &str
         requires { place < length self.now }
         ensures text { slice_get self.now place ≡ Some result.now }
         ensures short { length result.now ≤ text_limit }
     {
-        // Each text was UTF-8 when it was added: no read tests its bytes again.
+        // Each text was UTF-8 when it was added, so its bytes aren't tested again.
         unsafe { str::from_utf8_unchecked(part_at(&self.bytes, &self.ends, place)) }
     }
 
-    /// Adds a text. On refusal there are none more; refused is also what 32 bits can't count.
+    /// Adds a text. If memory is refused, or the bytes are too many for 32 bits, the texts are unchanged.
     pub(crate) fn push(&mut self, text: &str) -> Result<(), NoMemory>
         requires { length text.now ≤ text_limit }
         ensures ok { OnOk result (self.new ≡ self.old ++ text.now ∷ []) }
@@ -75,7 +75,7 @@ impl Texts {
         Ok(())
     }
 
-    /// Leaves the first `count` texts.
+    /// Keeps the first `count` texts only.
     pub(crate) fn truncate(&mut self, count: usize)
         ensures { self.new ≡ take count self.old }
     {
@@ -85,7 +85,7 @@ impl Texts {
         }
     }
 
-    /// Adds more texts, which are copied. On refusal there are none more.
+    /// Adds copies of more texts. If memory is refused, the texts are unchanged.
     pub(crate) fn append(&mut self, more: &Texts) -> Result<(), NoMemory>
         ensures ok { OnOk result (self.new ≡ self.old ++ more.now) }
         ensures err { OnErr result (self.new ≡ self.old) }
@@ -100,7 +100,7 @@ impl Texts {
         Ok(())
     }
 
-    /// Texts equal to these.
+    /// Returns a copy of the texts.
     pub(crate) fn copy(&self, alloc: Global) -> Result<Texts, NoMemory>
         ensures { IfOk result (λ texts. texts ≡ self.now) }
     {
@@ -111,7 +111,7 @@ impl Texts {
     }
 }
 
-/// The texts as a list is shown.
+/// Formats the texts like a list.
 impl fmt::Debug for Texts {
     fn fmt<W: fmt::Write>(&self, f: &mut fmt::Formatter<W>) -> fmt::Result {
         let mut list = f.debug_list();
@@ -122,11 +122,11 @@ impl fmt::Debug for Texts {
     }
 }
 
-/// The place so many bytes after those.
+/// Returns the index `more` bytes after the end.
 ///
 /// # Errors
 ///
-/// `NoMemory` where 32 bits don't hold it.
+/// `NoMemory` if it doesn't fit 32 bits.
 fn place_behind(bytes: &[u8], more: usize) -> Result<u32, NoMemory>
     ensures { IfOk result (λ place. place ≡ length bytes.now + more) }
 {
@@ -136,7 +136,7 @@ fn place_behind(bytes: &[u8], more: usize) -> Result<u32, NoMemory>
     }
 }
 
-/// Adds where texts end that come after so many bytes. On refusal there are none more.
+/// Adds the ends of texts whose bytes begin at index `start`. If memory is refused, the ends are unchanged.
 fn push_ends(ends: &mut Vec<u32>, start: usize, more: &[u32]) -> Result<(), NoMemory>
     requires { All (λ end. start + end < 2 ^ 32) more.now }
     ensures ok { OnOk result (ends.new.items

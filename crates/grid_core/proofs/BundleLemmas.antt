@@ -1,4 +1,4 @@
--- Items by class, parted behind a class.
+-- Items by class, split at a class.
 use Rattle.std.proofs.Common.{◌≡◌, ℕ, ◌+◌, ◌-◌, ◌<◌, ◌≤◌, All, List, [], ◌∷◌, ◌++◌, length, take, drop, get_or, true, false, leb, leb-true, ltb, sym, subst, ap, None, Some, ◌∙◌, refl, arith, length-append}
 use Rattle.std.specs.Prelude.{slice_get}
 use Rattle.std.specs.List.Sorted.{IsPartitionPoint}
@@ -11,7 +11,7 @@ use Rattle.dip_core.specs.Item.{HasDistinctIds}
 use Rattle.dip_core.proofs.PartedLemmas.{distinct-earlier, distinct-later}
 use Rattle.grid_core.specs.Bundles.{AreFromClass, ArePartedAt, ClassesRise}
 
--- those before and behind the place from which a test for higher classes fails
+-- the items before and after the partition point of a test for classes up to `class`
 pub parted-from_point : (class : ℕ) (items low high : List Item) (n : ℕ) → n ≤ length items
     → IsPartitionPoint (λ y. leb y.class class ≡ true) (λ y. leb y.class class ≡ false) items n → low ≡ take n items
     → high ≡ drop n items → ArePartedAt (class + 1) items low high
@@ -29,7 +29,7 @@ parted-from_point class items low high n inside point front back = rw (front, ba
       subst (λ (x : Item). class + 1 ≤ x.class) (sym (get_or-drop n items k d)) (omega (arith, above));
 })
 
--- those from the place on from which a test for lower classes fails
+-- the items from the partition point of a test for lower classes on
 pub from-point : (class : ℕ) (items : List Item) (n : ℕ) → n ≤ length items
     → IsPartitionPoint (λ y. ltb y.class class ≡ true) (λ y. ltb y.class class ≡ false) items n
     → AreFromClass class items (take (length items - n) (drop n items))
@@ -48,7 +48,7 @@ from-point class items n inside point =
           (ltb-false (get_or items (n + k) d).class class (point.1 (n + k) d (omega arith) within));
     })
 
--- where there is no first item there is none
+-- a list without a first item is empty
 pub none_first : (items : List Item) → None ≡ slice_get items 0 → items ≡ []
 none_first [] e = refl
 none_first (y ∷ items) e = absurd cc
@@ -62,33 +62,33 @@ first_lowest (y ∷ items) first e rise = λ k d h.
     subst (λ (x : Item). x.class ≤ (get_or (y ∷ items) k d).class) (sym same) (rise 0 k d (omega arith) h))
 
 module _ (class : ℕ) (items high : List Item) (are : AreFromClass class items high) where
-  -- those of higher classes are no more than all
+  -- there are at most as many items of higher classes as all items
   pub from-few : length high ≤ length items
   from-few =
       let whole : length items ≡ length (are.low ++ high) = ap length are.whole in
       omega (arith, whole, length-append are.low high)
 
-  -- and their classes still rise
+  -- and their classes are still in ascending order
   pub from-rise : ClassesRise items → ClassesRise high
   from-rise rise =
       subst ClassesRise (ap (drop (length are.low)) are.whole ∙ drop-append_seam are.low high)
       (IsNonDecreasingBy-drop (λ (x : Item). x.class) (length are.low) items rise)
 
 module _ (class : ℕ) (items low high : List Item) (parted : ArePartedAt class items low high) where
-  -- ids that are distinct in all are so in each
+  -- ids that are distinct in the whole list are distinct in each half
   pub low-distinct : HasDistinctIds items → HasDistinctIds low
   low-distinct distinct = distinct-earlier low high (subst HasDistinctIds parted.whole distinct)
 
   pub high-distinct : HasDistinctIds items → HasDistinctIds high
   high-distinct distinct = distinct-later low high (subst HasDistinctIds parted.whole distinct)
 
-  -- those of higher classes are no more than all
+  -- there are at most as many items of higher classes as all items
   pub high-few : length high ≤ length items
   high-few =
       let whole : length items ≡ length (low ++ high) = ap length parted.whole in
       omega (arith, whole, length-append low high)
 
-  -- and their classes still rise
+  -- and their classes are still in ascending order
   pub high-rise : ClassesRise items → ClassesRise high
   high-rise rise =
       subst ClassesRise (ap (drop (length low)) parted.whole ∙ drop-append_seam low high)

@@ -1,4 +1,4 @@
--- Items of a range's classes.
+-- The items of a range's classes.
 use Rattle.std.proofs.Common.{arith, ◌≡◌, ◌∙◌, ℕ, suc, ◌+◌, ◌<◌, ◌≤◌, Bool, true, false, not, ◌&&◌, List, [], ◌∷◌, ◌++◌, Option, Some, None, refl, sym, ap, subst, filter, cond, All, length, slice_index_or, get_or, count_by, ◌==◌, ltb, ltb-true, take, drop}
 use Rattle.std.specs.Ordering.{nat_cmp}
 use Rattle.std.specs.List.Sorted.{IsPartitionPoint}
@@ -17,13 +17,13 @@ use Rattle.share_core.proofs.NumberLemmas.{from_is}
 use Rattle.share_core.proofs.RangeLemmas.{filter_parted, high_has, low_has}
 use Rattle.grid_core.specs.Bundles.{AreFromClass, ArePartedAt, ClassesRise, items_in}
 
--- a test that all pass leaves all
+-- a test that all elements pass keeps all
 pub filter_all : {X : Type 0} (p : X → Bool) (xs : List X) → All (λ x. p x ≡ true) xs → filter p xs ≡ xs
 filter_all p [] each = refl
 filter_all p (x ∷ xs) each =
     rw (each 0 x (omega arith)) (ap (λ ys. x ∷ ys) (filter_all p xs (λ k d within. each (suc k) d (omega (arith, within)))))
 
--- one that none passes leaves none
+-- a test that no element passes keeps none
 pub filter_none : {X : Type 0} (p : X → Bool) (xs : List X) → All (λ x. p x ≡ false) xs → filter p xs ≡ []
 filter_none p [] each = refl
 filter_none p (x ∷ xs) each =
@@ -42,7 +42,7 @@ filter_both {X} p q (x ∷ xs) =
     both_kept (q x) (p x) x (filter q xs) p refl
     ∙ ap (λ (ys : List X). cond (q x && p x) (x ∷ ys) ys) (filter_both p q xs)
 
--- tests that are equal everywhere leave the same
+-- equal tests keep the same elements
 filter_same : {X : Type 0} (p q : X → Bool) (xs : List X) → ((x : X) → p x ≡ q x) → filter p xs ≡ filter q xs
 filter_same p q [] same = refl
 filter_same {X} p q (x ∷ xs) same = rw (same x) (ap (λ (ys : List X). cond (q x) (x ∷ ys) ys) (filter_same p q xs same))
@@ -62,7 +62,7 @@ from_filter class items high are =
     (λ k d within. let from = are.from k d within in
     let is = from_is class (slice_index_or high k d).class in grind (arith, nat_tests, from, is)))))
 
--- those before the place from which a test for lower classes fails
+-- the items before the partition point of a test for lower classes
 pub before_filter : (class : ℕ) (items : List Item) (n : ℕ) → n ≤ length items
     → IsPartitionPoint (λ y. ltb y.class class ≡ true) (λ y. ltb y.class class ≡ false) items n
     → take n items ≡ filter (λ (x : Item). not (has_ended nat_cmp (Some class) x.class)) items
@@ -83,7 +83,7 @@ before_filter class items n inside point =
     let is = from_is class (get_or items (n + k) d).class in grind (arith, nat_tests, from, is))))
     ∙ append-nil (take n items)))))
 
--- of what passes another test too there is no more
+-- a second test keeps no more elements
 kept_fewer : {X : Type 0} (a b : Bool) (x : X) (ys zs : List X) → length ys ≤ length zs
     → length (cond (a && b) (x ∷ ys) ys) ≤ length (cond b (x ∷ zs) zs)
 kept_fewer true true x ys zs fewer = omega (arith, fewer)
@@ -102,23 +102,23 @@ count_by-filter {X} p q xs =
     omega (arith, length-filter p (filter q xs), length-filter p xs, same, both_fewer p q xs)
 
 module _ (r : Range ℕ) (items : List Item) where
-  -- they are no more than all
+  -- their number is at most the number of all items
   pub in-few : length (items_in r items) ≤ length items
   in-few =
       let test : Item → Bool = λ x. has nat_cmp r x.class in
       omega (arith, length-filter test items, count_by-le-length test items)
 
-  -- their classes still rise
+  -- their classes are still in ascending order
   pub in-rise : ClassesRise items → ClassesRise (items_in r items)
   in-rise rise = IsNonDecreasingBy-filter (λ (x : Item). x.class) (λ (x : Item). has nat_cmp r x.class) items rise
 
-  -- and ids that are distinct in all are so among them
+  -- and their ids are distinct if all ids are
   pub in-distinct : HasDistinctIds items → HasDistinctIds (items_in r items)
   in-distinct distinct = λ i.
       (let fewer = count_by-filter (λ (x : Item). x.id == i) (λ (x : Item). has nat_cmp r x.class) items in
       let one = distinct i in omega (arith, fewer, one))
 
--- up to a class stand lower ones
+-- items in a range that ends before a class have lower classes
 pub in-below : (from : Option ℕ) (at : ℕ) (items : List Item)
     → All (λ (x : Item). x.class < at) (items_in (range from (Some at)) items)
 in-below from at items k d h =
@@ -129,7 +129,7 @@ in-below from at items k d h =
     let both = low_has nat_cmp nat_cmp_total from at x.class in
     grind (arith, nat_tests, passes, is, both)
 
--- and from it on the others
+-- and items in a range that begins at a class have that class or higher ones
 pub in-from : (at : ℕ) (items : List Item) → All (λ (x : Item). at ≤ x.class) (items_in (range (Some at) None) items)
 in-from at items k d h =
     let high : Item → Bool = λ x. has nat_cmp (range (Some at) None) x.class in
@@ -139,7 +139,7 @@ in-from at items k d h =
     let both = high_has nat_cmp nat_cmp_total None at x.class refl in
     grind (arith, nat_tests, passes, is, both)
 
--- a range without an end, cut at a class that it has begun at
+-- a range without an end, split at a class within it
 pub in-parted : (from : Option ℕ) (at : ℕ) (items : List Item) → ClassesRise items → has_begun nat_cmp from at ≡ true
     → ArePartedAt at (items_in (range from None) items) (items_in (range from (Some at)) items)
     (items_in (range (Some at) None) items)

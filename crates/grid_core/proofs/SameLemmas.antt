@@ -1,4 +1,4 @@
--- `==` of items decides whether they are one.
+-- `==` decides equality of items.
 use Rattle.std.proofs.Common.{◌≡◌, List, Bool, ap}
 use Rattle.std.specs.Bool.{Decides}
 use Rattle.std.proofs.lemmas.Bool.Decides.{Decides-eqb, Decides-int_eq, Decides-and, Decides-like}
@@ -9,7 +9,7 @@ use Rattle.dip_core.specs.declared.item.Item.{Item}
 use Rattle.dip_core.specs.contracts.item.ItemPartialEq.TheImpl.{eq-value}
 use Rattle.dip_core.proofs.PartedLemmas.{Item-same}
 
--- `==` of two items decides whether they are one
+-- `==` decides whether two items are equal
 pub item_eq-Decides : (a b : Item) → Decides (eq-value.it a b) (a ≡ b)
 item_eq-Decides a b = Decides-like _
     (λ h. Item-same a b (Period-same a.period b.period h.0.0 h.0.1) h.1.0 h.1.1.0 h.1.1.1)
@@ -22,6 +22,6 @@ item_eq-Decides a b = Decides-like _
     (Decides-and _ _ (Decides-eqb a.id b.id)
     (Decides-and _ _ (Decides-eqb a.class b.class) (Decides-int_eq a.amount b.amount))))
 
--- so does that of two lists of items
+-- `==` decides whether two lists of items are equal
 pub items_eq-Decides : (xs ys : List Item) (r : Bool) → r ≡ pointwise eq-value.it xs ys → Decides r (xs ≡ ys)
 items_eq-Decides xs ys r e = slice_eq-Decides item_eq-Decides xs ys r e

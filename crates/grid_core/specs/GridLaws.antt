@@ -1,4 +1,4 @@
--- Laws of the numbers of pairs, for the jobs whose pairs they number.
+-- Laws on the numbers of pairs, for jobs whose pairs are numbered so.
 use Rattle.std.specs.Prelude.{◌≡◌, ℕ, ◌+◌, ◌*◌, ◌/◌, ◌%◌, ◌<◌, ◌≤◌, Bool, true, Option, Some, None, if◌then◌else◌, ◌&&◌, nat_lt, refl}
 use Rattle.std.proofs.Common.{arith, zero, suc, ap, sym, subst, ◌∙◌, mul-le-mul_right}
 use Rattle.std.proofs.lemmas.Bool.{and_parts, lt-ltb, ltb-true}
@@ -11,7 +11,7 @@ use Rattle.work_core.specs.Limits.{pair_limit}
 use Rattle.work_core.specs.declared.name.PairName.{PairName}
 use Rattle.grid_core.specs.Grid.{grid_name, grid_place}
 
--- what is given where two tests hold
+-- the value if both tests hold
 both_tests : (a b : Bool) (x : Option ℕ) → a ≡ true → b ≡ true → (if a && b then x else None) ≡ x
 both_tests a b x p q = rw (p, q) refl
 
@@ -45,6 +45,6 @@ few_pairs m n a b =
     let h : m * n ≤ item_limit * n = mul-le-mul_right n a in
     omega (arith, h)
 
--- that something holds is not held in two ways
+-- a truncated fact is a proposition
 pub squashed_prop : (A : Type 0) → IsProp ∥ A ∥₁
 squashed_prop A = squash₁

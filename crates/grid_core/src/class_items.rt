@@ -1,5 +1,6 @@
-//! Items by class, a bundle at a time: all items of some classes. Items of other classes don't match them, so the parts
-//! of a bundle are paired with each other alone. They are few, since few of its items hold at once.
+//! Items by class, one bundle at a time. A bundle is all items of some consecutive classes. Items of other classes
+//! don't match them, so only parts of the same bundle are paired. A bundle of several classes has few items, and so
+//! few parts.
 
 ghost use Rattle.std.specs.Prelude.{◌≡◌, ◌+◌, ◌<◌, ◌≤◌, not, length, filter, IfOk, IsPermutation};
 ghost use Rattle.std.specs.Ordering.{nat_cmp};
@@ -16,11 +17,11 @@ use std::alloc::Global;
 use std::thread::Threads;
 use work_core::Crew;
 
-/// So many items of a side are enough for a bundle of several classes. Bundles of fewer would take longer to begin than
-/// to answer, and of more many pairs of parts would share no class.
+/// The most items per side in a bundle of several classes. Smaller bundles would take longer to set up than to answer;
+/// in larger ones many pairs of parts would share no class.
 const BUNDLE_ITEMS: usize = 16;
 
-/// Puts the items by class, on threads where they are many and there are several workers.
+/// Sorts the items by class, on several threads if there are many items and several workers.
 pub fn order_by_class<R: Threads + Sync>(rt: &R, items: &mut Vec<Item>, workers: u32)
     ensures permutation { IsPermutation items.old.items items.new.items }
     ensures sorted { ClassesRise items.new.items }
@@ -28,8 +29,8 @@ pub fn order_by_class<R: Threads + Sync>(rt: &R, items: &mut Vec<Item>, workers:
     sort_unstable_by_key(rt, items, |item| item.class, workers);
 }
 
-/// The last class of the bundle that begins with that item of either side: a bundle of several classes has no more of
-/// a side's items than are enough, so a class of many items is a bundle of its own.
+/// Returns the last class of the bundle that begins with `first`. If that is a later class than `first`'s, each side
+/// has at most `BUNDLE_ITEMS` items up to it. So a class with more items isn't bundled with later ones.
 pub fn last_class(first: &Item, lefts: &[Item], rights: &[Item]) -> u64
     ensures { first.now.class ≤ result }
 {
@@ -37,8 +38,8 @@ pub fn last_class(first: &Item, lefts: &[Item], rights: &[Item]) -> u64
     class.max(first.class)
 }
 
-/// The class up to which there are no more items than are enough; where there are none more at all, the greatest that
-/// can be.
+/// Returns the last class up to which there are at most `BUNDLE_ITEMS` items, or the greatest `u64` if there aren't
+/// more items.
 fn class_of_enough(items: &[Item]) -> u64 {
     match items.get(BUNDLE_ITEMS) {
         Some(item) => item.class.saturating_sub(1),
@@ -46,7 +47,7 @@ fn class_of_enough(items: &[Item]) -> u64 {
     }
 }
 
-/// The items of classes up to that one, and those of higher classes.
+/// Returns the items of classes up to `class`, and the items of higher classes.
 pub fn parted_behind(class: u64, items: &[Item]) -> (&[Item], &[Item])
     requires { ClassesRise items.now }
     ensures { ArePartedAt (class + 1) items.now result.0.now result.1.now }
@@ -55,7 +56,7 @@ pub fn parted_behind(class: u64, items: &[Item]) -> (&[Item], &[Item])
     items.split_at(low)
 }
 
-/// The items of that class and of higher ones.
+/// Returns the items of class `class` and of higher classes.
 pub fn items_from(class: u64, items: &[Item]) -> &[Item]
     requires { ClassesRise items.now }
     ensures { AreFromClass class items.now result.now }
@@ -64,7 +65,7 @@ pub fn items_from(class: u64, items: &[Item]) -> &[Item]
     &items[lower..]
 }
 
-/// The items of a range's classes.
+/// Returns the items whose classes are within the range.
 pub fn items_in(range: Range<u64>, items: &[Item]) -> &[Item]
     requires { ClassesRise items.now }
     ensures { result.now ≡ items_in range items.now }
@@ -72,7 +73,7 @@ pub fn items_in(range: Range<u64>, items: &[Item]) -> &[Item]
     items_before(range.before, items_behind(range.from, items))
 }
 
-/// The items from a class on, where one is given.
+/// Returns the items from class `first` on, or all items for `None`.
 fn items_behind(first: Option<u64>, items: &[Item]) -> &[Item]
     requires { ClassesRise items.now }
     ensures { result.now ≡ filter (λ x. has_begun nat_cmp first x.class) items.now }
@@ -83,7 +84,7 @@ fn items_behind(first: Option<u64>, items: &[Item]) -> &[Item]
     }
 }
 
-/// The items of lower classes than that one, where one is given.
+/// Returns the items of classes lower than `end`, or all items for `None`.
 fn items_before(end: Option<u64>, items: &[Item]) -> &[Item]
     requires { ClassesRise items.now }
     ensures { result.now ≡ filter (λ x. not (has_ended nat_cmp end x.class)) items.now }
@@ -94,11 +95,12 @@ fn items_before(end: Option<u64>, items: &[Item]) -> &[Item]
     }
 }
 
-/// The ranges of classes that workers take, of about as many items each of the side that has more.
+/// Returns ranges of classes, each with some of the workers. They are cut so that each worker has about the same
+/// number of items of the larger side.
 ///
 /// # Errors
 ///
-/// `NoMemory` where a growth is refused.
+/// `NoMemory` if an allocation is refused.
 pub fn class_shares(
     alloc: Global,
     left: &[Item],
@@ -123,7 +125,7 @@ pub fn class_shares(
     )
 }
 
-/// The division of some items, which are copied.
+/// Returns a division of a copy of the items.
 pub fn divided<R: Threads + Sync, G>(
     crew: &Crew<'_, R, G>,
     items: &[Item],

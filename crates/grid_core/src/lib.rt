@@ -1,7 +1,7 @@
 #![tactic(auto)]
 
-//! The pairs of a part of one division and a part of another, numbered by left part and then by right part, and the
-//! items of some classes, which are divided on their own.
+//! The pairs of a part of one division and a part of another, numbered by left part and then by right part; and the
+//! items of some classes, which are divided separately.
 
 mod class_items;
 mod part_pairs;

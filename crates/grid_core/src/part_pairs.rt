@@ -1,4 +1,4 @@
-//! The pairs of the parts of two divisions, as a job for workers.
+//! The pairs of two divisions' parts, as a job for workers.
 
 ghost use Rattle.std.specs.Prelude.{◌≡◌, ◌*◌, ◌≤◌, ⊤, List, All, IfOk, length};
 ghost use Rattle.dip_core.specs.declared.item.Item.{Item};
@@ -14,21 +14,21 @@ use std::alloc::{AllocError, Global};
 use std::marker::PhantomData;
 use work_core::{PairName, PairWork};
 
-/// What is found of a left part and a right part.
+/// The work on a pair of a left part and a right part.
 pub trait PartWork: Sync {
-    /// What is found.
+    /// The result for a pair of parts.
     type Out: Send + Drop;
 
-    // The definition: this is what both parts have.
+    // The meaning of a result for two parts.
     ghost IsValue: { List Item → List Item → Self.Out → Type 0 };
 
-    /// Finds it.
+    /// Returns the result for two parts.
     fn find(alloc: Global, left: Part<'_>, right: Part<'_>) -> Result<Self::Out, NoMemory>
         ensures { IfOk result (IsValue left.entry.items.now right.entry.items.now) };
 }
 
-/// Each part of one division with each part of another: pair (l, r) is left part l with right part r, and the
-/// pairs are numbered by left part and then by right part. A pair's value is what is found of its two parts.
+/// All pairs of a part of one division and a part of another. Pair (l, r) is left part l with right part r, and pairs
+/// are numbered by left part and then by right part. A pair's value is the result of `W` for its two parts.
 pub struct PartPairs<'a, W> {
     /// The division of the left side.
     pub left: &'a Division,
@@ -56,7 +56,7 @@ impl<'a, W> Clone for PartPairs<'a, W> {
 }
 
 impl<'a, W> PartPairs<'a, W> {
-    /// The pairs of these two divisions.
+    /// Returns the pairs of the two divisions.
     pub fn new(left: &'a Division, right: &'a Division) -> PartPairs<'a, W>
         ensures left { result.left.now ≡ left.entry.now }
         ensures right { result.right.now ≡ right.entry.now }

@@ -1,4 +1,4 @@
-//! Names and numbers of the pairs of two divisions, and whether two divisions have one part.
+//! Names and numbers of the pairs of two divisions, and comparison of parts.
 
 ghost use Rattle.std.specs.Prelude.{◌≡◌, ◌↔◌, ◌*◌, ◌<◌, length, IsTrue};
 ghost use Rattle.dip_core.specs.Division.{part_at};
@@ -7,7 +7,7 @@ ghost use Rattle.grid_core.specs.Grid.{grid_name, grid_place};
 use dip_core::{Division, Item};
 use work_core::PairName;
 
-/// The pair of that number: the numbers of its left part and of its right part.
+/// Returns the pair with that number: the numbers of its left and its right part.
 pub fn name_in(left: &Division, right: &Division, number: u64) -> PairName
     requires { number < length left.now * length right.now }
     ensures { result ≡ grid_name (length right.now) number }
@@ -20,7 +20,7 @@ pub fn name_in(left: &Division, right: &Division, number: u64) -> PairName
     }
 }
 
-/// The number of the pair of that name; None exactly where a division has no part of that number.
+/// Returns the number of the pair with that name, or `None` if a division has no part with that number.
 pub fn place_in(left: &Division, right: &Division, pair: PairName) -> Option<u64>
     ensures { result ≡ grid_place (length left.now) (length right.now) pair }
 {
@@ -32,7 +32,7 @@ pub fn place_in(left: &Division, right: &Division, pair: PairName) -> Option<u64
     }
 }
 
-/// Whether the parts of that number have the same items in both divisions.
+/// Returns whether the parts with that number have the same items in both divisions.
 pub fn same_part(some: &Division, others: &Division, number: u32) -> bool
     requires some { number < length some.now }
     requires others { number < length others.now }
@@ -41,7 +41,7 @@ pub fn same_part(some: &Division, others: &Division, number: u32) -> bool
     are_same(some.part(number).items(), others.part(number).items())
 }
 
-/// Whether both are the same items in the same order.
+/// Returns whether both lists have the same items in the same order.
 fn are_same(some: &[Item], others: &[Item]) -> bool
     ensures { IsTrue result ↔ (some.now ≡ others.now) }
 {

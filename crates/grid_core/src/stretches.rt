@@ -1,4 +1,4 @@
-//! How many pairs of two divisions are run before what they gave is taken.
+//! How many pairs of two divisions run before their results are collected.
 
 ghost use Rattle.std.specs.Prelude.{◌+◌, ◌*◌, ◌<◌, ◌≤◌, length};
 ghost use Rattle.dip_core.specs.Item.{item_limit};
@@ -7,11 +7,11 @@ use crate::parts::name_in;
 use dip_core::Division;
 use work_core::STRETCH_PAIRS;
 
-/// How many items the parts of a stretch's pairs have, at most and but for the last pair. A pair has no more hits, and
-/// no more gaps, than its parts have items, so no more of them are held at once.
+/// The most items in the parts of a stretch's pairs, without the last pair. A pair has at most as many hits as its
+/// parts have items, and at most as many gaps. So this bounds the results that are held at once.
 const STRETCH_ITEMS: u64 = 1_000_000;
 
-/// How many pairs a stretch from number `first` on has: at least one, and none past the last.
+/// Returns the length of the stretch of pairs from number `first` on: at least one pair, and none past the last.
 pub fn stretch_len(left: &Division, right: &Division, first: u64) -> u64
     requires { first < length left.now * length right.now }
     ensures some { 0 < result }
@@ -29,7 +29,7 @@ pub fn stretch_len(left: &Division, right: &Division, first: u64) -> u64
     most
 }
 
-/// How many items both parts of the pair of that number have.
+/// Returns how many items the two parts of a pair have together.
 fn items_of_pair(left: &Division, right: &Division, number: u64) -> u64
     requires { number < length left.now * length right.now }
     ensures { result ≤ 2 * item_limit }
@@ -38,7 +38,7 @@ fn items_of_pair(left: &Division, right: &Division, number: u64) -> u64
     items_of_part(left, pair.left) + items_of_part(right, pair.right)
 }
 
-/// How many items a part has.
+/// Returns how many items a part has.
 fn items_of_part(division: &Division, number: u32) -> u64
     requires { number < length division.now }
     ensures { result ≤ item_limit }

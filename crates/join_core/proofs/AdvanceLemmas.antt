@@ -1,4 +1,4 @@
--- The advances that are answered.
+-- The number of advances to report.
 use Rattle.std.proofs.Common.{◌≡◌, ℕ, ◌+◌, ◌*◌, ◌≤◌, List, length, map, max, ap, ◌∙◌, arith}
 use Rattle.std.proofs.lemmas.List.{length-map}
 use Rattle.std.proofs.lemmas.Nat.{mul-le}
@@ -12,7 +12,7 @@ use Rattle.join_core.specs.Found.{AreMade, HasParts, HoldAtMost}
 use Rattle.join_core.specs.Join.{IsWithin}
 use Rattle.join_core.proofs.LeastLemmas.{IsDivision-unclassed, crowd-unclassed, least-few, least_once}
 
--- no more items hold at once than there are parts at least
+-- no more items hold at once than the least number of parts
 least-hold : (items : List Item) (k : ℕ) → IsLeast (map unclassed items) k → HoldAtMost k items
 least-hold items k least = λ t.
     (let bare = crowd-unclassed items t in
@@ -30,12 +30,12 @@ least-parts items k n least has =
     omega (arith, few, same, number)
 
 module _ (left right : List Item) (advances : Advances) (are : AreMade left right advances) where
-  -- what was made is no more than the upper bound
+  -- the advances that were made are within the upper bound
   most : (k m : ℕ) → IsLeast (map unclassed left) k → IsLeast (map unclassed right) m
       → advances.made ≤ m * length left + k * length right
   most k m lk lm = are.at_most k m (least-hold left k lk) (least-hold right m lm)
 
-  -- where it is at least as many as the pairs of parts, it is within both bounds
+  -- if they are at least the number of pairs of parts, they are within both bounds
   pub IsWithin-enough : advances.left_parts * advances.right_parts ≤ advances.made → (k m : ℕ)
       → IsLeast (map unclassed left) k → IsLeast (map unclassed right) m
       → IsWithin k m (length left) (length right) advances.made
@@ -45,7 +45,7 @@ module _ (left right : List Item) (advances : Advances) (are : AreMade left righ
       let product = mul-le k m advances.left_parts advances.right_parts lefts rights in
       record { at_least = omega (arith, product, enough); at_most = most k m lk lm }
 
-  -- else the product of the least numbers is
+  -- otherwise the product of the least numbers is
   pub IsWithin-greater : (i j turns : ℕ) → IsLeast (map unclassed left) i → IsLeast (map unclassed right) j
       → turns ≡ max advances.made (i * j) → (k m : ℕ) → IsLeast (map unclassed left) k
       → IsLeast (map unclassed right) m → IsWithin k m (length left) (length right) turns

@@ -1,4 +1,4 @@
--- How many items hold at once, by their starts and ends in order.
+-- How many items hold at once, from their sorted starts and ends.
 use Rattle.std.proofs.Common.{not, int_lt, Bool, ◌≡◌, ℕ, suc, zero, ◌+◌, ◌-◌, ◌<◌, ◌≤◌, ℤ, pos, ◌≤ℤ◌, ◌<ℤ◌, true, false, cond, ◌⊎◌, List, [], ◌∷◌, length, map, get_or, inl, inr, arith, refl, sym, subst}
 use Rattle.std.specs.Prelude.{IsPermutation, IsSorted}
 use Rattle.std.specs.Ordering.{int_cmp, is_lt}
@@ -18,9 +18,9 @@ use Rattle.match_core.specs.Items.{unclassed}
 use Rattle.join_core.specs.Crowds.{upto, starts_of, ends_of, AreOrdered, IsMostAtOnce}
 use Rattle.join_core.proofs.LeastLemmas.{crowded, IsLeast-unclassed}
 
--- ---- points in order
+-- ---- sorted points
 
--- no point is above a later one
+-- No point is above a later one.
 abbrev pub Rise : List ℤ → Type 0
 Rise xs = (i j : ℕ) (d : ℤ) → i ≤ j → j < length xs → get_or xs i d ≤ℤ get_or xs j d
 
@@ -76,7 +76,7 @@ one_most false = omega arith
 counts_some : (x t : ℤ) → cond {A = ℕ} (not (int_lt t x)) 1 0 ≤ 1
 counts_some x t = one_most (int_lt t x)
 
--- points up to one that comes no later are counted
+-- points up to one that is no later than the instant are counted
 upto-more : (xs : List ℤ) (t : ℤ) (i : ℕ) (d : ℤ) → Rise xs → i < length xs → get_or xs i d ≤ℤ t → i + 1 ≤ upto xs t
 upto-more [] t i d rise inside h = absurd (omega arith)
 upto-more (x ∷ xs) t zero d rise inside h =
@@ -88,7 +88,7 @@ upto-more (x ∷ xs) t (suc i) d rise inside h =
     let rest = upto-more xs t i d (Rise-tail x xs rise) (omega arith) h in
     omega (arith, split, one, rest)
 
--- those from one on that comes later are not
+-- points from a later one on are not
 upto-less : (xs : List ℤ) (t : ℤ) (i : ℕ) (d : ℤ) → Rise xs → i < length xs → t <ℤ get_or xs i d → upto xs t ≤ i
 upto-less [] t i d rise inside h = absurd (omega arith)
 upto-less (x ∷ []) t zero d rise inside h =
@@ -108,7 +108,7 @@ upto-less (x ∷ xs) t (suc i) d rise inside h =
 
 -- ---- the sweep
 
--- what is known once i starts are seen
+-- The state after `i` starts.
 pub record IsSweeping (starts ends : List ℤ) (i k : ℕ) : Type 0 where
   pub few : k ≤ i
   pub reached : 0 < k → (t : ℤ) × (k + upto ends t ≤ upto starts t)
@@ -117,7 +117,7 @@ pub record IsSweeping (starts ends : List ℤ) (i k : ℕ) : Type 0 where
 module _ (starts ends : List ℤ) (i k : ℕ) (s e : ℤ) (same : length starts ≡ length ends) (inside : i < length starts)
     (starts_rise : IsSorted int_cmp starts) (ends_rise : IsSorted int_cmp ends)
     (is_s : get_or starts i s ≡ s) (is_e : get_or ends (i - k) e ≡ e) (was : IsSweeping starts ends i k) where
-  -- one more than ever before
+  -- the maximum grows by one
   pub sweeping_more : s <ℤ e → IsSweeping starts ends (i + 1) (k + 1)
   sweeping_more h =
       let few : k ≤ i = was.few in
@@ -144,7 +144,7 @@ module _ (starts ends : List ℤ) (i k : ℕ) (s e : ℤ) (same : length starts 
             ]);
       }
 
-  -- no more
+  -- the maximum stays
   pub sweeping_same : e ≤ℤ s → IsSweeping starts ends (i + 1) k
   sweeping_same h = record {
     few = (let few = was.few in omega (arith, few));
@@ -197,7 +197,7 @@ sweeping_end starts ends i k same starts_rise ends_rise all was = record {
 upto-permutation : (xs ys : List ℤ) → IsPermutation xs ys → (t : ℤ) → upto ys t ≡ upto xs t
 upto-permutation xs ys moved t = sum_by-IsPermutation (λ x. cond (not (int_lt t x)) 1 0) xs ys moved
 
--- an item holds an instant where it has started and not ended
+-- an item holds an instant if it has started and not ended
 holds-one : (p : Period) (t : ℤ)
     → cond {A = ℕ} (holds_at t p) 1 0 + cond (not (int_lt t p.to)) 1 0 ≡ cond (not (int_lt t p.from)) 1 0
 holds-one p t = let o : p.from <ℤ p.to = p.ordered in grind (arith, ints)
@@ -213,7 +213,7 @@ crowd-upto (x ∷ items) t =
     let rest = crowd-upto items t in
     omega (arith, a, b, c, one, rest)
 
--- so many parts are least
+-- this number of parts is least
 pub IsLeast-most : (items : List Item) (starts ends : List ℤ) (k : ℕ) → HasDistinctIds items
     → AreOrdered (starts_of items) starts → AreOrdered (ends_of items) ends → IsMostAtOnce starts ends k
     → IsLeast (map unclassed items) k

@@ -1,4 +1,4 @@
--- Items by their starts, cut at an instant.
+-- Items by start, cut at an instant.
 use Rattle.std.proofs.Common.{◌≡◌, ◌⊎◌, ℕ, ◌+◌, ◌<◌, ◌≤◌, ℤ, ◌≤ℤ◌, ◌<ℤ◌, true, false, List, [], ◌∷◌, ◌++◌, inl, inr, length, take, drop, get_or, sym, subst, ap, ◌∙◌, arith}
 use Rattle.std.specs.Prelude.{IsSorted, int_lt}
 use Rattle.std.specs.Ordering.{is_lt}
@@ -12,7 +12,7 @@ use Rattle.dip_core.specs.Item.{item_cmp}
 use Rattle.dip_core.proofs.OrderLemmas.{from_le, item_total}
 use Rattle.join_core.specs.Tiles.{AreCutAt, StartsRise}
 
--- sorted items start one after another
+-- sorted items are in order of start
 pub StartsRise-sorted : (items : List Item) → IsSorted item_cmp items → StartsRise items
 StartsRise-sorted items sorted i j d below inside =
     from_le (get_or items i d) (get_or items j d)
@@ -23,14 +23,14 @@ StartsRise-sorted items sorted i j d below inside =
     let turned : true ≡ false = sym (ap is_lt less) ∙ never in
     cc))
 
--- so do those behind others
+-- a suffix of items in order of start is in order of start
 pub StartsRise-back : (xs ys : List Item) → StartsRise (xs ++ ys) → StartsRise ys
 StartsRise-back [] ys rise = rise
 StartsRise-back (z ∷ zs) ys rise =
     StartsRise-back zs ys
     (AllPairs-tail (λ (x y : Item). x.period.from ≤ℤ y.period.from) z (zs ++ ys) rise)
 
--- what starts before an instant stands in front
+-- the items that start before an instant are a prefix
 pub IsPartitionedBy-start : (cut : ℤ) (items : List Item) → StartsRise items
     → IsPartitionedBy (λ (x : Item). int_lt x.period.from cut) items
 IsPartitionedBy-start cut items rise i j d upto within passes =
@@ -51,7 +51,7 @@ starts-before cut x e = grind (arith, ints)
 starts-later : (cut : ℤ) (x : Item) → int_lt x.period.from cut ≡ false → cut ≤ℤ x.period.from
 starts-later cut x e = grind (arith, ints)
 
--- those before and behind the place from which the test fails
+-- the items before and after the point from which the test fails
 pub AreCutAt-point : (cut : ℤ) (items started later : List Item) (n : ℕ) → n ≤ length items
     → IsPartitionPoint (λ y. int_lt y.period.from cut ≡ true) (λ y. int_lt y.period.from cut ≡ false) items n
     → started ≡ take n items → later ≡ drop n items → AreCutAt cut items started later

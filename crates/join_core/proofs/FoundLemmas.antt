@@ -1,4 +1,4 @@
--- What is found of items and of others, put together.
+-- The results for some items and for others, together.
 use Rattle.std.proofs.Common.{◌≡◌, ℕ, ◌+◌, ◌*◌, ◌<◌, ◌≤◌, ℤ, cond, List, [], ◌∷◌, ◌++◌, Option, Some, None, true, append-nil, length, refl, sym, subst, ap, ◌∙◌, inl, inr, arith, append_assoc, length-append}
 use Rattle.std.specs.Prelude.{IsPermutation}
 use Rattle.std.proofs.lemmas.List.Elements.{All-append, All-contains, All-nil, Contains-append_cases, Contains-append_left, Contains-append_right}
@@ -37,7 +37,7 @@ use Rattle.join_core.proofs.TurnLemmas.{all_turns-within, mul-add}
 
 -- ---- parts
 
--- a division of items and one of others divide all
+-- divisions of two lists together divide both lists together
 HasParts-append : (xs ys : List Item) (n m : ℕ) → HasParts xs n → HasParts ys m → HasParts (xs ++ ys) (n + m)
 HasParts-append xs ys n m one other = record {
   division = one.division ++ other.division;
@@ -55,7 +55,7 @@ HasParts-append xs ys n m one other = record {
       omega (arith, both, a, b));
 }
 
--- no items have none
+-- an empty list has no parts
 HasParts-none : HasParts [] 0
 HasParts-none = record {
   division = [];
@@ -67,7 +67,7 @@ HasParts-none = record {
   len = refl;
 }
 
--- there are no more parts than items
+-- the number of parts is at most the number of items
 parts-few : (items : List Item) (n : ℕ) → HasParts items n → n ≤ length items
 parts-few items n has =
     let all = length-le-all_of has.division has.divides.filled in
@@ -80,7 +80,7 @@ division-few : (items : List Item) (parts : List (List Item)) → IsLeastDivisio
 division-few items parts divided =
     parts-few items (length parts) (record { division = parts; divides = divided.division; len = refl })
 
--- no more items than there are parts hold at once
+-- no more items hold at once than there are parts
 parts-hold : (items : List Item) (n : ℕ) → HasParts items n → HoldAtMost n items
 parts-hold items n has = λ t.
     (let most = crowd-le-length items has.division has.divides t in
@@ -114,7 +114,7 @@ least-upto items parts k divided most =
 
 -- ---- advances
 
--- bounds by some items and by others
+-- the bounds of two lists together
 bound-more : (k m a b c d u v turns more : ℕ) → u ≡ a + c → v ≡ b + d → turns ≤ m * a + k * b
     → more ≤ m * c + k * d → turns + more ≤ m * u + k * v
 bound-more k m a b c d u v turns more e f one other =
@@ -122,7 +122,7 @@ bound-more k m a b c d u v turns more e f one other =
     let y : k * v ≡ k * b + k * d = ap (λ n. k * n) f ∙ mul-add k b d in
     omega (arith, one, other, x, y)
 
--- for no items none are made
+-- no items need no advances
 AreMade-none : AreMade [] [] (record { made = 0; left_parts = 0; right_parts = 0 })
 AreMade-none = record {
   lefts = HasParts-none;
@@ -130,7 +130,7 @@ AreMade-none = record {
   at_most = λ k m lefts rights. omega arith;
 }
 
--- those for items and for others
+-- the counts for two lists together
 AreMade-append : (left right p q : List Item) (one other : Advances) → AreMade left right one → AreMade p q other
     → AreMade (left ++ p) (right ++ q) (both_made one other)
 AreMade-append left right p q one other is more = record {
@@ -143,7 +143,7 @@ AreMade-append left right p q one other is more = record {
       (more.at_most k m (HoldAtMost-back k left p lefts) (HoldAtMost-back m right q rights));
 }
 
--- they are few
+-- the counts are small
 pub AreMade-few : (left right : List Item) (advances : Advances) → AreMade left right advances
     → length left ≤ item_limit → length right ≤ item_limit
     → (advances.left_parts ≤ item_limit) × (advances.right_parts ≤ item_limit)
@@ -159,7 +159,7 @@ AreMade-few left right advances are left_few right_few =
     in
     (lefts, rights, omega (arith, most, left_few, right_few))
 
--- those for items and for others fit a number together
+-- the sums of the counts for two lists fit 64 bits
 FitTogether-append : (left right p q : List Item) (one other : Advances) → AreMade left right one
     → AreMade p q other → length (left ++ p) ≤ item_limit → length (right ++ q) ≤ item_limit
     → FitTogether one other
@@ -172,7 +172,7 @@ FitTogether-append left right p q one other is more left_few right_few =
 
 module _ (left right : List Item) (lefts rights : List (List Item)) (one : IsLeastDivision left lefts)
     (other : IsLeastDivision right rights) where
-  -- advances that are no more than where each part of one side is read against each of the other
+  -- advances that are no more than if each part of one side is read against each part of the other
   pub AreMade-within : (advances : Advances)
       → advances.made ≤ advances.right_parts * length left + advances.left_parts * length right
       → advances.left_parts ≡ length lefts → advances.right_parts ≡ length rights → AreMade left right advances
@@ -189,7 +189,7 @@ module _ (left right : List Item) (lefts rights : List (List Item)) (one : IsLea
 
   module _ (old new : List JoinRow) (made : ℕ)
       (adds : AddsFirstPairs lefts rights (length lefts * length rights) old new made) where
-    -- the advances of all pairs of parts are
+    -- the advances of all pairs of parts are bounded so
     pub made-few : made ≤ length rights * length left + length lefts * length right
     made-few =
         let within = all_turns-within lefts rights adds.are.outs adds.are.len adds.are.values one.division.filled
@@ -202,7 +202,7 @@ module _ (left right : List Item) (lefts rights : List (List Item)) (one : IsLea
         (subst (λ (n : ℕ). made ≤ length rights * length (all_of lefts) + length lefts * n)
         (length_permutation right (all_of rights) other.division.together) most)
 
-    -- and so are no more than where each item of one side is read beside each of the other
+    -- and are no more than if each item of one side is compared with each item of the other
     pub made-fewer : made ≤ 2 * (length left * length right)
     made-fewer =
         let few = made-few in
@@ -214,7 +214,7 @@ module _ (left right : List Item) (lefts rights : List (List Item)) (one : IsLea
         mul_comm (length right) (length left) in
         omega (arith, few, a, b, turned)
 
-    -- the rows of all pairs of parts are those of the items
+    -- the rows of all pairs of parts are the rows of the items
     pub AddsItemsRows-one : HasDistinctIds left → HasDistinctIds right → AddsItemsRows left right old new
     AddsItemsRows-one left_ids right_ids = record {
       added = adds.added;
@@ -224,9 +224,9 @@ module _ (left right : List Item) (lefts rights : List (List Item)) (one : IsLea
           one.division.together other.division.together left_ids right_ids);
     }
 
--- ---- items that match none of others
+-- ---- items that match nothing in other lists
 
--- items of lower classes match none of higher ones
+-- items of lower classes don't match items of higher ones
 pub MatchNothing-parted : (class : ℕ) (left low_left high_left right low_right high_right : List Item)
     → ArePartedAt class left low_left high_left → ArePartedAt class right low_right high_right
     → MatchNothing low_left low_right high_left high_right
@@ -249,7 +249,7 @@ MatchNothing-front left right p q more_p more_q nothing = record {
   back = λ x y h k. nothing.back x y (Contains-append_left p more_p x h) k;
 }
 
--- nor some more of them
+-- nor some more of these
 MatchNothing-more : (left right p q more_p more_q : List Item)
     → MatchNothing left right (p ++ more_p) (q ++ more_q) → MatchNothing p q more_p more_q
     → MatchNothing (left ++ p) (right ++ q) more_p more_q
@@ -266,7 +266,7 @@ MatchNothing-more left right p q more_p more_q nothing more = record {
 
 -- ---- both together
 
--- the rows of items, and behind them those of others
+-- the rows of items, followed by the rows of others
 rows-both : (left right p q : List Item) (old new : List JoinRow) → HasDistinctIds (left ++ p)
     → MatchNothing left right p q → AreItemsRows left right old → AddsItemsRows p q old new
     → AreItemsRows (left ++ p) (right ++ q) new
@@ -274,7 +274,7 @@ rows-both left right p q old new distinct nothing are adds =
     subst (AreItemsRows (left ++ p) (right ++ q)) (sym adds.split)
     (AreItemsRows-append left right p q old adds.added distinct nothing.forth nothing.back are adds.rows)
 
--- what is found of the lower classes and of the higher ones
+-- the results for the lower classes and for the higher ones
 found-parted : (class : ℕ) (left low_left high_left right low_right high_right : List Item)
     → ArePartedAt class left low_left high_left → ArePartedAt class right low_right high_right → HasDistinctIds left
     → (rows more : List JoinRow) (taken other : Advances) → AreFound low_left low_right rows taken
@@ -293,17 +293,17 @@ found-parted class left low_left high_left right low_right high_right lefts righ
 
 -- ---- range by range
 
--- a number with none
+-- adding 0 changes nothing
 add_zero : (n : ℕ) → n + 0 ≡ n
 add_zero n = omega arith
 
--- advances with none
+-- adding the counts for no items changes nothing
 made-alone : (made : Advances) → both_made made (record { made = 0; left_parts = 0; right_parts = 0 }) ≡ made
 made-alone made = rw (add_zero made.made, add_zero made.left_parts, add_zero made.right_parts) refl
 
 module _ (left right : List Item) (left_rise : ClassesRise left) (right_rise : ClassesRise right)
     (left_ids : HasDistinctIds left) where
-  -- what is found of a range of classes
+  -- The results for a range of classes.
   abbrev AllFound : Range ℕ → List FoundRows → Type 0
   AllFound r all = AreFound (items_in r left) (items_in r right) (all_rows all) (all_made all)
 
@@ -326,7 +326,7 @@ module _ (left right : List Item) (left_rise : ClassesRise left) (right_rise : C
       (in-parted from at right right_rise begun) (in-distinct (range from None) left left_ids) found.rows.items
       (all_rows more) found.advances (all_made more) is all
 
-  -- and of all of them
+  -- and for all classes
   pub all_found : (gives : Range ℕ → FoundRows → Type 0) (cuts : List (Cut ℕ)) (all : List FoundRows)
       → GivesFrom nat_cmp gives None cuts all
       → ((r : Range ℕ) (found : FoundRows) → gives r found → IsFound (items_in r left) (items_in r right) found)
@@ -340,30 +340,30 @@ module _ (left right : List Item) (left_rise : ClassesRise left) (right_rise : C
       (subst (λ (ys : List Item). AreFound (items_in (range None None) left) ys (all_rows all) (all_made all))
       (filter_all (λ (x : Item). true) right (λ k d h. refl)) together)
 
--- what is found of all fits a number
+-- the sums of all results fit 64 bits
 pub fits_all : (left right : List Item) (all : List FoundRows) → AreFound left right (all_rows all) (all_made all)
     → length left ≤ item_limit → length right ≤ item_limit → FitAll all
 fits_all left right all found left_few right_few =
     let few = AreMade-few left right (all_made all) found.advances left_few right_few in
     record { made = omega (arith, few.2); lefts = omega (arith, few.0); rights = omega (arith, few.1) }
 
--- all of it as one
+-- all results as one
 pub is_found : (left right : List Item) (all : FoundRows) (found : List FoundRows) → all.rows.items ≡ all_rows found
     → all.advances ≡ all_made found → AreFound left right (all_rows found) (all_made found) → IsFound left right all
 is_found left right all found rows made is =
     subst (λ (xs : List JoinRow). AreFound left right xs all.advances) (sym rows)
     (subst (λ (m : Advances). AreFound left right (all_rows found) m) (sym made) is)
 
--- ---- one behind another
+-- ---- joining a list of results
 
--- what was found of some, and what is left
+-- The results that are already added, and the remaining ones.
 pub record IsFoundSoFar (all left : List FoundRows) (rows : List JoinRow) (made : Advances) : Type 0 where
   pub rows_are : all_rows all ≡ rows ++ all_rows left
   pub made_are : all_made all ≡ both_made made (all_made left)
 
 -- ---- bundle by bundle
 
--- what is found of the items in front of those that are left, which match none of them
+-- The results for the items before the remaining ones, which match none of these.
 pub record IsFinding
     (left right lefts rights : List Item) (rows : List JoinRow) (advances : Advances) : Type 0 where
   pub front_left : List Item
@@ -376,7 +376,7 @@ pub record IsFinding
   pub left_rise : ClassesRise lefts
   pub right_rise : ClassesRise rights
 
--- at first all are left
+-- at first all items remain
 pub finding_start : (left right : List Item) (rows : List JoinRow) (advances : Advances) → rows ≡ []
     → advances ≡ record { made = 0; left_parts = 0; right_parts = 0 } → ClassesRise left → ClassesRise right
     → IsFinding left right left right rows advances
@@ -395,7 +395,7 @@ finding_start left right rows advances none nothing left_rise right_rise = recor
   right_rise = right_rise;
 }
 
--- the items in front are few, and ids stay distinct
+-- a prefix is no longer than the list, and its ids are distinct
 module _ (items front rest : List Item) (whole : items ≡ front ++ rest) where
   front-few : length items ≤ item_limit → length front ≤ item_limit
   front-few few = let n = ap length whole ∙ length-append front rest in omega (arith, n, few)
@@ -423,7 +423,7 @@ module _ (left right lefts rights low_left high_left low_right high_right : List
       subst (λ (xs : List Item). MatchNothing is.front_left is.front_right xs (low_right ++ high_right)) one.whole
       (subst (MatchNothing is.front_left is.front_right lefts) other.whole is.unmatched)
 
-  -- a bundle more
+  -- one more bundle
   pub finding_more : (new : List JoinRow) (more all : Advances) → HasDistinctIds left
       → AddsItemsRows low_left low_right old new → AreMade low_left low_right more → all ≡ both_made advances more
       → IsFinding left right high_left high_right new all
@@ -444,7 +444,7 @@ module _ (left right lefts rights low_left high_left low_right high_right : List
     right_rise = high-rise class rights low_right high_right other is.right_rise;
   }
 
-  -- whose advances fit a number
+  -- the sum with its advances fits 64 bits
   pub finding-fits : (more : Advances) → AreMade low_left low_right more → length left ≤ item_limit
       → length right ≤ item_limit → FitTogether advances more
   finding-fits more made left_few right_few =
@@ -452,7 +452,7 @@ module _ (left right lefts rights low_left high_left low_right high_right : List
       (front-few left (is.front_left ++ low_left) high_left left_whole left_few)
       (front-few right (is.front_right ++ low_right) high_right right_whole right_few)
 
--- at the end all that is left is one
+-- at the end the remaining items are one bundle
 module _ (left right lefts rights : List Item) (old : List JoinRow) (advances : Advances)
     (is : IsFinding left right lefts rights old advances) where
   pub finding_end : (rows : List JoinRow) (more all : Advances) → HasDistinctIds left

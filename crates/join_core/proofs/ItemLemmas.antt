@@ -1,4 +1,4 @@
--- The rows of items, from those of some of them that match none of the others, and of items in another order.
+-- The rows of items, from the rows of parts of them that don't match each other, and from a permutation of them.
 use Rattle.std.proofs.Common.{◌≢◌, List, [], ◌++◌, sym, ap, ◌∙◌, inl, inr}
 use Rattle.std.specs.Prelude.{Contains, IsPermutation}
 use Rattle.std.proofs.lemmas.List.Elements.{Contains-append_left, Contains-append_right, Contains-append_cases}
@@ -12,12 +12,12 @@ use Rattle.list_core.proofs.WantedLemmas.{IsListOf-append, IsListOf-none, IsList
 use Rattle.join_core.specs.declared.rows.JoinRow.{JoinRow}
 use Rattle.join_core.specs.ItemJoin.{IsItemsJoinRow, AreItemsRows}
 
--- no items have no rows
+-- an empty list has no rows
 pub AreItemsRows-none : (right : List Item) → AreItemsRows [] right []
 AreItemsRows-none right =
     IsListOf-none (λ (a b : JoinRow). a ≢ b) (IsItemsJoinRow [] right) (λ row is. Contains-none is.x is.x_in)
 
--- a row of two items is one of other lists where they stand
+-- a row of two items is a row of any lists that contain them
 pub row-moved : (left right other_left other_right : List Item) (row : JoinRow) (is : IsItemsJoinRow left right row)
     → Contains other_left is.x → Contains other_right is.y → IsItemsJoinRow other_left other_right row
 row-moved left right other_left other_right row is h k = record {
@@ -31,7 +31,7 @@ row-moved left right other_left other_right row is h k = record {
   shared = is.shared;
 }
 
--- the rows of items, and of more that match none of them
+-- the rows of items, and of more items that match none of them
 pub AreItemsRows-append : (left right p q : List Item) (rows more : List JoinRow) → HasDistinctIds (left ++ p)
     → ((x y : Item) → Contains left x → Contains q y → x.class ≢ y.class)
     → ((x y : Item) → Contains p x → Contains right y → x.class ≢ y.class) → AreItemsRows left right rows
@@ -59,7 +59,7 @@ AreItemsRows-append left right p q rows more distinct forth back one other =
       ]
     ])
 
--- the rows of items are those of others that are the same but for their order
+-- permuted items have the same rows
 pub rows-permutation : (left right other_left other_right : List Item) → IsPermutation left other_left
     → IsPermutation right other_right → (Before : JoinRow → JoinRow → Type 0) (rows : List JoinRow)
     → IsListOf Before (IsItemsJoinRow other_left other_right) rows → IsListOf Before (IsItemsJoinRow left right) rows

@@ -1,4 +1,4 @@
--- Any rows of two tables have a join, and only one.
+-- Any rows of two tables have exactly one join.
 use Rattle.std.proofs.Common.{◌≡◌, ◌⊎◌, ◌↔◌, inl, inr, ℤ, List, [], ◌∷◌, Option, Some, None, refl, sym}
 use Rattle.period_core.specs.declared.period.Period.{Period}
 use Rattle.period_core.specs.Period.{Holds, HoldsIn, meet}
@@ -17,14 +17,14 @@ use Rattle.join_core.specs.Join.{IsJoin, IsJoinRow, RowBefore, join_cmp}
 use Rattle.join_core.proofs.OrderLemmas.{IsJoin-unique, JoinRow-same_fields, join_total, tied_rows}
 
 module _ (Matches : Row → Row → Type 0) (decided : (x y : Row) → Matches x y ⊎ (Matches x y → ⊥)) where
-  -- the ids of two rows that match, with what they share
+  -- The ids of two rows that match, with the period they share.
   record IsRowOfTwo (x y : Row) (row : JoinRow) : Type 0 where
     left_id : row.left ≡ x.id
     right_id : row.right ≡ y.id
     matches : Matches x y
     shared : IsShared x.period y.period row.period
 
-  -- the row of two rows that match, if they share an instant
+  -- the row of two matching rows, if they share an instant
   row_of_matches : (x y : Row) → Matches x y → (met : Option Period)
       → ((t : ℤ) → HoldsIn met t ↔ (Holds x.period t × Holds y.period t))
       → (rows : List JoinRow) × IsUnorderedListOf (IsRowOfTwo x y) rows
@@ -50,11 +50,11 @@ module _ (Matches : Row → Row → Type 0) (decided : (x y : Row) → Matches x
     | inr differ ↦ ([], IsUnorderedListOf-none (IsRowOfTwo x y) (λ row is. differ is.matches))
   ]
 
-  -- the row of some left and some right row
+  -- The row of some left and some right row.
   abbrev IsRowOfSome : List Row → List Row → JoinRow → Type 0
   IsRowOfSome left right = WantedForSome (λ x. WantedForSome (IsRowOfTwo x) right) left
 
-  -- rows whose matching is decided have a join
+  -- rows with a decidable match have a join
   some_join_of : (left right : List Row) → (rows : List JoinRow) × IsJoin Matches left right rows
   some_join_of left right =
       let (unordered, all) =
@@ -90,13 +90,13 @@ module _ (Matches : Row → Row → Type 0) (decided : (x y : Row) → Matches x
             is,
       )
 
--- any rows have a join, whatever the pairs of columns behind on
+-- any rows have a join, for any pairs of columns
 pub some_join : (left_columns right_columns : List Column) (on : List NamePair) (left right : List Row)
     → (rows : List JoinRow) × IsJoin (MatchesOn left_columns right_columns on) left right rows
 some_join left_columns right_columns on left right =
     some_join_of (MatchesOn left_columns right_columns on) (match_or_not left_columns right_columns on) left right
 
--- they have no other
+-- and no other one
 pub one_join : (left_columns right_columns : List Column) (on : List NamePair) (left right : List Row)
     (one other : List JoinRow) → IsJoin (MatchesOn left_columns right_columns on) left right one
     → IsJoin (MatchesOn left_columns right_columns on) left right other → one ≡ other

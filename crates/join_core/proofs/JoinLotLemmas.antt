@@ -1,4 +1,4 @@
--- The joins of rows that are sent to lots, and the join of all.
+-- The joins of lots of rows, and the join of all rows.
 use Rattle.std.proofs.Common.{◌≡◌, ℕ, List, sym, ◌∙◌}
 use Rattle.std.specs.Prelude.{Contains}
 use Rattle.row_core.specs.declared.row.Row.{Row}
@@ -12,17 +12,17 @@ use Rattle.join_core.specs.Join.{IsJoinRow, RowBefore, join_cmp}
 use Rattle.join_core.specs.JoinLots.{LotJoinIsOfWhole, LotJoinsAreApart, WholeJoinIsOfLots}
 use Rattle.join_core.proofs.OrderLemmas.{join_total}
 
--- the left row of a row of a join
+-- The left row of a join's row.
 abbrev left_of : (Matches : Row → Row → Type 0) (left right : List Row) (row : JoinRow) → IsJoinRow Matches left right row
     → (x : Row) × Contains left x × (row.left ≡ x.id)
 left_of Matches left right row is = (is.x, is.x_in, is.left_id)
 
 module _ (Matches : Row → Row → Type 0) (left right : List Row) (left_lot right_lot : Row → ℕ) where
-  -- a row of the join of what is sent to a lot
+  -- A row of a lot's join.
   abbrev IsLotRow : ℕ → JoinRow → Type 0
   IsLotRow lot = IsJoinRow Matches (rows_sent left_lot lot left) (rows_sent right_lot lot right)
 
-  -- it is a row of the join of all
+  -- it is a row of the whole join
   whole_row : (lot : ℕ) (row : JoinRow) → IsLotRow lot row → IsJoinRow Matches left right row
   whole_row lot row is = record {
     x = is.x;
@@ -35,7 +35,7 @@ module _ (Matches : Row → Row → Type 0) (left right : List Row) (left_lot ri
     shared = is.shared;
   }
 
-  -- a row of the join of all is one of its left row's lot
+  -- a row of the whole join is a row of its left row's lot
   lot_row : SendsTogether Matches left_lot right_lot left right → (lot : ℕ) (row : JoinRow)
       → (is : IsJoinRow Matches left right row) → left_lot is.x ≡ lot → IsLotRow lot row
   lot_row together lot row is e = record {
@@ -49,7 +49,7 @@ module _ (Matches : Row → Row → Type 0) (left right : List Row) (left_lot ri
     shared = is.shared;
   }
 
--- so the laws of lots hold of joins
+-- so the laws on lots hold for joins
 pub lot_join_is_of_whole : LotJoinIsOfWhole
 lot_join_is_of_whole left_columns right_columns on left right left_lot right_lot lot whole rows rise together =
     let Matches = MatchesOn left_columns right_columns on in

@@ -15,7 +15,7 @@ use Rattle.join_core.specs.Join.{IsJoinRow, RowBefore, join_cmp}
 use Rattle.join_core.specs.JoinStandIns.{JoinIsOfCodes, JoinIsOfStandIns, join_row_of}
 use Rattle.join_core.proofs.OrderLemmas.{JoinRow-same_fields}
 
--- what two periods share, equal periods do
+-- equal periods share the same period
 shared_alike : (a b c d p : Period) → a ≡ c → b ≡ d → IsShared a b p → IsShared c d p
 shared_alike a b c d p e f shared =
     subst (λ (v : Period). IsShared v d p) e (subst (λ (v : Period). IsShared a v p) f shared)
@@ -26,15 +26,15 @@ module _ (left_here right_here left_there right_there : List Column) (on_here on
     (rights : StandFor right_of right_id right)
     (alike : MatchAlike (MatchesOn left_here right_here on_here) (MatchesOn left_there right_there on_there) left_of right_of
     left right) where
-  -- a row of the join of those that stand for others
+  -- A row of the join of the rows that stand for others.
   abbrev IsRowHere : JoinRow → Type 0
   IsRowHere = IsJoinRow (MatchesOn left_here right_here on_here) left right
 
-  -- a row of the join of these
+  -- A row of the join of the others.
   abbrev IsRowThere : JoinRow → Type 0
   IsRowThere = IsJoinRow (MatchesOn left_there right_there on_there) (map left_of left) (map right_of right)
 
-  -- the one is, with other ids, the other
+  -- the first is, with mapped ids, the second
   row_there : (row : JoinRow) → IsRowHere row → IsRowThere (join_row_of left_id right_id row)
   row_there row is = record {
     x = left_of is.x;
@@ -48,7 +48,7 @@ module _ (left_here right_here left_there right_there : List Column) (on_here on
         (sym (lefts.period_is is.x is.x_in)) (sym (rights.period_is is.y is.y_in)) is.shared;
   }
 
-  -- and the other comes of one
+  -- and each of the second comes from one of the first
   row_here : (row : JoinRow) → IsRowThere row
       → (some : JoinRow) × IsRowHere some × (join_row_of left_id right_id some ≡ row)
   row_here row is =
@@ -75,13 +75,13 @@ module _ (left_here right_here left_there right_there : List Column) (on_here on
             (sym (rights.id_is y y_in) ∙ ap (λ (v : Row). v.id) y_is ∙ sym is.right_id),
       )
 
-  -- both are ordered alike
+  -- both are in the same order
   rows_alike : (a b : JoinRow) → join_cmp (join_row_of left_id right_id a) (join_row_of left_id right_id b) ≡ join_cmp a b
   rows_alike a b =
       λ i. ordering_then (ordering_then (int_cmp a.period.from b.period.from) (int_cmp a.period.to b.period.to))
       (ordering_then (ids_alike left_of left_id left lefts a.left b.left i) (ids_alike right_of right_id right rights a.right b.right i))
 
--- whatever the columns
+-- for any columns
 pub join_is_of_codes : JoinIsOfCodes
 join_is_of_codes left_here right_here left_there right_there on_here on_there left right left_of right_of left_id
     right_id rows lefts rights alike =

@@ -21,7 +21,7 @@ use Rattle.join_core.proofs.OrderLemmas.{sorted_rows}
 use Rattle.join_core.proofs.PairLemmas.{rows_at, rows_of, there}
 use Rattle.join_core.proofs.PartLemmas.{one_part, part_of}
 
--- an item of an id lies in one part
+-- the item with an id is in one part
 one-part_of_id : (ps : List (List Item)) (i j : ℕ) (x y : Item) → HasDistinctIds (all_of ps)
     → Contains (part_at ps i) x → Contains (part_at ps j) y → x.id ≡ y.id → i ≡ j
 one-part_of_id ps i j x y distinct h k e =
@@ -37,7 +37,7 @@ module _ (ps qs : List (List Item)) (outs : List (JoinOut JoinRow)) (len : lengt
       → AreItemsRows (part_at ps (i / length qs)) (part_at qs (i % length qs)) o.hits.items
   rows-of_pair i o at = rows_at ps qs outs values left_ids right_ids i o at
 
-  -- a row of some pair is one of all items
+  -- a row of some pair is a row of all items
   row-of_all : (row : JoinRow) → Contains (rows_in outs) row → IsItemsJoinRow (all_of ps) (all_of qs) row
   row-of_all row c =
       let (i, o, at, row_in) = Contains-flat_map_source (λ (out : JoinOut JoinRow). out.hits.items) outs row c in
@@ -45,7 +45,7 @@ module _ (ps qs : List (List Item)) (outs : List (JoinOut JoinRow)) (len : lengt
       row-moved (part_at ps (i / length qs)) (part_at qs (i % length qs)) (all_of ps) (all_of qs) row w
       (contains-all_of ps (i / length qs) w.x w.x_in) (contains-all_of qs (i % length qs) w.y w.y_in)
 
-  -- a row of all items is one of some pair
+  -- a row of all items is a row of some pair
   row-of_pairs : (row : JoinRow) → IsItemsJoinRow (all_of ps) (all_of qs) row → Contains (rows_in outs) row
   row-of_pairs row w =
       let (l, l_in, x_in) = part_of ps w.x w.x_in in
@@ -56,7 +56,7 @@ module _ (ps qs : List (List Item)) (outs : List (JoinOut JoinRow)) (len : lengt
       (((rows_of ps qs outs values left_ids right_ids l r o r_in at).exactly row).1
       (row-moved (all_of ps) (all_of qs) (part_at ps l) (part_at qs r) row w x_in y_in))
 
-  -- no row comes twice
+  -- no row occurs twice
   rows-differ : AllPairs (λ x y. x ≢ y) (rows_in outs)
   rows-differ =
       AllPairs-flat_map (λ x y. x ≢ y) (λ (out : JoinOut JoinRow). out.hits.items) outs
@@ -75,14 +75,14 @@ module _ (ps qs : List (List Item)) (outs : List (JoinOut JoinRow)) (len : lengt
       ∙ ap (λ n. j / length qs * length qs + n) r ∙ div-add-mod' j (length qs) in
       absurd (omega (arith, same, less)))
 
-  -- the rows of all pairs are those of all items
+  -- the rows of all pairs are the rows of all items
   rows-of_all : AreItemsRows (all_of ps) (all_of qs) (rows_in outs)
   rows-of_all = record {
     ordered = rows-differ;
     exactly = λ row. (λ c. row-of_all row c, λ w. row-of_pairs row w);
   }
 
--- the rows of all pairs are those of the items that were divided
+-- the rows of all pairs are the rows of the items that were divided
 pub AreItemsRows-of_pairs : (A B : List Item) (ps qs : List (List Item)) (outs : List (JoinOut JoinRow))
     → length outs ≡ length ps * length qs → AreFirstValues ps qs outs → IsPermutation A (all_of ps)
     → IsPermutation B (all_of qs) → HasDistinctIds A → HasDistinctIds B → AreItemsRows A B (rows_in outs)
@@ -91,7 +91,7 @@ AreItemsRows-of_pairs A B ps qs outs len values pa pb da db =
     (rows-of_all ps qs outs len values (HasDistinctIds-permutation A (all_of ps) pa da)
     (HasDistinctIds-permutation B (all_of qs) pb db))
 
--- sorted they are the join
+-- sorted, they are the join
 pub IsItemsJoin-sorted : (A B : List Item) (found rows : List JoinRow) → AreItemsRows A B found
     → IsPermutation found rows → IsSorted join_cmp rows → IsItemsJoin A B rows
 IsItemsJoin-sorted A B found rows all moved sorted = record {

@@ -1,4 +1,4 @@
--- The least number of parts goes by the periods of the items alone.
+-- The least number of parts depends only on the periods of the items.
 use Rattle.std.proofs.Common.{◌≡◌, ℕ, ◌+◌, ◌<◌, ◌≤◌, ℤ, pos, List, [], ◌∷◌, ◌++◌, length, map, get_or, cond, Option, Some, None, refl, sym, subst, ap, ◌∙◌, arith}
 use Rattle.std.specs.Prelude.{IsPermutation}
 use Rattle.std.proofs.lemmas.List.{length-map, map-append, get_or-map, nil_from_length}
@@ -19,12 +19,12 @@ all_of-map [] = refl
 all_of-map (p ∷ parts) =
     ap (λ l. map unclassed p ++ l) (all_of-map parts) ∙ sym (map-append unclassed p (all_of parts))
 
--- an item without its class has its period
+-- an item without its class has the same period
 period_at : (items : List Item) (i : ℕ) (d : Item) → i < length items
     → (get_or (map unclassed items) i d).period ≡ (get_or items i d).period
 period_at items i d h = ap (λ (x : Item). x.period) (get_or-map unclassed items i d d h)
 
--- items that don't overlap don't without their classes
+-- items that don't overlap don't overlap without their classes
 IsApart-unclassed : (items : List Item) → IsApart items → IsApart (map unclassed items)
 IsApart-unclassed items apart i j d below within o =
     let n = length-map items unclassed in
@@ -32,7 +32,7 @@ IsApart-unclassed items apart i j d below within o =
     let other = period_at items j d (omega (arith, n)) in
     apart i j d below (omega (arith, n)) (rw (← one, ← other) o)
 
--- a division of items is one of them without their classes
+-- a division of items is a division of the items without classes
 pub IsDivision-unclassed : (items : List Item) (parts : List (List Item)) → IsDivision items parts
     → IsDivision (map unclassed items) (map (map unclassed) parts)
 IsDivision-unclassed items parts d = record {
@@ -43,7 +43,7 @@ IsDivision-unclassed items parts d = record {
   apart = All-map IsApart (map unclassed) parts (λ k e h. IsApart-unclassed (get_or parts k e) (d.apart k e h));
 }
 
--- as many items hold an instant without their classes
+-- the overlap count is the same without classes
 pub crowd-unclassed : (items : List Item) (t : ℤ) → crowd (map unclassed items) t ≡ crowd items t
 crowd-unclassed [] t = refl
 crowd-unclassed (x ∷ items) t =
@@ -51,7 +51,7 @@ crowd-unclassed (x ∷ items) t =
     ∙ ap (λ n. cond (holds_at t x.period) 1 0 + n) (crowd-unclassed items t)
     ∙ sym (sum_by-cons (λ (y : Item). cond (holds_at t y.period) 1 0) x items)
 
--- some instant is held by as many items as there are parts
+-- the overlap count at some instant is the number of parts
 pub crowded : (items : List Item) (parts : List (List Item)) (instant : Option ℤ) → IsDivision items parts
     → IsInstantOf parts instant → (t : ℤ) × (crowd items t ≡ length parts)
 crowded items parts None d is =
@@ -73,7 +73,7 @@ IsLeast-unclassed items parts instant d is =
     (IsLeast-from_crowd (map unclassed items) (map (map unclassed) parts) at.0 (IsDivision-unclassed items parts d)
     (crowd-unclassed items at.0 ∙ at.1 ∙ sym n))
 
--- there is one least number
+-- the least number is unique
 pub least_once : (items : List Item) (k n : ℕ) → IsLeast items k → IsLeast items n → k ≡ n
 least_once items k n a b =
     let u = a.least b.reached.0 b.reached.1 in
@@ -82,7 +82,7 @@ least_once items k n a b =
     let f = b.reached.2 in
     omega (arith, u, v, e, f)
 
--- which is no greater than that of the items
+-- and is at most the number of items
 pub least-few : (items : List Item) (k : ℕ) → IsLeast (map unclassed items) k → k ≤ length items
 least-few items k least =
     let parts = least.reached.0 in

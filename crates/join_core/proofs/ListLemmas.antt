@@ -1,4 +1,4 @@
--- What stands in lists that are made of lists, and what lists have in common.
+-- The elements of lists that are made from lists, and of two lists together.
 use Rattle.std.proofs.Common.{◌≡◌, ◌⊎◌, ℕ, zero, suc, ◌+◌, ◌<◌, List, [], ◌∷◌, ◌++◌, length, take, flat_map, AllPairs, Bool, true, false, Some, refl, sym, subst, ◌∙◌, inl, inr, arith}
 use Rattle.std.specs.Prelude.{Contains, slice_get}
 use Rattle.std.specs.Bool.{Decides}
@@ -8,11 +8,11 @@ use Rattle.std.proofs.lemmas.List.Elements.{Contains-append_left, Contains-appen
 use Rattle.list_core.proofs.RisingLemmas.{Contains-head, Contains-cons, Contains-cons_cases, Contains-none}
 use Rattle.list_core.proofs.WantedLemmas.{AllPairs-append}
 
--- nothing holds of what can't be
+-- falsity is a proposition
 pub nothing_prop : IsProp ⊥
 nothing_prop = hlevel props
 
--- what stands in a list, and is not its first, stands in the rest
+-- an element that isn't the first is in the rest
 Contains-rest : {X : Type 0} (eq : X → X → Bool) → ((a b : X) → Decides (eq a b) (a ≡ b))
     → (y : X) (ys : List X) (x : X) → eq y x ≡ false → Contains (y ∷ ys) x → Contains ys x
 Contains-rest eq same y ys x other c = elim (Contains-cons_cases y ys x c) [
@@ -20,7 +20,7 @@ Contains-rest eq same y ys x other c = elim (Contains-cons_cases y ys x c) [
   | inr k ↦ k
 ]
 
--- something stands in a list, where it is known only that it does, and `==` finds it
+-- the truncated fact that a list contains an element gives the fact, because `==` finds it
 pub Contains-opened : {X : Type 0} (eq : X → X → Bool) → ((a b : X) → Decides (eq a b) (a ≡ b)) → (xs : List X) (x : X)
     → ∥ Contains xs x ∥₁ → Contains xs x
 Contains-opened eq same [] x bare = absurd (∥∥₁_elim bare nothing_prop (λ c. Contains-none x c))
@@ -32,7 +32,7 @@ Contains-opened {X} eq same (y ∷ ys) x bare =
     by_test true e later = subst (Contains (y ∷ ys)) ((same y x).0 e) (Contains-head y ys)
     by_test false e later = Contains-cons y ys x (later e)
 
--- what stands in one of the lists stands in all of them together
+-- an element of one of the lists is in all of them together
 pub Contains-flat_map : {X A : Type 0} (f : X → List A) (xs : List X) (i : ℕ) (x : X) (a : A)
     → slice_get xs i ≡ Some x → Contains (f x) a → Contains (flat_map f xs) a
 Contains-flat_map f [] i x a at h = cc
@@ -42,7 +42,7 @@ Contains-flat_map f (y ∷ xs) zero x a at h =
 Contains-flat_map f (y ∷ xs) (suc i) x a at h =
     Contains-append_right (f y) (flat_map f xs) a (Contains-flat_map f xs i x a at h)
 
--- what stands in all of them together stands in one of them
+-- an element of all of them together is in one of them
 pub Contains-flat_map_source : {X A : Type 0} (f : X → List A) (xs : List X) (a : A) → Contains (flat_map f xs) a
     → (i : ℕ) × (x : X) × (slice_get xs i ≡ Some x) × Contains (f x) a
 Contains-flat_map_source f [] a h = absurd (Contains-none a h)
@@ -51,7 +51,7 @@ Contains-flat_map_source f (y ∷ xs) a h = elim (Contains-append_cases (f y) (f
   | inr k ↦ let r = Contains-flat_map_source f xs a k in (suc r.0, r.1, r.2, r.3)
 ]
 
--- lists in order, each before the later ones, are in order together
+-- if lists are in order, and each list before the later ones, they are in order together
 pub AllPairs-flat_map : {X A : Type 0} (R : A → A → Type 0) (f : X → List A) (xs : List X)
     → ((i : ℕ) (x : X) → slice_get xs i ≡ Some x → AllPairs R (f x))
     → ((i j : ℕ) (x y : X) (a b : A) → i < j → slice_get xs i ≡ Some x → slice_get xs j ≡ Some y
@@ -66,7 +66,7 @@ AllPairs-flat_map R f (x ∷ xs) each across =
     let r = Contains-flat_map_source f xs b k in
     across 0 (suc r.0) x r.1 a b (omega arith) refl r.2 h r.3)
 
--- an element of one list behind another
+-- an element of two lists together
 pub slice_get-append_cases : {X : Type 0} (xs ys : List X) (i : ℕ) (x : X) → slice_get (xs ++ ys) i ≡ Some x
     → (slice_get xs i ≡ Some x) ⊎ ((k : ℕ) × (i ≡ length xs + k) × (slice_get ys k ≡ Some x))
 slice_get-append_cases [] ys i x h = inr (i, omega arith, h)
@@ -76,7 +76,7 @@ slice_get-append_cases (z ∷ xs) ys (suc i) x h = elim (slice_get-append_cases 
   | inr k ↦ inr (k.0, (let e = k.1 in omega (arith, e)), k.2)
 ]
 
--- an element of the front, which is one of the whole list
+-- an element of a prefix is an element of the list
 pub within_take : {X : Type 0} (xs : List X) (n i : ℕ) (x : X) → slice_get (take n xs) i ≡ Some x
     → (i < n) × (slice_get xs i ≡ Some x)
 within_take [] zero i x h = cc

@@ -9,11 +9,11 @@ use Rattle.join_core.specs.declared.join_pairs.JoinOut.{JoinOut}
 use Rattle.join_core.specs.declared.rows.JoinRow.{JoinRow}
 use Rattle.join_core.specs.PairValues.{rows_in, turns_in}
 
--- the rows of some values and of those behind them
+-- the rows of two lists of values
 pub rows_in-append : (xs ys : List (JoinOut JoinRow)) → rows_in (xs ++ ys) ≡ rows_in xs ++ rows_in ys
 rows_in-append xs ys = flat_map-append (λ (o : JoinOut JoinRow). o.hits.items) xs ys
 
--- one value more
+-- one more value
 pub rows_in-more : (outs : List (JoinOut JoinRow)) (i : ℕ) (o : JoinOut JoinRow) (old before after : List JoinRow)
     → slice_get outs i ≡ Some o → before ≡ old ++ rows_in (take i outs) → after ≡ before ++ o.hits.items
     → after ≡ old ++ rows_in (take (i + 1) outs)
@@ -26,14 +26,14 @@ rows_in-more outs i o old before after at was now =
     (sym (ap rows_in front ∙ rows_in-append (take i outs) (o ∷ [])
     ∙ ap (λ l. rows_in (take i outs) ++ l) (append-nil o.hits.items)))
 
--- the advances so far, with those of one value more
+-- the advances until now, and of one more value
 pub turns_in-more : (outs : List (JoinOut JoinRow)) (i : ℕ) (o : JoinOut JoinRow) → slice_get outs i ≡ Some o
     → turns_in (take (i + 1) outs) ≡ turns_in (take i outs) + o.turns
 turns_in-more outs i o at =
     sum_by_more (λ (out : JoinOut JoinRow). out.turns) outs i o (slice_get_within outs i o at)
     ∙ ap (λ (v : JoinOut JoinRow). turns_in (take i outs) + v.turns) (get_or_from_slice_get outs i o o at)
 
--- they are no more than those of all
+-- they are no more than all advances
 pub turns_in-more_le : (outs : List (JoinOut JoinRow)) (i : ℕ) (o : JoinOut JoinRow) → slice_get outs i ≡ Some o
     → turns_in (take i outs) + o.turns ≤ turns_in outs
 turns_in-more_le outs i o at =

@@ -1,4 +1,4 @@
--- A side's items in whichever order.
+-- A side's items in any order.
 use Rattle.std.proofs.Common.{◌≡◌, ◌∙◌, ◌≤◌, ℕ, List, length, map, refl, sym, subst, ap, arith}
 use Rattle.std.specs.Prelude.{IsPermutation}
 use Rattle.std.proofs.lemmas.List.Sorted.{IsPermutation-map, IsPermutation-sym, length_permutation}
@@ -13,12 +13,12 @@ use Rattle.match_core.proofs.SideIds.{side-distinct}
 use Rattle.match_core.proofs.Sided.{IsSide, side_len}
 use Rattle.join_core.proofs.RowLemmas.{side-unclassed}
 
--- the items are those of the rows, with the classes, in some order
+-- The items are the rows' items with the classes, in some order.
 pub record IsMovedSide (rows : List Row) (classes : List ℕ) (items : List Item) : Type 0 where
   pub moved : IsPermutation (items_with rows classes) items
   pub enough : length rows ≤ length classes
 
--- items made of the rows and their classes are that side
+-- items made from a side's rows and their classes
 pub moved_made : (rows : List Row) (classes : List ℕ) (items : List Item) → AreItemsByClass rows classes items
     → length classes ≡ length rows → IsMovedSide rows classes items
 moved_made rows classes items made count = record { moved = made.same; enough = omega (arith, count) }
@@ -28,7 +28,7 @@ in_order : (rows : List Row) (classes : List ℕ) (items : List Item) → IsMove
     → IsSide rows classes (items_with rows classes)
 in_order rows classes items side = record { are = refl; enough = side.enough }
 
--- there are as many items as rows
+-- the number of items is the number of rows
 pub moved_len : (rows : List Row) (classes : List ℕ) (items : List Item) → IsMovedSide rows classes items
     → length items ≡ length rows
 moved_len rows classes items side =
@@ -43,7 +43,7 @@ moved_distinct rows classes items side rise =
     HasDistinctIds-permutation all items side.moved
     (side-distinct rows classes all (in_order rows classes items side) rise)
 
--- the least number of parts is that of the rows
+-- their least number of parts is the rows' one
 pub moved_least : (rows : List Row) (classes : List ℕ) (items : List Item) → IsMovedSide rows classes items
     → (k : ℕ) → IsLeast (items_of rows) k → IsLeast (map unclassed items) k
 moved_least rows classes items side k least =

@@ -1,4 +1,4 @@
--- The order of the rows of a join, and lists of rows that are sorted by it.
+-- The order of a join's rows, and sorted lists of rows.
 use Rattle.std.proofs.Common.{◌≡◌, ◌≢◌, List, AllPairs, sym, ap}
 use Rattle.std.specs.Prelude.{IsPermutation, IsSorted}
 use Rattle.std.specs.Bool.{Decides}
@@ -18,7 +18,7 @@ use Rattle.join_core.specs.contracts.rows.JoinRowPartialEq.TheImpl.{eq-value}
 pub JoinRow-same_fields : (a b : JoinRow) → a.period ≡ b.period → a.left ≡ b.left → a.right ≡ b.right → a ≡ b
 JoinRow-same_fields a b p l r = λ k. record { period = p k; left = l k; right = r k }
 
--- `==` of two rows decides whether they are one
+-- `==` decides whether two rows are equal
 pub row_eq-Decides : (a b : JoinRow) → Decides (eq-value.it a b) (a ≡ b)
 row_eq-Decides a b = Decides-like _
     (λ h. JoinRow-same_fields a b (Period-same a.period b.period h.0.0 h.0.1) h.1.0 h.1.1)
@@ -36,13 +36,13 @@ join_total =
     then_total (then_total (on_total (λ x. x.period.from) int_cmp_total) (on_total (λ x. x.period.to) int_cmp_total))
     (then_total (on_total (λ x. x.left) nat_cmp_total) (on_total (λ x. x.right) nat_cmp_total))
 
--- two joins of the same rows are one
+-- two joins of the same rows are equal
 pub IsJoin-unique : (Matches : Row → Row → Type 0) (left right : List Row) (one other : List JoinRow)
     → IsJoin Matches left right one → IsJoin Matches left right other → one ≡ other
 IsJoin-unique Matches left right one other is is' =
     IsListOf-unique RowBefore (IsJoinRow Matches left right) one other (before-asym join_cmp join_total) is is'
 
--- rows that tie are one
+-- rows that compare as equal are equal
 pub tied_rows : (a b : JoinRow) → join_cmp a b ≡ Equal → a ≡ b
 tied_rows a b e =
     let halves = both_tie _ _ e in
@@ -53,7 +53,7 @@ tied_rows a b e =
     (int_ranked a.period.to b.period.to Equal (sym ends.1)))
     (ranked a.left b.left Equal (sym ids.0)) (ranked a.right b.right Equal (sym ids.1))
 
--- rows that differ are in order once they are sorted
+-- different rows are in strict order once they are sorted
 pub sorted_rows : (xs ys : List JoinRow) → AllPairs (λ x y. x ≢ y) xs → IsPermutation xs ys → IsSorted join_cmp ys
     → AllPairs RowBefore ys
 sorted_rows xs ys differ moved sorted =

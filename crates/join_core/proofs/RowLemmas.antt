@@ -1,4 +1,4 @@
--- From the join of items to that of their rows.
+-- From the join of items to the join of their rows.
 use Rattle.std.proofs.Common.{◌≡◌, ◌≤◌, ℕ, List, length, [], ◌∷◌, map, refl, sym, subst, ap, ◌∙◌, arith}
 use Rattle.period_core.specs.declared.period.Period.{Period}
 use Rattle.row_core.specs.declared.row.Row.{Row}
@@ -13,7 +13,7 @@ use Rattle.join_core.specs.declared.rows.JoinRow.{JoinRow}
 use Rattle.join_core.specs.ItemJoin.{IsItemsJoinRow, IsItemsJoin}
 use Rattle.join_core.specs.Join.{RowBefore, IsJoinRow, IsJoin}
 
--- items without their classes are those of the rows
+-- items without their classes are the rows' items
 unclassed-items_with : (rows : List Row) (classes : List ℕ) → length rows ≤ length classes
     → map unclassed (items_with rows classes) ≡ items_of rows
 unclassed-items_with [] classes enough = refl
@@ -21,7 +21,7 @@ unclassed-items_with (r ∷ rows) [] enough = absurd (omega arith)
 unclassed-items_with (r ∷ rows) (c ∷ classes) enough =
     ap (λ l. item_of r ∷ l) (unclassed-items_with rows classes (omega arith))
 
--- so are those of a side
+-- so are a side's items
 pub side-unclassed : (rows : List Row) (classes : List ℕ) (items : List Item) → IsSide rows classes items
     → map unclassed items ≡ items_of rows
 side-unclassed rows classes items side =
@@ -30,7 +30,7 @@ side-unclassed rows classes items side =
 module _ (Matches : Row → Row → Type 0) (left right : List Row) (lefts rights : List ℕ)
     (left_enough : length left ≤ length lefts) (right_enough : length right ≤ length rights)
     (tell : ClassesTell Matches left lefts right rights) where
-  -- a row of the items' join is one of the rows'
+  -- a row of the items' join is a row of the rows' join
   row-of_items : (j : JoinRow) → IsItemsJoinRow (items_with left lefts) (items_with right rights) j
       → IsJoinRow Matches left right j
   row-of_items j i =
@@ -49,7 +49,7 @@ module _ (Matches : Row → Row → Type 0) (left right : List Row) (lefts right
             (subst (λ (p : Period). IsShared i.x.period p j.period) b.1.period i.shared);
       }
 
-  -- a row of the rows' join is one of the items'
+  -- a row of the rows' join is a row of the items' join
   row-of_rows : (j : JoinRow) → IsJoinRow Matches left right j
       → IsItemsJoinRow (items_with left lefts) (items_with right rights) j
   row-of_rows j i =
@@ -68,7 +68,7 @@ module _ (Matches : Row → Row → Type 0) (left right : List Row) (lefts right
             (subst (λ (p : Period). IsShared i.x.period p j.period) (sym b.1.period) i.shared);
       }
 
-  -- the join of the items is that of the rows
+  -- the join of the items is the join of the rows
   pub IsJoin-of_items : (rows : List JoinRow) → IsItemsJoin (items_with left lefts) (items_with right rights) rows
       → IsJoin Matches left right rows
   IsJoin-of_items rows lists =

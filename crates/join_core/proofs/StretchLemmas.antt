@@ -1,4 +1,4 @@
--- The pairs of a join, stretch by stretch.
+-- The pairs of a join, one stretch at a time.
 use Rattle.std.proofs.Common.{◌≡◌, ℕ, ◌+◌, ◌*◌, ◌/◌, ◌%◌, ◌^◌, ◌<◌, ◌≤◌, List, [], ◌++◌, length, Some, refl, sym, subst, ap, ◌∙◌, inl, inr, arith, append-nil, append_assoc, length-append}
 use Rattle.std.specs.Prelude.{slice_get}
 use Rattle.std.proofs.lemmas.List.Sums.{sum_by-append}
@@ -14,11 +14,11 @@ use Rattle.join_core.proofs.ListLemmas.{slice_get-append_cases}
 use Rattle.join_core.proofs.LoopLemmas.{rows_in-append}
 use Rattle.join_core.proofs.TurnLemmas.{few-turns, few-turns_of}
 
--- the value of a pair, by its number
+-- The value of a pair, by its number.
 abbrev pub IsValueAt : List (List Item) → List (List Item) → ℕ → JoinOut JoinRow → Type 0
 IsValueAt ps qs i o = ∥ IsPairValue row_of_hit (part_at ps (i / length qs)) (part_at qs (i % length qs)) o ∥₁
 
--- the values of the first pairs, and of those behind them
+-- the values of the first pairs, and of the pairs after them
 values-more : (ps qs : List (List Item)) (n : ℕ) (outs new : List (JoinOut JoinRow)) → length outs ≡ n → AreFirstValues ps qs outs
     → ((i : ℕ) (o : JoinOut JoinRow) → slice_get new i ≡ Some o → IsValueAt ps qs (n + i) o)
     → AreFirstValues ps qs (outs ++ new)
@@ -46,7 +46,7 @@ AreOfFirstPairs-more ps qs n rows turns new rows' turns' count is len each more 
       turns_are = ap (λ k. k + turns') is.turns_are ∙ ap (λ k. turns_in is.outs + k) added ∙ sym all;
     }
 
--- the same behind rows that were there
+-- the same after rows that were there
 pub AddsFirstPairs-more : (ps qs : List (List Item)) (n : ℕ) (old rows : List JoinRow) (turns : ℕ)
     (new : List (JoinOut JoinRow)) (rows' : List JoinRow) (turns' count : ℕ) → AddsFirstPairs ps qs n old rows turns
     → length new ≡ count → ((i : ℕ) (o : JoinOut JoinRow) → slice_get new i ≡ Some o → IsValueAt ps qs (n + i) o)
@@ -79,14 +79,14 @@ few-of ps qs n outs hp hq each =
     few-turns_of (part_at ps ((n + i) / length qs)) (part_at qs ((n + i) % length qs)) o (omega (arith, l, hp))
     (omega (arith, r, hq)) (each i o h))
 
--- those of a stretch fit a number
+-- the advances of a stretch fit 64 bits
 pub stretch-fits : (ps qs : List (List Item)) (n : ℕ) (outs : List (JoinOut JoinRow)) → length (all_of ps) ≤ item_limit
     → length (all_of qs) ≤ item_limit
     → ((i : ℕ) (o : JoinOut JoinRow) → slice_get outs i ≡ Some o → IsValueAt ps qs (n + i) o)
     → length outs ≤ pair_limit → turns_in outs < 2 ^ 64
 stretch-fits ps qs n outs hp hq each few = let most = few-of ps qs n outs hp hq each in omega (arith, most, few)
 
--- with those of all pairs before it
+-- together with the advances of all pairs before it
 pub stretches-fit : (ps qs : List (List Item)) (n : ℕ) (rows : List JoinRow) (turns : ℕ) (new : List (JoinOut JoinRow))
     → AreOfFirstPairs ps qs n rows turns
     → length (all_of ps) ≤ item_limit → length (all_of qs) ≤ item_limit
@@ -100,7 +100,7 @@ stretches-fit ps qs n rows turns new is hp hq each few =
     let t : turns ≡ turns_in is.outs = is.turns_are in
     omega (arith, now, before, l, t, few)
 
--- after all pairs of two divisions, which are these
+-- after all pairs of two divisions, given as equal lists
 pub AddsFirstPairs-of : (us vs ps qs : List (List Item)) (old new : List JoinRow) (turns : ℕ) → us ≡ ps → vs ≡ qs
     → AddsFirstPairs us vs (length us * length vs) old new turns
     → AddsFirstPairs ps qs (length ps * length qs) old new turns

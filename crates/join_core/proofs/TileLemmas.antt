@@ -51,7 +51,7 @@ AreSome-without items xs ys zs some = record {
       let few = some.few in omega (arith, a, b, c, few));
 }
 
--- in another order
+-- permuted
 AreSome-permutation : (items xs ys : List Item) → IsPermutation xs ys → AreSome items xs → AreSome items ys
 AreSome-permutation items xs ys moved some = record {
   among = λ y h. some.among y (Contains-permutation ys xs y (IsPermutation-sym xs ys moved) h);
@@ -61,12 +61,12 @@ AreSome-permutation items xs ys moved some = record {
 
 -- ---- one side
 
--- what isn't passed of a side: items that started earlier and may hold, and those that start later
+-- The rest of a side: items that started earlier and may still hold, and items that start later.
 pub record IsSide (items early rest : List Item) : Type 0 where
   pub some : AreSome items (early ++ rest)
   pub rise : StartsRise rest
 
--- at first all start later
+-- at first all items start later
 pub IsSide-all : (items : List Item) → HasDistinctIds items → length items ≤ item_limit → StartsRise items
     → IsSide items [] items
 IsSide-all items ids few rise = record { some = record { among = λ x h. h; ids = ids; few = few }; rise = rise }
@@ -90,13 +90,13 @@ module _ (items early rest started later kept : List Item) (cut : ℤ) (side : I
       subst (λ l. IsPermutation (early ++ started) (l ++ passed)) (sym kept_is)
       (IsPermutation-filter_both (holds_from cut) (λ x. not (holds_from cut x)) (λ x. refl) (early ++ started))
 
-  -- what is kept was there
+  -- a kept item was there
   pub kept-there : (x : Item) → Contains kept x → Contains (early ++ started) x
   kept-there x h =
       Contains-permutation (kept ++ passed) (early ++ started) x
       (IsPermutation-sym (early ++ started) (kept ++ passed) kept_passed) (Contains-append_left kept passed x h)
 
-  -- what holds from the cut on is kept
+  -- an item that holds from the cut on is kept
   pub kept-from : (x : Item) → Contains (early ++ started) x → cut <ℤ x.period.to → Contains kept x
   kept-from x h holds =
       elim (Contains-append_cases kept passed x
@@ -109,7 +109,7 @@ module _ (items early rest started later kept : List Item) (cut : ℤ) (side : I
             absurd (grind (arith, ints)))
       ]
 
-  -- so it is with the next cut
+  -- so this is the rest at the next cut
   pub side_next : IsSide items kept later
   side_next = record {
     some = AreSome-without items kept passed later
@@ -121,7 +121,7 @@ module _ (items early rest started later kept : List Item) (cut : ℤ) (side : I
 
 -- ---- both sides
 
--- both items are still to stand together in a tile
+-- Both items must still get into one tile together.
 abbrev IsOwed : (early_left left early_right right : List Item) → Item → Item → Type 0
 IsOwed early_left left early_right right x y =
     (Contains left x × Contains (early_right ++ right) y) ⊎ (Contains early_left x × Contains right y)
@@ -129,11 +129,11 @@ IsOwed early_left left early_right right x y =
 abbrev IsTiled : List Tile → Item → Item → Type 0
 IsTiled tiles x y = (tile : Tile) × Contains tiles tile × HasPair x y tile
 
--- no two items stand together in both tiles
+-- No two items are together in both tiles.
 abbrev HaveNone : Tile → Tile → Type 0
 HaveNone a b = (x y : Item) → HasPair x y a → HasPair x y b → ⊥
 
--- the tiles so far, and what isn't passed of both sides
+-- The tiles until now, and the rest of both sides.
 pub record IsTiling
     (left right early_left rest_left early_right rest_right : List Item) (tiles : List Tile) : Type 0 where
   pub lefts : All (λ (tile : Tile). AreSome left tile.left.items) tiles
@@ -153,7 +153,7 @@ tiling_start left right = record {
   others = λ tile x y h p o. absurd (Contains-none tile h);
 }
 
--- where nothing is left these are the tiles
+-- if the rest is empty, the tiles are complete
 pub tiling_end : (left right early_left early_right : List Item) (tiles : List Tile)
     → IsTiling left right early_left [] early_right [] tiles → AreTiles left right tiles
 tiling_end left right early_left early_right tiles is = record {
@@ -228,7 +228,7 @@ module _ (left right early_left rest_left early_right rest_right started_left la
   later_y y h =
       subst (λ l. Contains l y) (sym right_is) (Contains-append_right started_right later_right y h)
 
-  -- a right item that isn't passed is there before the next cut or starts from it on
+  -- a right item of the rest is there before the next cut, or starts from it on
   all_y : (y : Item) → Contains (early_right ++ rest_right) y
       → Contains (early_right ++ started_right) y ⊎ Contains later_right y
   all_y y h = elim (Contains-append_cases early_right rest_right y h) [
@@ -245,7 +245,7 @@ module _ (left right early_left rest_left early_right rest_right started_left la
     | inr k ↦ Contains-append_right early_right rest_right y (started_y y k)
   ]
 
-  -- two items that overlap stand together in one of both tiles, or are still owed
+  -- two items that overlap are together in one of the two tiles, or must still get into one
   was_cases : (x y : Item) → Was x y → Overlap x.period y.period
       → HasPair x y adds.one ⊎ (HasPair x y adds.other ⊎ Next x y)
   was_cases x y was o = elim was [
@@ -265,7 +265,7 @@ module _ (left right early_left rest_left early_right rest_right started_left la
     ]
   ]
 
-  -- what is still owed was so before
+  -- items that must still get into one had to before
   was-next : (x y : Item) → Next x y → Was x y
   was-next x y next = elim next [
     | inl p ↦ inl (
@@ -287,7 +287,7 @@ module _ (left right early_left rest_left early_right rest_right started_left la
   was-other : (x y : Item) → HasPair x y adds.other → Was x y
   was-other x y p = let (h, k) = of_other x y p in inr (h, started_y y k)
 
-  -- no item stands twice on a side
+  -- no item is twice on a side
   early_apart : (x : Item) → Contains early_left x → Contains started_left x → ⊥
   early_apart x h k =
       ids-apart early_left started_left x x (distinct-earlier (early_left ++ started_left) later_left lefts.ids) h k refl
@@ -313,7 +313,7 @@ module _ (left right early_left rest_left early_right rest_right started_left la
     | inr q ↦ right_apart y (Contains-append_right early_right started_right y k) q.1
   ]
 
-  -- the two tiles that are added
+  -- The two tiles that are added.
   abbrev both : List Tile
   both = adds.one ∷ adds.other ∷ []
 
@@ -393,22 +393,22 @@ module _ (left right early_left rest_left early_right rest_right started_left la
     ];
   }
 
-  -- two tiles more
+  -- two more tiles
   pub tiling_more : IsTiling left right kept_left later_left kept_right later_right new
   tiling_more =
       subst (IsTiling left right kept_left later_left kept_right later_right) (sym adds.split) tiling_both
 
 -- ---- from cut to cut
 
--- what overlaps an item that starts from the cut on holds from it on
+-- an item that overlaps one that starts from the cut on holds from the cut on
 later_end : (cut : ℤ) (x y : Item) → cut ≤ℤ y.period.from → Overlap x.period y.period → cut <ℤ x.period.to
 later_end cut x y from o = let ends = Overlap-ends x.period y.period o in let late = ends.1 in omega (arith, ints)
 
--- and so does what it overlaps
+-- and vice versa
 later_end-back : (cut : ℤ) (x y : Item) → cut ≤ℤ x.period.from → Overlap x.period y.period → cut <ℤ y.period.to
 later_end-back cut x y from o = let ends = Overlap-ends x.period y.period o in let late = ends.0 in omega (arith, ints)
 
--- the tiles of a cut more
+-- the tiles of one more cut
 pub tiling_cut : (left right early_left rest_left early_right rest_right started_left later_left started_right later_right
     kept_left kept_right : List Item) (cut : ℤ) (one : IsSide left early_left rest_left)
     (other : IsSide right early_right rest_right) (lefts : AreCutAt cut rest_left started_left later_left)
@@ -435,7 +435,7 @@ tiling_cut left right early_left rest_left early_right rest_right started_left l
     (later_end-back cut x y (All-contains (λ (z : Item). cut ≤ℤ z.period.from) later_left x lefts.from h) o))
     old new adds is
 
--- the last ones: nothing starts later
+-- the last tiles: no item starts later
 pub tiling_last : (left right early_left rest_left early_right rest_right : List Item)
     → IsSide left early_left rest_left → IsSide right early_right rest_right → (old new : List Tile)
     → AddsTiles early_left rest_left early_right rest_right old new
@@ -450,7 +450,7 @@ tiling_last left right early_left rest_left early_right rest_right one other old
 
 -- ---- the whole
 
--- the tiles of items are those of others that are the same but for their order
+-- the tiles of permuted items are tiles of the items
 pub AreTiles-permutation : (left right lefts rights : List Item) (tiles : List Tile) → IsPermutation left lefts
     → IsPermutation right rights → AreTiles lefts rights tiles → AreTiles left right tiles
 AreTiles-permutation left right lefts rights tiles one other are = record {
@@ -482,7 +482,7 @@ AreTiles-divisible left right tiles are = λ i d h. record {
   right_few = (are.rights i d h).few;
 }
 
--- tiles that are found are
+-- the tiles that were found are complete
 pub are_found : (left right : List Item) (most : ℕ) (tiles : Vec Tile) (found : Option (Vec Tile)) → found ≡ Some tiles
     → IfSome found (λ some. AreTiles left right some.items × (reads_in some.items ≤ most))
     → AreTiles left right tiles.items × (reads_in tiles.items ≤ most)

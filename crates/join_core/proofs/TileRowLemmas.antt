@@ -31,7 +31,7 @@ AddsTilesRows-none rows = record {
   all = IsListOf-none (λ (a b : JoinRow). a ≢ b) (IsRowIn []) (λ row is. Contains-none is.0 is.1);
 }
 
--- a tile has no row of an earlier one
+-- a tile has no row of an earlier tile
 earlier-tile : (tiles : List Tile) (i : ℕ) (tile a : Tile) → i < length tiles → tile ≡ get_or tiles i tile
     → AllPairs HaveNoRow tiles → Contains (take i tiles) a → HaveNoRow a tile
 earlier-tile tiles i tile a inside at apart h =
@@ -41,7 +41,7 @@ earlier-tile tiles i tile a inside at apart h =
     subst (λ (t : Tile). HaveNoRow t tile) is
     (subst (HaveNoRow (get_or tiles h.0 a)) (sym (get_or_read tiles i tile inside at a)) (apart h.0 i a less inside))
 
--- a tile more
+-- one more tile
 pub AddsTilesRows-more : (tiles : List Tile) (i : ℕ) (tile : Tile) (old rows new : List JoinRow) → i < length tiles
     → tile ≡ get_or tiles i tile → AllPairs HaveNoRow tiles → AddsTilesRows (take i tiles) old rows
     → AddsItemsRows tile.left.items tile.right.items rows new → AddsTilesRows (take (i + 1) tiles) old new
@@ -72,7 +72,7 @@ AddsTilesRows-more tiles i tile old rows new inside at apart is more = record {
           ]
         ])
 
--- with its reads
+-- and its reads
 pub reads_in-more : (tiles : List Tile) (i : ℕ) (tile : Tile) → i < length tiles → tile ≡ get_or tiles i tile
     → reads_in (take (i + 1) tiles)
     ≡ reads_in (take i tiles) + 2 * (length tile.left.items * length tile.right.items)
@@ -109,7 +109,7 @@ module _ (left right : List Item) (tiles : List Tile) (are : AreTiles left right
   right-among tile y h k =
       (All-contains (λ (t : Tile). AreSome right t.right.items) tiles tile are.rights h).among y k
 
-  -- no row is one of two tiles
+  -- no row belongs to two tiles
   pub apart-rows : HasDistinctIds left → HasDistinctIds right → AllPairs HaveNoRow tiles
   apart-rows left_ids right_ids i j d less inside = λ row p q.
       (let a = get_or tiles i d in
@@ -125,7 +125,7 @@ module _ (left right : List Item) (tiles : List Tile) (are : AreTiles left right
       are.once i j d less inside p.x p.y (p.x_in, p.y_in)
       (subst (λ z. Contains b.left.items z) one q.x_in, subst (λ z. Contains b.right.items z) same q.y_in))
 
-  -- a row of a tile is one of the items
+  -- a row of a tile is a row of the items
   of_tile : (row : JoinRow) → IsRowIn tiles row → IsItemsJoinRow left right row
   of_tile row p = record {
     x = p.2.x;
@@ -138,7 +138,7 @@ module _ (left right : List Item) (tiles : List Tile) (are : AreTiles left right
     shared = p.2.shared;
   }
 
-  -- and each of theirs is one of a tile
+  -- and each row of the items is a row of a tile
   in_tile : (row : JoinRow) → IsItemsJoinRow left right row → IsRowIn tiles row
   in_tile row is =
       let (tile, there, both) = are.whole is.x is.y is.x_in is.y_in
@@ -157,7 +157,7 @@ module _ (left right : List Item) (tiles : List Tile) (are : AreTiles left right
         },
       )
 
-  -- so they are those of the items
+  -- so they are the rows of the items
   pub AddsItemsRows-tiles : (old new : List JoinRow) → AddsTilesRows tiles old new → AddsItemsRows left right old new
   AddsItemsRows-tiles old new adds = record {
     added = adds.added;

@@ -19,7 +19,7 @@ use Rattle.join_core.proofs.ListLemmas.{within_take}
 use Rattle.join_core.proofs.PairLemmas.{value_of}
 use Rattle.join_core.proofs.ValueLemmas.{le_prop, AreAdvances-opened}
 
--- one value more
+-- one more value
 pub turns_in-cons : (o : JoinOut JoinRow) (outs : List (JoinOut JoinRow)) → turns_in (o ∷ outs) ≡ o.turns + turns_in outs
 turns_in-cons o outs = sum_by-cons (λ (out : JoinOut JoinRow). out.turns) o outs
 
@@ -105,7 +105,7 @@ pub few-turns_of : (p q : List Item) (o : JoinOut JoinRow) → length p ≤ item
 few-turns_of p q o hp hq bare =
     ∥∥₁_elim bare (le_prop _ _) (λ v. let most = v.turns.at_most in omega (arith, most, hp, hq))
 
--- so have some pairs
+-- and so have several pairs
 pub few-turns : (outs : List (JoinOut JoinRow)) → ((i : ℕ) (o : JoinOut JoinRow) → slice_get outs i ≡ Some o → o.turns ≤ 2_000_000)
     → turns_in outs ≤ length outs * 2_000_000
 few-turns outs each =

@@ -1,4 +1,4 @@
--- The rows and the advances of a pair of parts, from the bare fact that they are its value.
+-- The rows and the advances of a pair of parts, from the truncated fact that they are its value.
 use Rattle.std.proofs.Common.{◌≡◌, ◌≢◌, ℕ, ◌≤◌, List, [], ◌∷◌, map, AllPairs, refl, sym, subst, ap, ◌∙◌, inl, inr, arith}
 use Rattle.std.specs.Prelude.{Contains}
 use Rattle.std.proofs.Math.Logic.{∥∥₁_elim, ∥∥₁_map}
@@ -22,26 +22,26 @@ use Rattle.join_core.specs.PairValues.{IsPairValue, row_of_hit}
 use Rattle.join_core.proofs.ListLemmas.{Contains-opened, nothing_prop}
 use Rattle.join_core.proofs.OrderLemmas.{JoinRow-same_fields, row_eq-Decides}
 
--- what is shared is shared in one way
+-- sharing a period is a proposition
 shared_prop : (a b p : Period) → IsProp (IsShared a b p)
 shared_prop a b p = hlevel props
 
--- a bound holds in one way
+-- a bound is a proposition
 pub le_prop : (a b : ℕ) → IsProp (a ≤ b)
 le_prop a b = hlevel props
 
--- rows differ in one way
+-- that rows differ is a proposition
 differ_prop : (rows : List JoinRow) → IsProp (AllPairs (λ a b. a ≢ b) rows)
 differ_prop rows = hlevel props
 
--- the bounds of advances, from the bare fact that they hold
+-- the bounds of advances, from the truncated fact
 pub AreAdvances-opened : (p q : List Item) (n : ℕ) → ∥ AreAdvances p q n ∥₁ → AreAdvances p q n
 AreAdvances-opened p q n bare = record {
   at_least = ∥∥₁_elim bare (le_prop _ _) (λ v. v.at_least);
   at_most = ∥∥₁_elim bare (le_prop _ _) (λ v. v.at_most);
 }
 
--- the item of an id, from the bare fact that there is one
+-- the item with an id, from the truncated fact that there is one
 item-opened : (items : List Item) (id : ℕ) → ∥ ((x : Item) × Contains items x × (id ≡ x.id)) ∥₁
     → (x : Item) × Contains items x × (id ≡ x.id)
 item-opened [] id bare = absurd (∥∥₁_elim bare nothing_prop (λ s. Contains-none s.0 s.1))
@@ -59,7 +59,7 @@ item-opened (y ∷ items) id bare = elim (cases_eq id y.id) [
     ]
 
 module _ (p q : List Item) where
-  -- the row of a hit is one of both parts
+  -- the row of a hit is a row of both parts
   row-of_hit : (hit : Hit) → IsHit p q hit → IsItemsJoinRow p q (row_of_hit hit)
   row-of_hit hit is = record {
     x = hit.left;
@@ -72,7 +72,7 @@ module _ (p q : List Item) where
     shared = is.shared;
   }
 
-  -- each row of both parts is that of a hit
+  -- each row of both parts is the row of a hit
   row-from_hit : (hits : List Hit) → ((hit : Hit) → IsHit p q hit → Contains hits hit) → (row : JoinRow)
       → IsItemsJoinRow p q row → Contains (map row_of_hit hits) row
   row-from_hit hits all row w =
@@ -83,7 +83,7 @@ module _ (p q : List Item) where
       (JoinRow-same_fields (row_of_hit hit) row refl (sym w.left_id) (sym w.right_id))
       (Contains-map row_of_hit hits hit is)
 
-  -- the rows of all hits are those of both parts
+  -- the rows of all hits are the rows of both parts
   rows-of_hits : (hits : List Hit) → IsListOf HitStartsBefore (IsHit p q) hits → AreItemsRows p q (map row_of_hit hits)
   rows-of_hits hits all = record {
     ordered = AllPairs-map HitStartsBefore (λ (a b : JoinRow). a ≢ b) row_of_hit hits
@@ -98,12 +98,12 @@ module _ (p q : List Item) where
     );
   }
 
-  -- the rows of a value are
+  -- and so are the rows of a value
   rows-of_value : (out : JoinOut JoinRow) → IsPairValue row_of_hit p q out → AreItemsRows p q out.hits.items
   rows-of_value out v = subst (AreItemsRows p q) (sym v.made) (rows-of_hits v.hits v.all)
 
   module _ (left_ids : IdsTell p) (right_ids : IdsTell q) where
-    -- a row of both parts, from the bare fact that it is one
+    -- a row of both parts, from the truncated fact
     row-opened : (row : JoinRow) → ∥ IsItemsJoinRow p q row ∥₁ → IsItemsJoinRow p q row
     row-opened row bare =
         let (x, x_in, left_id) = item-opened p row.left (∥∥₁_map bare (λ w. (w.x, w.x_in, w.left_id))) in
@@ -125,7 +125,7 @@ module _ (p q : List Item) where
               (subst (λ (u : Item). IsShared u.period w.y.period row.period) (one w) w.shared));
         }
 
-    -- the rows of a pair of parts, from the bare fact that they are its value
+    -- the rows of a pair of parts, from the truncated fact that they are its value
     pub rows-opened : (out : JoinOut JoinRow) → ∥ IsPairValue row_of_hit p q out ∥₁ → AreItemsRows p q out.hits.items
     rows-opened out bare =
         let rows : ∥ AreItemsRows p q out.hits.items ∥₁ = ∥∥₁_map bare (rows-of_value out) in

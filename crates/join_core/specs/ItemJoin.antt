@@ -1,4 +1,4 @@
--- The join of two lists of items, which match where their classes are equal.
+-- The join of two lists of items, which match if their classes are equal.
 use Rattle.std.specs.Prelude.{◌≡◌, ◌≢◌, List, Contains}
 use Rattle.dip_core.specs.declared.item.Item.{Item}
 use Rattle.list_core.specs.Wanted.{IsListOf}
@@ -6,7 +6,7 @@ use Rattle.merge_core.specs.Hits.{IsShared}
 use Rattle.join_core.specs.declared.rows.JoinRow.{JoinRow}
 use Rattle.join_core.specs.Join.{RowBefore}
 
--- the ids of a left and a right item of one class that share an instant, with all the instants that they share
+-- The ids of a left and a right item of one class that share an instant, with all instants that they share.
 pub record IsItemsJoinRow (left right : List Item) (row : JoinRow) : Type 0 where
   pub x : Item
   pub y : Item
@@ -17,10 +17,10 @@ pub record IsItemsJoinRow (left right : List Item) (row : JoinRow) : Type 0 wher
   pub matches : x.class ≡ y.class
   pub shared : IsShared x.period y.period row.period
 
--- all of them, each once, by start, end, left id and right id
+-- All such rows, each once, by start, end, left id and right id.
 abbrev pub IsItemsJoin : List Item → List Item → List JoinRow → Type 0
 IsItemsJoin left right rows = IsListOf RowBefore (IsItemsJoinRow left right) rows
 
--- all of them, each once, in any order
+-- All such rows, each once, in any order.
 abbrev pub AreItemsRows : List Item → List Item → List JoinRow → Type 0
 AreItemsRows left right rows = IsListOf (λ a b. a ≢ b) (IsItemsJoinRow left right) rows

@@ -8,17 +8,17 @@ use Rattle.list_core.specs.Wanted.{IsListOf}
 use Rattle.merge_core.specs.Hits.{IsShared}
 use Rattle.join_core.specs.declared.rows.JoinRow.{JoinRow}
 
--- the order by start, end, left id and right id
+-- The order by start, end, left id and right id.
 abbrev pub join_cmp : JoinRow → JoinRow → Ordering
 join_cmp a b =
     ordering_then (ordering_then (int_cmp a.period.from b.period.from) (int_cmp a.period.to b.period.to))
     (ordering_then (nat_cmp a.left b.left) (nat_cmp a.right b.right))
 
--- a comes before b in that order
+-- `a` comes before `b` in this order.
 abbrev pub RowBefore : JoinRow → JoinRow → Type 0
 RowBefore a b = join_cmp a b ≡ Less
 
--- the ids of a left and a right row that match and share an instant, with all the instants that they share
+-- The ids of a left and a right row that match and share an instant, with all instants that they share.
 pub record IsJoinRow (Matches : Row → Row → Type 0) (left right : List Row) (row : JoinRow) : Type 0 where
   pub x : Row
   pub y : Row
@@ -29,12 +29,12 @@ pub record IsJoinRow (Matches : Row → Row → Type 0) (left right : List Row) 
   pub matches : Matches x y
   pub shared : IsShared x.period y.period row.period
 
--- all of them, each once, by start, end, left id and right id
+-- All such rows, each once, by start, end, left id and right id.
 abbrev pub IsJoin : (Row → Row → Type 0) → List Row → List Row → List JoinRow → Type 0
 IsJoin Matches left right rows = IsListOf RowBefore (IsJoinRow Matches left right) rows
 
--- at least k * m, and at most m * a + k * b: what it takes to read each of k parts, which have a rows in all, against
--- each of m parts, which have b
+-- `turns` is at least k * m, and at most m * a + k * b. The latter is the number of items read if each of k parts with
+-- a rows in total is read against each of m parts with b rows.
 pub record IsWithin (k m a b turns : ℕ) : Type 0 where
   pub at_least : k * m ≤ turns
   pub at_most : turns ≤ m * a + k * b

@@ -1,16 +1,16 @@
--- The joins of rows that are sent to lots, beside the join of all.
+-- The joins of lots of rows, compared with the join of all rows.
 use Rattle.match_core.specs.Lots.{LotIsOfWhole, LotsAreApart, WholeIsOfLots}
 use Rattle.join_core.specs.Join.{IsJoinRow, RowBefore}
 
--- where rows that match are sent to one lot, the join of what is sent to a lot is the rows of the join of all whose
--- left row is
+-- If matching rows go to the same lot, and the left ids are ascending, the join of a lot is the rows of the whole join
+-- whose left row goes to that lot.
 abbrev pub LotJoinIsOfWhole : Type 0
 LotJoinIsOfWhole = LotIsOfWhole RowBefore IsJoinRow (λ row. row.left)
 
--- the join of all is the list, in order, of what stands in the joins of the lots
+-- If matching rows go to the same lot, the join of all rows is the ordered list of the rows of the lots' joins.
 abbrev pub WholeJoinIsOfLots : Type 0
 WholeJoinIsOfLots = WholeIsOfLots RowBefore IsJoinRow
 
--- no row stands in the joins of two lots
+-- If the left ids are ascending, no row is in the joins of two lots.
 abbrev pub LotJoinsAreApart : Type 0
 LotJoinsAreApart = LotsAreApart RowBefore IsJoinRow

@@ -1,5 +1,5 @@
-//! The advances that a join answers: those that were made, or as many as there would be pairs of parts if each side were
-//! divided as a whole, whichever is more.
+//! The number of advances that a join returns. It is the larger of two: the advances that were made, and the number of
+//! pairs of parts if each side were divided as a whole.
 
 ghost use Rattle.std.specs.Prelude.{◌≡◌, ◌≤◌, ◌*◌, ℕ, length, map, IfOk, IsTrue};
 ghost use Rattle.dip_core.specs.Division.{IsLeast};
@@ -14,7 +14,7 @@ use period_core::NoMemory;
 use std::thread::Threads;
 use work_core::Crew;
 
-/// The advances over the parts of some items, and how many parts either side has.
+/// The advances over the parts of some items, and each side's number of parts.
 #[derive(Clone, Copy)]
 pub(crate) struct Advances {
     pub made: u64,
@@ -23,7 +23,7 @@ pub(crate) struct Advances {
 }
 
 impl Advances {
-    /// Those for no items.
+    /// Returns the counts for no items.
     pub(crate) fn none() -> Self
         ensures { result ≡ record { made = 0; left_parts = 0; right_parts = 0 } }
     {
@@ -34,7 +34,7 @@ impl Advances {
         }
     }
 
-    /// Those for these items and for others.
+    /// Returns the counts for these items and others together.
     pub(crate) fn plus(self, more: Advances) -> Advances
         requires { FitTogether self more }
         ensures { result ≡ both_made self more }
@@ -46,8 +46,8 @@ impl Advances {
         }
     }
 
-    /// Whether they are at least as many as there are pairs of a left and a right part. No side has to be divided into
-    /// more parts than it has here, so then they are enough.
+    /// Returns whether there were at least as many advances as pairs of a left and a right part. No side needs more
+    /// parts than it has here, so then the advances are enough.
     fn are_enough(self) -> bool
         requires lefts { self.left_parts ≤ item_limit }
         requires rights { self.right_parts ≤ item_limit }
@@ -57,8 +57,8 @@ impl Advances {
     }
 }
 
-/// The advances that are answered where so many were made: the least numbers of parts are found only where the parts
-/// that were made don't show that there were enough.
+/// Returns the number of advances to report. The least numbers of parts are computed only if the existing parts don't
+/// show that there were enough advances.
 pub(crate) fn turns_answered<R: Threads + Sync, G>(
     crew: &Crew<'_, R, G>,
     left: &[Item],

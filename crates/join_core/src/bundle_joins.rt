@@ -1,5 +1,5 @@
-//! The rows of items, a bundle at a time: all items of some classes, which are divided on their own. Items of other
-//! classes don't match them, so the parts of a bundle are paired with each other alone.
+//! The rows of items, one bundle at a time. A bundle is all items of some classes, which are divided separately. Items
+//! of other classes don't match them, so only parts of the same bundle are paired.
 
 ghost use Rattle.std.specs.Prelude.{◌≡◌, ◌<◌, ◌≤◌, ◌*◌, ◌++◌, ◌^◌, length, All, AllPairs, IfOk};
 ghost use Rattle.std.specs.Thread.{IsSync};
@@ -22,10 +22,10 @@ use share_core::{Range, shared_out};
 use std::thread::Threads;
 use work_core::{Crew, Gate};
 
-/// Fewer pairs of a left and a right item are read beside each other before another worker has started.
+/// With fewer pairs of a left and a right item, one worker has compared them before another has started.
 const ITEM_PAIRS_FOR_WORKERS: usize = 16_384;
 
-/// How many workers join some of the items: one where there are few.
+/// Returns how many workers join some items: one if there are few items.
 fn workers_for(left: &[Item], right: &[Item], workers: u32) -> u32
     requires { 0 < workers }
     ensures { (0 < result) × (result ≤ workers) }
@@ -76,8 +76,7 @@ fn add_rows_of_tiles<R: Threads + Sync, G: Gate>(
     Ok(made)
 }
 
-/// Adds the rows of a bundle, and returns the advances for them. Where its tiles have less to read than all its parts,
-/// they are read.
+/// Adds the rows of a bundle, and returns the advances for them. It uses tiles if they pay (see `tiles_of`).
 fn add_rows_of_bundle<R: Threads + Sync, G: Gate>(
     crew: &Crew<'_, R, G>,
     left: &[Item],
@@ -108,8 +107,8 @@ fn add_rows_of_bundle<R: Threads + Sync, G: Gate>(
     })
 }
 
-/// The rows of all items, bundle by bundle. The last bundle has the right items above all left ones, which match none:
-/// they count for the least number of parts.
+/// Returns the rows of all items, bundle by bundle. The last bundle has the right items whose classes are above all
+/// left ones. They match nothing, but count for the least number of parts.
 fn rows_of_bundles<R: Threads + Sync, G: Gate>(
     crew: &Crew<'_, R, G>,
     left: &[Item],
@@ -149,7 +148,7 @@ fn rows_of_bundles<R: Threads + Sync, G: Gate>(
     })
 }
 
-/// The rows of the items of a range's classes.
+/// Returns the rows of the items whose classes are within a range.
 fn rows_of_range<R: Threads + Sync, G: Gate>(
     crew: &Crew<'_, R, G>,
     range: Range<u64>,
@@ -167,7 +166,7 @@ fn rows_of_range<R: Threads + Sync, G: Gate>(
     rows_of_bundles(crew, items_in(range, left), items_in(range, right))
 }
 
-/// The rows of items whose classes rise, which the workers share out by ranges of classes.
+/// Returns the rows of items in ascending order of class. The workers partition them by ranges of classes.
 pub(crate) fn rows_of_classes<R: Threads + Sync, G: Gate>(
     crew: &Crew<'_, R, G>,
     left: &[Item],

@@ -1,4 +1,4 @@
-//! How many items hold at once at most: the least number of parts into which they can be divided.
+//! The highest overlap count of some items, which is the least number of parts they can be divided into.
 
 ghost use Rattle.std.specs.Prelude.{◌≡◌, ◌≤◌, length, map, IfOk, IsSorted};
 ghost use Rattle.std.specs.Ordering.{int_cmp};
@@ -14,21 +14,21 @@ use std::alloc::Global;
 use std::thread::Threads;
 use work_core::Crew;
 
-/// The starts of the items.
+/// Returns the starts of the items.
 fn starts_of(alloc: Global, items: &[Item]) -> Result<Vec<Point>, NoMemory>
     ensures { IfOk result (λ starts. starts.items ≡ starts_of items.now) }
 {
     items.iter().map(|item| item.period.from).collect(alloc)
 }
 
-/// The ends of the items.
+/// Returns the ends of the items.
 fn ends_of(alloc: Global, items: &[Item]) -> Result<Vec<Point>, NoMemory>
     ensures { IfOk result (λ ends. ends.items ≡ ends_of items.now) }
 {
     items.iter().map(|item| item.period.to).collect(alloc)
 }
 
-/// The points in their order.
+/// Returns the points in ascending order.
 fn in_order<R: Threads + Sync, G>(crew: &Crew<'_, R, G>, mut points: Vec<Point>) -> Vec<Point>
     ensures { AreOrdered points.items result.items }
 {
@@ -36,8 +36,9 @@ fn in_order<R: Threads + Sync, G>(crew: &Crew<'_, R, G>, mut points: Vec<Point>)
     points
 }
 
-/// How many have started and not ended at once at most. Each start takes the place of the first that has ended and whose
-/// place was not taken; where there is none, one more is there than ever before.
+/// Returns the highest number of periods that hold at once, given all starts and all ends in order. Each start takes
+/// over from the earliest end that no other start has taken over. If that end is still to come, the maximum grows by
+/// one.
 fn most_at_once(starts: &[Point], ends: &[Point]) -> usize
     requires len { length starts.now ≡ length ends.now }
     requires starts_rise { IsSorted int_cmp starts.now }
@@ -54,7 +55,7 @@ fn most_at_once(starts: &[Point], ends: &[Point]) -> usize
     most
 }
 
-/// The least number of parts of some items, whatever their classes: as many as hold at once at most.
+/// Returns the least number of parts of some items, whatever their classes: their highest overlap count.
 pub(crate) fn least_parts<R: Threads + Sync, G>(
     crew: &Crew<'_, R, G>,
     items: &[Item],

@@ -1,4 +1,4 @@
-//! What is found of a join: its rows in any order, and the advances by which they were found.
+//! The rows of a join in any order, and the advances that found them.
 
 ghost use Rattle.std.specs.Prelude.{◌≡◌, IfOk};
 ghost use Rattle.join_core.specs.Found.{FitAll, all_made, all_rows};
@@ -9,7 +9,7 @@ use list_core::in_one_list;
 use period_core::NoMemory;
 use std::alloc::Global;
 
-/// The rows of a join in any order, and the advances by which they were found.
+/// The rows of a join in any order, and the advances that found them.
 #[derive(Drop)]
 pub(crate) struct FoundRows {
     pub rows: Vec<JoinRow>,
@@ -17,7 +17,7 @@ pub(crate) struct FoundRows {
 }
 
 impl FoundRows {
-    /// What was found of all, one behind another.
+    /// Returns all results as one, in order.
     pub(crate) fn of_all(alloc: Global, all: Vec<FoundRows>) -> Result<FoundRows, NoMemory>
         requires { FitAll all.items }
         ensures { IfOk result (λ found. (found.rows.items ≡ all_rows all.items)

@@ -23,12 +23,12 @@ use work_core::{Crew, Gate};
 pub struct JoinAnswer {
     /// The rows, by start, end, left id and right id.
     pub rows: JoinRows,
-    /// Advances: at least as many as there would be pairs of parts if each side were divided as a whole. Where the cursors
-    /// of the parts that were read made more, which a test shows, it is those.
+    /// The number of advances: at least the number of pairs of parts if each side were divided as a whole. If the
+    /// cursors advanced more often, it is that number, as a test shows.
     pub turns: u64,
 }
 
-/// The rows of items whose classes rise, in any order, and the advances that are answered.
+/// Returns the rows of items in ascending order of class, in any order of rows, and the number of advances to report.
 fn rows_by_class<R: Threads + Sync, G: Gate>(
     crew: &Crew<'_, R, G>,
     left: &[Item],
@@ -50,7 +50,7 @@ fn rows_by_class<R: Threads + Sync, G: Gate>(
     Ok((rows, turns))
 }
 
-/// The join of two lists of items whose classes rise, which match where these are equal.
+/// Returns the join of two lists of items in ascending order of class. Items match if their classes are equal.
 pub(crate) fn join_items<R: Threads + Sync, G: Gate>(
     crew: &Crew<'_, R, G>,
     left: Vec<Item>,

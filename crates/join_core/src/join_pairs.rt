@@ -10,16 +10,16 @@ use period_core::NoMemory;
 use std::alloc::Global;
 use std::marker::PhantomData;
 
-/// The value of a pair of parts: their hits, or what is made of each.
+/// The value of a pair of parts: their hits, or values made from them.
 #[derive(Drop)]
 pub struct JoinOut<T = Hit> {
-    /// What the items of the two parts share, by rising start.
+    /// The periods that items of the two parts share, in ascending order of start.
     pub hits: Vec<T>,
-    /// The advances for them: at least as many as the shorter part has items, and at most as many as both have.
+    /// The advances for them: at least the length of the shorter part, at most the length of both.
     pub turns: u64,
 }
 
-/// Finds what the items of two parts share, and makes this of each hit.
+/// Finds the hits of two parts, and makes a value from each hit.
 pub struct JoinWork<T> {
     made: PhantomData<T>,
 }
@@ -36,8 +36,8 @@ impl<T: FromHit + Send + Sync> PartWork for JoinWork<T> {
     }
 }
 
-/// The pairs of parts of two divisions, and as the value of each what its two parts share.
+/// The pairs of parts of two divisions, with the hits of each pair as its value.
 pub type JoinPairs<'a> = PartPairs<'a, JoinWork<Hit>>;
 
-/// The same pairs, and the rows of what they share.
+/// The same pairs, with the rows of their hits.
 pub(crate) type RowPairs<'a> = PartPairs<'a, JoinWork<JoinRow>>;

@@ -16,18 +16,18 @@ use std::alloc::Global;
 use std::thread::Threads;
 use work_core::{Crew, Gate};
 
-/// The pairs of a left and a right row that are equal in each named pair of columns and share an instant, each
-/// with all the instants that both hold, by start, end, left id and right id: the same rows for every number of
-/// workers. Both sides are divided, some values of the columns at a time, and the gate is called before and after each
-/// pair of parts, which tests show.
+/// Returns the pairs of a left and a right row that are equal in each named pair of columns and share an instant, each
+/// with all instants that both hold, by start, end, left id and right id. The rows are the same for every number of
+/// workers. Both sides are divided, one bundle of column values at a time. The gate is called before and after each
+/// pair of parts, as tests show.
 ///
-/// The advances that are answered are at least k * m, for k and m, the least numbers of parts of all left and of all right
-/// rows, and with a left rows and b right rows at most m * a + k * b. They are those that the cursors of these parts made,
-/// where these are more than k * m, which a test shows.
+/// Let k and m be the least numbers of parts of all left and all right rows, with a left rows and b right rows. The
+/// reported number of advances is at least k * m and at most m * a + k * b. If the cursors advanced more often than
+/// the lower bound, their number is reported, as a test shows.
 ///
 /// # Errors
 ///
-/// What refuses the columns, and `NoMemory` after it, where a growth is refused.
+/// Why the columns are refused; otherwise `NoMemory` if an allocation is refused.
 pub fn join<R: Threads + Sync, G: Gate>(
     rt: &R,
     alloc: Global,
@@ -54,7 +54,7 @@ pub fn join<R: Threads + Sync, G: Gate>(
     Ok(answer)
 }
 
-/// The join, by columns that can be compared.
+/// Returns the join by columns that can be compared.
 fn join_rows<R: Threads + Sync, G: Gate>(
     crew: &Crew<'_, R, G>,
     left: Side<'_>,

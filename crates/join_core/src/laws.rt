@@ -1,4 +1,4 @@
-//! Laws of joins.
+//! Laws on joins.
 
 ghost use Rattle.std.specs.Prelude.{◌≡◌, List};
 ghost use Rattle.row_core.specs.declared.row.Row.{Row};
@@ -22,27 +22,28 @@ pub fn join_has_one_list()
         → IsJoin (MatchesOn left_columns right_columns on) left right other → one ≡ other }
 {}
 
-/// What is sent to lots can be joined lot by lot. A function sends each left row to a lot, and another each right row,
-/// so that rows that match are sent to one. Then the join of all is the ordered list of what stands in those of the lots.
-/// Where the left rows' ids rise too, the join of what is sent to a lot is just the rows of the join of all whose left row
-/// is sent there, in their order. Where they rise, no row stands in two of them, whatever is sent where. Rows keep their
-/// ids and periods. Whether a program outside sends rows so is not said here.
+/// Rows can be joined in lots, which partition them: one function sends each left row to a lot, another one each right
+/// row, and matching rows go to the same lot. Then the join of all rows is the ordered list of the rows of all lots'
+/// joins. If the left rows' ids are ascending, the join of a lot is the rows of the whole join whose left row goes to
+/// that lot, in the same order. If they are ascending, no row is in the joins of two lots, whatever the functions are.
+/// Rows keep their ids and periods. The law doesn't say whether a program outside sends rows so.
 pub fn join_is_that_of_its_lots()
     ensures lot { LotJoinIsOfWhole }
     ensures whole { WholeJoinIsOfLots }
     ensures apart { LotJoinsAreApart }
 {}
 
-/// Rows can be joined as others that stand for them: in a table of their own, with their periods and compared values
-/// alone, and with ids of their own that rise with theirs. The join of those, with the ids given back, is the join of
-/// these. So a run that numbers the rows of a lot anew, by their order, answers the lot's join.
+/// Rows can be joined through rows that stand for them, in a table of their own. These need the same periods, the same
+/// compared values, and ids in the same order. Their join, with the ids mapped back, is the join of the original rows.
+/// So a run that renumbers the rows of a lot in order answers the lot's join.
 pub fn join_is_that_of_stand_ins()
     ensures { JoinIsOfStandIns }
 {}
 
-/// Rows can be joined as others with numbers in place of what is compared, where a left and a right row match exactly
-/// where those do that they stand for. They have the periods of these, and ids that rise with theirs. The join of those,
-/// with the ids given back, is the join of these. Whether a program outside numbers values so is not said here.
+/// Rows can be joined through rows with numbers in place of the compared values, if a left and a right row match
+/// exactly if the rows they stand for match. They have the same periods, and ids in the same order. Their join, with
+/// the ids mapped back, is the join of the original rows. The law doesn't say whether a program outside numbers values
+/// so.
 pub fn join_is_that_of_codes()
     ensures { JoinIsOfCodes }
 {}

@@ -1,7 +1,7 @@
 #![tactic(auto)]
 
-//! Which rows of two tables match and share an instant: both are divided, some classes at a time, and each part of the
-//! one is merged with each part of the other, by many workers.
+//! Finds which rows of two tables match and share an instant. Both sides are divided, some classes at a time, and
+//! several workers merge each part of one side with each part of the other.
 
 mod advances;
 mod bundle_joins;

@@ -9,8 +9,8 @@ use merge_core::{FromHit, Hit};
 use period_core::{NoMemory, Period};
 use work_core::Outs;
 
-/// The ids of a left and a right row, and the instants that both hold. Rows are ordered by start, end, left id
-/// and right id.
+/// The ids of a left and a right row, and the instants that both hold. Rows are ordered by start, end, left id and
+/// right id.
 #[derive(Clone, Copy, Debug, PartialEq, Eq, PartialOrd, Ord)]
 pub struct JoinRow {
     /// The instants that both hold.
@@ -21,7 +21,7 @@ pub struct JoinRow {
     pub right: u64,
 }
 
-/// The rows of a join, in their order.
+/// The rows of a join, in order.
 pub type JoinRows = List<JoinRow>;
 
 impl FromHit for JoinRow {
@@ -52,7 +52,7 @@ pub(crate) fn add_rows(
     Ok(())
 }
 
-/// The advances of all pairs.
+/// Returns the advances of all pairs.
 pub(crate) fn turns_of(outs: &Outs<JoinOut<JoinRow>>) -> u64
     requires { turns_in outs.now < 2 ^ 64 }
     ensures { result ≡ turns_in outs.now }

@@ -1,4 +1,4 @@
-//! The pairs of a join, run stretch by stretch.
+//! The pairs of a join, run one stretch of pairs at a time.
 
 ghost use Rattle.std.specs.Prelude.{◌≡◌, ◌<◌, ◌≤◌, ◌*◌, length, IfOk};
 ghost use Rattle.join_core.specs.PairValues.{AddsFirstPairs};

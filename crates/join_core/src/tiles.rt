@@ -1,6 +1,6 @@
-//! Left and right items in tiles: cut by time, so that items far from each other don't stand in one. That pays where
-//! many items of a side hold at once, but at other times than those of the other: the parts of both sides then have few
-//! items each, and nearly no part has an item that overlaps one of a part of the other side.
+//! Left and right items in tiles, which are cut by time so that items far from each other aren't in one tile. That
+//! pays if many items of a side hold at once, but at other times than the other side's. Then each side has many parts
+//! with few items, and almost no pair of parts has overlapping items.
 
 ghost use Rattle.std.specs.Prelude.{All, ◌≡◌, ◌≤◌, ◌++◌, length, filter, int_lt, IfOk, IfSome, IsPermutation, IsTrue, OnOk};
 ghost use Rattle.dip_core.specs.Item.{item_limit, HasDistinctIds};
@@ -13,7 +13,7 @@ use std::alloc::Global;
 use std::thread::Threads;
 use work_core::Crew;
 
-/// Left and right items that are read next to each other.
+/// Left and right items that are compared with each other.
 #[derive(Drop)]
 pub struct Tile {
     /// The left items.
@@ -22,19 +22,20 @@ pub struct Tile {
     pub right: Vec<Item>,
 }
 
-/// What a side has between two cuts.
+/// The items of one side between two cuts.
 #[derive(Clone, Copy)]
 struct Between<'a> {
-    /// What started before the first of them, and may hold later.
+    /// The items that started before the first cut and may still hold.
     earlier: &'a [Item],
-    /// What starts from the first on and before the second.
+    /// The items that start from the first cut on, before the second.
     started: &'a [Item],
 }
 
-/// Items are cut by time where each would else be read more often than this.
+/// Items are cut by time if the average item would otherwise be read at least this often.
 const READS: u64 = 256;
 
-/// So many items more have started since a cut, or have ended, than hold at the next one, at least.
+/// At a cut, at least this many fewer items hold than have started since the previous cut, or than half of the most
+/// that held at once since then.
 const MORE_PASSED: usize = 16;
 
 /// Adds the starts and the ends of some items.
@@ -50,13 +51,14 @@ fn add_ends(
     Ok(())
 }
 
-/// Returns the starts at which to cut left and right items, from all their starts and all their ends, each in order. A
-/// cut is made where no more items hold than have started since the cut before, or than half of those that held at once
-/// since then, so that the items that go on over cuts are no more than all starts and ends.
+/// Returns the starts at which to cut left and right items, from all starts and all ends, both in order. A cut is made
+/// at a start if at least `MORE_PASSED` fewer items hold than have started since the previous cut, or than half of the
+/// most that held at once since then. So the items carried over all cuts are no more than all starts and ends
+/// together.
 ///
 /// # Errors
 ///
-/// `NoMemory` if a growth is refused.
+/// `NoMemory` if an allocation is refused.
 pub fn cuts_of(alloc: Global, starts: &[Point], ends: &[Point]) -> Result<Vec<Point>, NoMemory> {
     let mut cuts = Vec::new(alloc);
     let (mut cut, mut most) = (0, 0);
@@ -78,7 +80,7 @@ pub fn cuts_of(alloc: Global, starts: &[Point], ends: &[Point]) -> Result<Vec<Po
     Ok(cuts)
 }
 
-/// Where both sides are cut.
+/// Returns the points at which both sides are cut.
 fn cuts_between<R: Threads + Sync, G>(
     crew: &Crew<'_, R, G>,
     left: &[Item],
@@ -93,7 +95,7 @@ fn cuts_between<R: Threads + Sync, G>(
     cuts_of(crew.alloc, &starts, &ends)
 }
 
-/// The items by their starts.
+/// Returns the items in ascending order of start.
 fn by_start<R: Threads + Sync, G>(
     crew: &Crew<'_, R, G>,
     items: &[Item],
@@ -106,7 +108,7 @@ fn by_start<R: Threads + Sync, G>(
     Ok(sorted)
 }
 
-/// The items that start before the cut, and those that start from it on.
+/// Returns the items that start before the cut, and the others.
 fn cut_at(cut: Point, items: &[Item]) -> (&[Item], &[Item])
     requires { StartsRise items.now }
     ensures { AreCutAt cut items.now result.0.now result.1.now }
@@ -115,7 +117,7 @@ fn cut_at(cut: Point, items: &[Item]) -> (&[Item], &[Item])
     items.split_at(started)
 }
 
-/// Some items, and behind them others.
+/// Returns both lists as one.
 fn one_behind_other(alloc: Global, some: &[Item], others: &[Item]) -> Result<Vec<Item>, NoMemory>
     ensures { IfOk result (λ all. all.items ≡ some.now ++ others.now) }
 {
@@ -124,7 +126,7 @@ fn one_behind_other(alloc: Global, some: &[Item], others: &[Item]) -> Result<Vec
     Ok(all)
 }
 
-/// Adds what started to the earlier items, and leaves out those that end up to the cut.
+/// Adds the started items to the earlier ones, and removes the items that end at or before the cut.
 fn keep_holding(earlier: &mut Vec<Item>, started: &[Item], cut: Point) -> Result<(), NoMemory>
     ensures { OnOk result (earlier.new.items
         ≡ filter (λ x. int_lt cut x.period.to) (earlier.old.items ++ started.now)) }
@@ -134,8 +136,8 @@ fn keep_holding(earlier: &mut Vec<Item>, started: &[Item], cut: Point) -> Result
     Ok(())
 }
 
-/// Adds the tiles of two cuts: the left items that start between them beside all right ones, and the right ones that do
-/// beside the left ones that started before.
+/// Adds the two tiles between two cuts: the left items that start there with all right items, and the earlier left
+/// items with the right items that start there.
 fn push_tiles(
     alloc: Global,
     left: Between<'_>,
@@ -156,7 +158,7 @@ fn push_tiles(
     Ok(())
 }
 
-/// The tiles of items by their starts, two from each cut to the next.
+/// Returns the tiles of items that are in order of start, two from each cut to the next.
 fn tiles_at(
     alloc: Global,
     left: &[Item],
@@ -205,7 +207,7 @@ fn tiles_at(
     Ok(tiles)
 }
 
-/// Whether no more than so many items are read in the tiles.
+/// Returns whether at most `most` items are read in the tiles.
 fn reads_upto(tiles: &[Tile], most: u64) -> bool
     requires { All IsDivisible tiles.now }
     ensures { IsTrue result → reads_in tiles.now ≤ most }
@@ -221,17 +223,19 @@ fn reads_upto(tiles: &[Tile], most: u64) -> bool
     true
 }
 
-/// Whether so many items may be read so often in all pairs of parts that it pays to look for tiles.
+/// Returns whether it pays to look for tiles: whether each of `items` items is read often if all pairs of parts read
+/// `most` items.
 pub fn are_read_often(items: usize, most: u64) -> bool {
     items as u64 <= most / READS
 }
 
-/// Returns the tiles of left and right items, both by rising start, cut at these points: each left and right item that
-/// share an instant are in exactly one tile together. `None` if more than half of `most` items would be read in them.
+/// Returns the tiles of left and right items, both in ascending order of start, cut at these points. A left and a
+/// right item that share an instant are in exactly one tile together. Returns `None` if the tiles would read more than
+/// half of `most` items.
 ///
 /// # Errors
 ///
-/// `NoMemory` if a growth is refused.
+/// `NoMemory` if an allocation is refused.
 pub fn tiles_cut_at(
     alloc: Global,
     left: &[Item],
@@ -255,7 +259,8 @@ pub fn tiles_cut_at(
     Ok(Some(tiles))
 }
 
-/// The tiles of some items, where no more than half as many items are read in them as there are at most in all parts.
+/// Returns the tiles of the items, or `None` if tiles don't pay. `most` is the number of items that all pairs of parts
+/// read at most.
 pub(crate) fn tiles_of<R: Threads + Sync, G>(
     crew: &Crew<'_, R, G>,
     left: &[Item],

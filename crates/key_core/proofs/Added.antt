@@ -1,5 +1,5 @@
--- New elements beside old ones of which no two meet: each new one is tested with the other new ones and
--- with the old ones.
+-- New elements added to old ones that pass no test in pairs: each new one is tested with the other new ones and the old
+-- ones.
 use Rattle.std.proofs.Common.{◌≡◌, List, [], ◌∷◌, ◌++◌, Bool, true, false, ◌||◌, cond, refl, sym, ap, ◌∙◌}
 use Rattle.std.proofs.lemmas.Bool.{or_from, or_parts}
 use Rattle.std.specs.Prelude.{filter}
@@ -17,7 +17,7 @@ or_swap true false c = refl
 or_swap false b c = refl
 
 module _ {X : Type 0} (test : X → X → Bool) where
-  -- one of the old ones meets a new one
+  -- the test holds for an old and a new element
   abbrev pub have_meeting : List X → List X → Bool
   have_meeting old new = list_any (λ y. list_any (λ x. test x y) old) new
 
@@ -38,7 +38,7 @@ module _ {X : Type 0} (test : X → X → Bool) where
       regroup false true false d = refl
       regroup false false c d = refl
 
-  -- the old ones may be left out of the pairs
+  -- pairs of old elements needn't be tested
   pub pairs-added : (old new : List X) → have_pair test old ≡ false
       → (have_pair test new || have_meeting old new) ≡ have_pair test (old ++ new)
   pairs-added [] new none = sym (or_nothing (have_pair test new) (have_meeting [] new) (meeting-none new))
@@ -60,7 +60,7 @@ module _ {X : Type 0} (test : X → X → Bool) where
         | false ↦ any-filtered x p ys both.1
       ]
 
-  -- none meet among some of them
+  -- if no pair passes, no pair of a part of the list does
   pub pairs-filtered : (p : X → Bool) (xs : List X) → have_pair test xs ≡ false → have_pair test (filter p xs) ≡ false
   pairs-filtered p [] none = refl
   pairs-filtered p (x ∷ xs) none =

@@ -18,7 +18,7 @@ use Rattle.key_core.specs.Order.{key_cmp, row_cmp, have_neighbours}
 use Rattle.key_core.proofs.Orders.{key_total, row_total, key-same, key-tie, key-between, same_key-flips}
 use Rattle.key_core.proofs.Pairs.{have_pair-permutation, have_pair-map, neighbours-pairs_sorted}
 
--- ---- periods that share an instant
+-- ---- periods that overlap
 
 some-held : (p : Option Period) (t : ℤ) → HoldsIn p t → is_some p ≡ true
 some-held None t h = absurd h
@@ -44,7 +44,7 @@ meet-flips x y = same_bool (is_some (meet x y)) (is_some (meet y x))
     (λ e. (let at = shared x y e in shares y x at.0 at.2 at.1))
     (λ e. (let at = shared y x e in shares x y at.0 at.2 at.1))
 
--- a period that begins between two that share an instant shares one with the first
+-- a period that starts between the starts of two overlapping ones overlaps the first
 pub meet-between : (x y z : Period) → x.from ≤ℤ y.from → y.from ≤ℤ z.from → is_some (meet x z) ≡ true
     → is_some (meet x y) ≡ true
 meet-between x y z low high e =
@@ -93,7 +93,7 @@ collide-between key x y z low high e =
     ap (λ t. t && is_some (meet x.period y.period)) (key-same key xs ys first)
     ∙ meet-between x.period y.period z.period begins goes_on both.1
 
--- sorted rows: two of them collide exactly where two neighbours do
+-- two of the sorted rows collide if and only if two neighbours do
 pub collision-from_neighbours : (key : List ℕ) (rows sorted : List DraftRef) → IsPermutation rows sorted
     → IsSortedBy (λ a b. is_lt (row_cmp key (lent_draft a) (lent_draft b))) sorted
     → have_neighbours (λ a b. collide key (lent_draft a) (lent_draft b)) sorted

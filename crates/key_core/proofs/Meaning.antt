@@ -1,4 +1,4 @@
--- What it means that rows do not collide.
+-- The meaning of rows without a collision.
 use Rattle.std.proofs.Common.{◌≡◌, ℕ, suc, List, [], ◌∷◌, get_or, true, false, ◌&&◌, refl, sym, ap, ◌∙◌, arith}
 use Rattle.std.specs.Prelude.{All, is_some, slice_get}
 use Rattle.std.proofs.lemmas.Map.Keys.{apart_from_distinct}
@@ -10,7 +10,7 @@ use Rattle.key_core.specs.Keys.{AreWithoutOverlaps, collide, have_collision, sam
 use Rattle.key_core.proofs.Collisions.{shares}
 use Rattle.key_core.proofs.Pairs.{distinct-from_none}
 
--- values that are equal in each of the key's columns are of one key
+-- values that are equal in each of the key's columns have the same key
 key-equal : (key : List ℕ) (a b : List Value) → All (λ column. slice_get a column ≡ slice_get b column) key
     → same_key key a b ≡ true
 key-equal [] a b h = refl
@@ -19,7 +19,7 @@ key-equal (column ∷ columns) a b h =
     ((maybe_decides (slice_get a column) (slice_get b column)).1 (h 0 column (omega arith)))
     ∙ key-equal columns a b (λ k d lt. h (suc k) d (omega arith))
 
--- no instant is held by two rows of one key
+-- rows without a collision are without overlaps
 pub without_overlaps : (key : List ℕ) (rows : List Draft) → have_collision key rows ≡ false
     → AreWithoutOverlaps key rows
 without_overlaps key rows none i j d below inside t same at_one at_other =

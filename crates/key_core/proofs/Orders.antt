@@ -1,4 +1,4 @@
--- The order of rows by key and start is total, and ties are equal keys.
+-- The order of rows by key and start is total, and keys that compare as `Equal` are equal.
 use Rattle.std.proofs.Common.{◌≡◌, ℕ, List, [], ◌∷◌, Bool, true, false, ◌&&◌, refl, sym, ap, ◌∙◌}
 use Rattle.std.proofs.lemmas.Bool.{and_parts}
 use Rattle.std.specs.Prelude.{slice_get}
@@ -21,15 +21,15 @@ key_total [] = record { antisymm = λ x y. refl; trans = λ x y z e f. e; congr 
 key_total (column ∷ columns) =
     then_total (on_total (λ (values : List Value). slice_get values column) maybe_total) (key_total columns)
 
--- and that of rows
+-- so is the order of rows
 pub row_total : (key : List ℕ) → IsTotalOrder (row_cmp key)
 row_total key =
     then_total (on_total (λ (row : Draft). row.values) (key_total key))
     (on_total (λ (row : Draft). row.period.from) int_cmp_total)
 
--- ---- ties
+-- ---- equal keys
 
--- keys that tie are one
+-- keys that compare as `Equal` are equal
 pub key-same : (key : List ℕ) (a b : List Value) → key_cmp key a b ≡ Equal → same_key key a b ≡ true
 key-same [] a b e = refl
 key-same (column ∷ columns) a b e =
@@ -37,7 +37,7 @@ key-same (column ∷ columns) a b e =
     ap (λ t. t && same_key columns a b) (maybe-same (slice_get a column) (slice_get b column) both.0)
     ∙ key-same columns a b both.1
 
--- keys that are one tie
+-- and conversely
 pub key-tie : (key : List ℕ) (a b : List Value) → same_key key a b ≡ true → key_cmp key a b ≡ Equal
 key-tie [] a b e = refl
 key-tie (column ∷ columns) a b e =
@@ -64,7 +64,7 @@ same_key-flips key a b =
       flipped Equal = refl
       flipped Greater = refl
 
--- what stands between two ties with both
+-- a key between two equal ones equals both
 pub key-between : (key : List ℕ) (x y z : List Value) → key_cmp key x z ≡ Equal → is_lt (key_cmp key y x) ≡ false
     → is_lt (key_cmp key z y) ≡ false → key_cmp key x y ≡ Equal
 key-between key x y z tie low high =

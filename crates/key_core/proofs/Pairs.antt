@@ -36,7 +36,7 @@ module _ {X : Type 0} (test : X → X → Bool) where
   none-from_distinct (x ∷ xs) h =
       or_from (list_any (test x) xs) (have_pair test xs) (any-none x xs h.0) (none-from_distinct xs h.1)
 
--- a test that doesn't mind the order of its two
+-- a symmetric test of pairs is the same for a permutation
 pub have_pair-permutation : {X : Type 0} (test : X → X → Bool) → ((a b : X) → test a b ≡ test b a) → (xs ys : List X)
     → IsPermutation xs ys → have_pair test xs ≡ have_pair test ys
 have_pair-permutation test flips xs ys moved = same_bool (have_pair test xs) (have_pair test ys)
@@ -57,7 +57,7 @@ have_pair-map test f (x ∷ xs) =
     ap (λ t. t || have_pair test (map f xs)) (list_any-map (test (f x)) f xs)
     ∙ ap (λ t. list_any (λ y. test (f x) (f y)) xs || t) (have_pair-map test f xs)
 
--- neighbours in a list in order, where what holds of two holds of the first and any between
+-- neighbours of a sorted list, if a test that holds for two elements holds for the first and each one between them
 module _ {X : Type 0} (test lt : X → X → Bool)
     (between : (x y z : X) → lt y x ≡ false → lt z y ≡ false → test x z ≡ true → test x y ≡ true) where
   apart : (x y z : X) → lt y x ≡ false → lt z y ≡ false → test x y ≡ false → (b : Bool) → test x z ≡ b → b ≡ false
@@ -91,7 +91,7 @@ module _ {X : Type 0} (test lt : X → X → Bool)
       (IsDistinct-from_apart (λ x y. lt y x) xs
       (λ i j d below inside. sorted_far lt weak xs sorted i j d (omega arith) inside))
 
--- the first of what is left, and the next
+-- one pair of neighbours, and the rest of the list
 pub neighbours-next : {X : Type 0} (test : X → X → Bool) (xs : List X) (i : ℕ) (a b : X) → 1 ≤ i → i < length xs
     → a ≡ get_or xs (i - 1) a → b ≡ get_or xs i b
     → have_neighbours test (drop (i - 1) xs) ≡ (test a b || have_neighbours test (drop i xs))
@@ -107,7 +107,7 @@ neighbours-next {X = X} test xs (suc i) a b some within e f =
     here (x ∷ y ∷ ys) zero within e f = rw (e, f) refl
     here (x ∷ y ∷ ys) (suc i) within e f = here (y ∷ ys) i (omega arith) e f
 
--- what is left has no two
+-- at the end no neighbours remain
 pub neighbours-end : {X : Type 0} (test : X → X → Bool) (xs : List X) (i : ℕ) → 1 ≤ i → length xs ≤ i
     → have_neighbours test (drop (i - 1) xs) ≡ false
 neighbours-end {X = X} test xs zero some past = absurd (omega arith)

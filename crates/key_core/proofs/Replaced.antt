@@ -1,4 +1,4 @@
--- Rows of which no two collide, some of them replaced by parts of themselves.
+-- Rows without a collision stay without one if some are replaced by parts of themselves.
 use Rattle.std.proofs.Common.{◌≡◌, List, [], ◌∷◌, ◌++◌, map, Bool, true, false, not, cond, refl, sym, ◌∙◌}
 use Rattle.std.proofs.lemmas.Bool.{or_from, or_parts}
 use Rattle.std.specs.Prelude.{filter, flat_map}
@@ -21,11 +21,11 @@ map-all P Q [] f h = tt
 map-all P Q (x ∷ xs) f h = (f x h.0, map-all P Q xs f h.1)
 
 module _ {X : Type 0} (test : X → X → Bool) where
-  -- the test holds of x and none of them
+  -- the test holds for x and none of the elements
   abbrev pub Misses : X → List X → Type 0
   Misses x ys = AllByRecursion (λ y. test x y ≡ false) ys
 
-  -- it holds of no two of them
+  -- it holds for no two of the elements
   abbrev pub AreApart : List X → Type 0
   AreApart [] = Unit {0}
   AreApart (x ∷ xs) = Misses x xs × AreApart xs
@@ -49,7 +49,7 @@ module _ {X : Type 0} (test : X → X → Bool) where
   none-from_apart (x ∷ xs) h =
       or_from (list_any (test x) xs) (have_pair test xs) (any-none x xs h.0) (none-from_apart xs h.1)
 
-  -- both lists apart, and each of the one from all of the other
+  -- two lists apart, if no element of one passes with an element of the other
   apart-append : (xs ys : List X) → AreApart xs → AreApart ys → AllByRecursion (λ x. Misses x ys) xs
       → AreApart (xs ++ ys)
   apart-append [] ys a b across = b
@@ -60,7 +60,7 @@ module _ {X : Type 0} (test : X → X → Bool) where
     missed : (x : X) (zs : List X) → AllByRecursion (λ z. test z x ≡ false) zs → Misses x zs
     missed x zs h = map-all (λ z. test z x ≡ false) (λ z. test x z ≡ false) zs (λ z e. flips x z ∙ e) h
 
-    -- others put between
+    -- elements inserted in the middle
     pub apart-between : (xs zs ys : List X) → AreApart (xs ++ ys) → AreApart zs
         → AllByRecursion (λ z. Misses z (xs ++ ys)) zs → AreApart (xs ++ (zs ++ ys))
     apart-between [] zs ys a b across = apart-append zs ys b a across
@@ -74,7 +74,7 @@ module _ {X : Type 0} (test : X → X → Bool) where
               (map-all (λ z. Misses z (x ∷ (xs ++ ys))) (λ z. Misses z (xs ++ ys)) zs (λ z h. h.1) across),
         )
 
-    -- what the part meets, the whole meets
+    -- an element that passes with the part passes with the whole
     abbrev pub IsPartOf : X → X → Type 0
     IsPartOf whole part = (e : X) → test part e ≡ true → test whole e ≡ true
 
@@ -83,7 +83,7 @@ module _ {X : Type 0} (test : X → X → Bool) where
     part-misses whole part e inside none false h = refl
     part-misses whole part e inside none true h = sym (inside e h) ∙ none
 
-    -- a list in which the elements that pass are replaced by parts of them
+    -- a list in which the elements that pass are replaced by their parts
     module _ {R : Type 0} (shape : R → X) (goes : R → Bool) (parts : R → List X)
         (inside : (r : R) → AllByRecursion (IsPartOf (shape r)) (parts r)) (apart : (r : R) → AreApart (parts r)) where
       abbrev stay : List R → List X

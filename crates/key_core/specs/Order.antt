@@ -1,4 +1,4 @@
--- The order in which rows of one key stand side by side.
+-- The order that brings rows with equal keys together.
 use Rattle.std.specs.Prelude.{ℕ, List, [], ◌∷◌, Bool, false, ◌||◌, slice_get}
 use Rattle.std.specs.declared.cmp.Ordering.{Ordering}
 use Rattle.std.specs.declared.cmp.Ordering.TheVariants.{Equal}
@@ -17,7 +17,7 @@ key_cmp (column ∷ columns) a b =
 abbrev pub row_cmp : List ℕ → Draft → Draft → Ordering
 row_cmp key a b = ordering_then (key_cmp key a.values b.values) (int_cmp a.period.from b.period.from)
 
--- the test holds of an element and the next one
+-- the test holds for an element and the next one
 abbrev pub have_neighbours : {X : Type 0} → (X → X → Bool) → List X → Bool
 have_neighbours test [] = false
 have_neighbours test (x ∷ []) = false

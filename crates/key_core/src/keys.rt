@@ -1,4 +1,4 @@
-//! Rows that stand in one table with a key are put side by side by a sort, and neighbours tested.
+//! The test of a table's key: a sort brings rows with equal keys together, and neighbours are tested.
 
 ghost use Rattle.std.specs.Prelude.{◌≡◌, map, slice_get, IsPermutation, IsSortedBy};
 ghost use Rattle.std.specs.Ordering.{is_lt};
@@ -10,8 +10,8 @@ ghost use Rattle.key_core.specs.Order.{key_cmp, row_cmp, have_neighbours};
 use draft_core::DraftRef;
 use std::cmp::Ordering;
 
-/// Whether two rows at different places are equal in each of the key's columns and share an instant.
-/// The rows are left by rising key, those of one key by rising start.
+/// Returns whether two rows are equal in each of the key's columns and overlap. Leaves the rows sorted by key and then
+/// by start.
 pub fn have_collision(key: &[u32], rows: &mut Vec<DraftRef<'_>>) -> bool
     ensures collision { result ≡ have_collision key.now (map lent_draft rows.old.items) }
     ensures permutation { IsPermutation rows.old.items rows.new.items }
@@ -22,7 +22,7 @@ pub fn have_collision(key: &[u32], rows: &mut Vec<DraftRef<'_>>) -> bool
     neighbours_collide(key, rows)
 }
 
-/// Puts the rows by rising key, those of one key by rising start.
+/// Sorts the rows by key and then by start.
 fn sort_rows(key: &[u32], rows: &mut Vec<DraftRef<'_>>)
     ensures permutation { IsPermutation rows.old.items rows.new.items }
     ensures sorted { IsSortedBy (λ a b. is_lt (row_cmp key.now (lent_draft a) (lent_draft b)))
@@ -31,14 +31,14 @@ fn sort_rows(key: &[u32], rows: &mut Vec<DraftRef<'_>>)
     rows.sort_unstable_by(|a, b| row_order(key, a, b));
 }
 
-/// The order of two rows by key, and then by start.
+/// Compares two rows by key and then by start.
 fn row_order(key: &[u32], a: &DraftRef<'_>, b: &DraftRef<'_>) -> Ordering
     ensures { result ≡ row_cmp key.now (lent_draft a.now) (lent_draft b.now) }
 {
     key_order(key, *a, *b).then(a.period().from.cmp(&b.period().from))
 }
 
-/// The order of two rows by the values in the key's columns.
+/// Compares two rows by their values in the key's columns.
 fn key_order(key: &[u32], a: DraftRef<'_>, b: DraftRef<'_>) -> Ordering
     ensures { result ≡ key_cmp key.now (lent_draft a.entry).values (lent_draft b.entry).values }
 {
@@ -51,7 +51,7 @@ fn key_order(key: &[u32], a: DraftRef<'_>, b: DraftRef<'_>) -> Ordering
     Ordering::Equal
 }
 
-/// The order of two rows by their values in a column.
+/// Compares two rows by their values in a column.
 fn order_in(a: DraftRef<'_>, b: DraftRef<'_>, column: u32) -> Ordering
     ensures { result ≡ maybe_cmp (slice_get (lent_draft a.entry).values column)
         (slice_get (lent_draft b.entry).values column) }
@@ -64,21 +64,21 @@ fn order_in(a: DraftRef<'_>, b: DraftRef<'_>, column: u32) -> Ordering
     }
 }
 
-/// Whether two rows are equal in each of the key's columns and share an instant.
+/// Returns whether two rows are equal in each of the key's columns and overlap.
 pub fn collide(key: &[u32], a: DraftRef<'_>, b: DraftRef<'_>) -> bool
     ensures { result ≡ collide key.now (lent_draft a.entry) (lent_draft b.entry) }
 {
     same_key(key, a, b) && a.period().meet(&b.period()).is_some()
 }
 
-/// Whether the values are equal in each of the key's columns.
+/// Returns whether the rows' values are equal in each of the key's columns.
 pub fn same_key(key: &[u32], a: DraftRef<'_>, b: DraftRef<'_>) -> bool
     ensures { result ≡ same_key key.now (lent_draft a.entry).values (lent_draft b.entry).values }
 {
     key_order(key, a, b).is_eq()
 }
 
-/// Whether some row and the next one collide.
+/// Returns whether some row collides with the next one.
 fn neighbours_collide(key: &[u32], rows: &[DraftRef<'_>]) -> bool
     ensures { result ≡ have_neighbours (λ a b. collide key.now (lent_draft a) (lent_draft b))
         rows.now }

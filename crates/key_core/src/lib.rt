@@ -1,6 +1,6 @@
 #![tactic(auto)]
 
-//! Rows of tables with a key: whether two of them, equal in the key's columns, share an instant.
+//! Rows of tables with a key: whether two of them are equal in the key's columns and overlap.
 
 mod keys;
 

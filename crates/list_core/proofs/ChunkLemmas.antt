@@ -11,14 +11,14 @@ use Rattle.list_core.proofs.RisingLemmas.{Contains-head}
 use Rattle.list_core.proofs.PlaceLemmas.{All-front, slice_get-append_right, slice_get-before}
 use Rattle.list_core.specs.Chunks.{AreChunks, all_in}
 
--- all chunks and one more
+-- one chunk more adds its items at the end
 pub all_in-more : {X : Type 0} (front : List (Vec X)) (chunk : Vec X)
     → all_in (front ++ chunk ∷ []) ≡ all_in front ++ chunk.items
 all_in-more {X} front chunk =
     flat_map-append (λ (v : Vec X). v.items) front (chunk ∷ [])
     ∙ ap (λ l. all_in front ++ l) (append-nil chunk.items)
 
--- the last of all is the last chunk's
+-- the last of all items is the last item of the last chunk
 pub last_in : {X : Type 0} (chunks front : List (Vec X)) (chunk : Vec X) (before : List X) (last : X)
     → chunks ≡ front ++ chunk ∷ [] → chunk.items ≡ before ++ last ∷ []
     → all_in chunks ≡ (all_in front ++ before) ++ last ∷ []
@@ -26,7 +26,7 @@ last_in chunks front chunk before last e i =
     ap all_in e ∙ all_in-more front chunk ∙ ap (λ l. all_in front ++ l) i
     ∙ sym (append_assoc (all_in front) before (last ∷ []))
 
--- lists that are equal have the same in front of their last
+-- equal lists are equal without their last elements
 same_front : {X : Type 0} (xs ys : List X) (x y : X) → xs ++ x ∷ [] ≡ ys ++ y ∷ [] → xs ≡ ys
 same_front xs ys x y e =
     let count : length xs + 1 ≡ length ys + 1 =
@@ -43,7 +43,7 @@ last_chunk {X} chunks rest chunk e some =
     subst (λ l. Contains l chunk) (sym e) (Contains-append_right rest (chunk ∷ []) chunk (Contains-head chunk [])) in
     All-contains (λ (v : Vec X). 0 < length v.items) chunks chunk some inside
 
--- without the last of the last chunk, which isn't empty, they are all but the last
+-- the other chunks and the last chunk without its last item contain all items except the last
 pub front_of : {X : Type 0} (chunks rest : List (Vec X)) (chunk : Vec X) (left : List X) (popped : Option X)
     (front : List X) (last : X) → chunks ≡ rest ++ chunk ∷ []
     → All (λ (v : Vec X). 0 < length v.items) chunks → IsSome popped ↔ (0 < length chunk.items)
@@ -53,7 +53,7 @@ front_of chunks rest chunk left None front last e some known i all =
 front_of chunks rest chunk left (Some x) front last e some known i all =
     same_front (all_in rest ++ left) front x last (sym (last_in chunks rest chunk left x e i) ∙ all)
 
--- the last chunk, which isn't empty, has one item less once one is taken
+-- the last chunk, which isn't empty, loses one item if one is popped
 pub popped_one : {X : Type 0} (chunks rest : List (Vec X)) (chunk : Vec X) (left : List X) (popped : Option X)
     → chunks ≡ rest ++ chunk ∷ [] → All (λ (v : Vec X). 0 < length v.items) chunks
     → IsSome popped ↔ (0 < length chunk.items) → chunk.items ≡ left ++ option_to_list popped
@@ -62,7 +62,7 @@ popped_one chunks rest chunk left None e some known i =
     absurd (true≢false (sym (known.1 (last_chunk chunks rest chunk e some))))
 popped_one chunks rest chunk left (Some x) e some known i = ap length i ∙ length-append left (x ∷ [])
 
--- how many items are left without the last chunk, and that no other chunk is empty
+-- the number of items without the last chunk; and no other chunk is empty
 without_chunk : {X : Type 0} (chunks rest : List (Vec X)) (old : Vec X) (count : ℕ) → chunks ≡ rest ++ old ∷ []
     → AreChunks chunks count
     → (count ≡ length (all_in rest) + length old.items) × All (λ (v : Vec X). 0 < length v.items) rest
@@ -73,7 +73,7 @@ without_chunk {X} chunks rest old count e are = (
       (subst (All (λ (v : Vec X). 0 < length v.items)) e are.some),
 )
 
--- with one item less in the last chunk, which isn't empty without it
+-- the last chunk is replaced by a non-empty chunk with one item less
 pub shorter_chunk : {X : Type 0} (chunks rest : List (Vec X)) (old new : Vec X) (count : ℕ) → chunks ≡ rest ++ old ∷ []
     → AreChunks chunks count → length old.items ≡ length new.items + 1 → 0 < length new.items
     → AreChunks (rest ++ new ∷ []) (count - 1)
@@ -88,7 +88,7 @@ shorter_chunk {X} chunks rest old new count e are less some =
           (All-cons (λ (v : Vec X). 0 < length v.items) new [] some (All-nil (λ (v : Vec X). 0 < length v.items)));
     }
 
--- without the last chunk, whose only item it was
+-- the last chunk is removed if it had a single item
 pub fewer_chunks : {X : Type 0} (chunks rest : List (Vec X)) (old : Vec X) (count : ℕ) → chunks ≡ rest ++ old ∷ []
     → AreChunks chunks count → length old.items ≡ 1 → AreChunks rest (count - 1)
 fewer_chunks chunks rest old count e are one =
@@ -96,13 +96,13 @@ fewer_chunks chunks rest old count e are one =
     let all : count ≡ length (all_in rest) + length old.items = left.0 in
     record { count_is = omega (arith, all, one); some = left.1 }
 
--- an item of the first chunk
+-- an index within the first chunk
 pub got_first : {X : Type 0} (chunks rest : List (Vec X)) (chunk : Vec X) (i : ℕ) → chunks ≡ chunk ∷ rest
     → i < length chunk.items → slice_get (all_in chunks) i ≡ slice_get chunk.items i
 got_first chunks rest chunk i e inside =
     ap (λ l. slice_get (all_in l) i) e ∙ slice_get-before chunk.items (all_in rest) i inside
 
--- an item behind the first chunk
+-- an index after the first chunk
 pub got_later : {X : Type 0} (chunks rest : List (Vec X)) (chunk : Vec X) (i : ℕ) → chunks ≡ chunk ∷ rest
     → length chunk.items ≤ i → slice_get (all_in chunks) i ≡ slice_get (all_in rest) (i - length chunk.items)
 got_later chunks rest chunk i e past =

@@ -1,4 +1,4 @@
--- Lists that are cut at places, and their parts.
+-- Lists cut at indexes, and their parts.
 use Rattle.std.proofs.Common.{◌≡◌, ℕ, zero, suc, ◌+◌, ◌-◌, ◌<◌, ◌≤◌, List, [], ◌∷◌, ◌++◌, length, take, drop, get_or, Some, refl, ap, ◌∙◌, arith, length-append}
 use Rattle.std.specs.List.{slice_get}
 use Rattle.std.proofs.lemmas.List.{take-append-le, drop-append-le, take_all, length-drop}
@@ -33,7 +33,7 @@ pub EndsAt-more : (from : ℕ) (ends : List ℕ) (size more : ℕ) → EndsAt fr
 EndsAt-more from [] size more h = (omega (arith, h), refl)
 EndsAt-more from (end ∷ ends) size more (h, rest) = (h, EndsAt-more end ends size more rest)
 
--- a part that ends within the list stays with more behind it
+-- a part that ends within the list stays the same if more elements follow
 pub part-append : {X : Type 0} (from end : ℕ) (xs ys : List X) → from ≤ end → end ≤ length xs
     → take (end - from) (drop from (xs ++ ys)) ≡ take (end - from) (drop from xs)
 part-append from end xs ys h within =
@@ -41,7 +41,7 @@ part-append from end xs ys h within =
     let room : end - from ≤ length (drop from xs) = omega (arith, length-drop from xs) in
     ap (λ l. take (end - from) l) (drop-append-le from xs ys start) ∙ take-append-le (end - from) (drop from xs) ys room
 
--- one more part behind those that reach the end
+-- one part more, after parts that end where the list ends
 pub cut-more : {X : Type 0} (from : ℕ) (ends : List ℕ) (xs ys : List X) → EndsAt from ends (length xs)
     → cut from (ends ++ (length xs + length ys) ∷ []) (xs ++ ys) ≡ cut from ends xs ++ ys ∷ []
 cut-more from [] xs ys h =
@@ -55,7 +55,7 @@ cut-more from (end ∷ ends) xs ys (h, more) =
     (part-append from end xs ys h (EndsAt-from end ends (length xs) more))
     ∙ ap (λ l. take (end - from) (drop from xs) ∷ l) (cut-more end ends xs ys more)
 
--- more parts behind those that reach the seam
+-- rising ends up to `seam`, followed by rising ends from there on
 pub EndsAt-behind : (from : ℕ) (ends more : List ℕ) (seam size : ℕ) → EndsAt from ends seam → EndsAt seam more size
     → EndsAt from (ends ++ more) size
 EndsAt-behind from [] more seam size h rest = rw h rest

@@ -1,11 +1,11 @@
--- What stands in the lists that functions make of lists, and how it is counted.
+-- The elements of mapped lists, and how elements are counted.
 use Rattle.std.proofs.Common.{◌≡◌, ◌+◌, ◌≤◌, List, [], ◌∷◌, ◌++◌, map, AllPairs, Bool, true, cond, subst, ap, ◌∙◌, inl, inr, arith}
 use Rattle.std.specs.Prelude.{Contains, count_by}
 use Rattle.std.proofs.lemmas.List.Sums.{sum_by-cons, sum_by-append}
 use Rattle.list_core.proofs.RisingLemmas.{AllPairs-head, AllPairs-tail, Contains-head, Contains-cons, Contains-cons_cases, Contains-none}
 use Rattle.list_core.proofs.WantedLemmas.{AllPairs-before}
 
--- what the function makes of a thing in the list stands in the list that it makes
+-- the image of an element is in the mapped list
 pub Contains-map : {X Y : Type 0} (f : X → Y) (xs : List X) (x : X) → Contains xs x → Contains (map f xs) (f x)
 Contains-map f [] x h = absurd (Contains-none x h)
 Contains-map f (z ∷ xs) x h = elim (Contains-cons_cases z xs x h) [
@@ -13,7 +13,7 @@ Contains-map f (z ∷ xs) x h = elim (Contains-cons_cases z xs x h) [
   | inr k ↦ Contains-cons (f z) (map f xs) (f x) (Contains-map f xs x k)
 ]
 
--- what stands in the list that it makes is made of a thing in the list
+-- each element of the mapped list is the image of an element
 pub Contains-map_source : {X Y : Type 0} (f : X → Y) (xs : List X) (y : Y) → Contains (map f xs) y
     → (x : X) × Contains xs x × (f x ≡ y)
 Contains-map_source f [] y h = absurd (Contains-none y h)
@@ -22,7 +22,7 @@ Contains-map_source f (z ∷ xs) y h = elim (Contains-cons_cases (f z) (map f xs
   | inr k ↦ let r = Contains-map_source f xs y k in (r.0, Contains-cons z xs r.0 r.1, r.2)
 ]
 
--- things in one order are made into things in another, where the function takes the one to the other
+-- a mapped list is in order if the function takes the one order to the other
 pub AllPairs-map : {X Y : Type 0} (R : X → X → Type 0) (S : Y → Y → Type 0) (f : X → Y) (xs : List X)
     → ((a b : X) → Contains xs b → R a b → S (f a) (f b)) → AllPairs R xs → AllPairs S (map f xs)
 AllPairs-map R S f [] gives ordered = λ i j d less h. absurd (omega arith)
@@ -33,16 +33,16 @@ AllPairs-map R S f (x ∷ xs) gives ordered =
     subst (S (f x)) is (gives x z (Contains-cons x xs z there) (AllPairs-head R x xs z ordered there)))
     (AllPairs-map R S f xs (λ a b h. gives a b (Contains-cons x xs b h)) (AllPairs-tail R x xs ordered))
 
--- one thing more is counted
+-- the count with one element more
 pub count-cons : {X : Type 0} (p : X → Bool) (x : X) (xs : List X)
     → count_by p (x ∷ xs) ≡ cond (p x) 1 0 + count_by p xs
 count-cons p x xs = sum_by-cons (λ x. cond (p x) 1 0) x xs
 
--- those of two lists
+-- the counts of two lists add up
 pub count-append : {X : Type 0} (p : X → Bool) (xs ys : List X) → count_by p (xs ++ ys) ≡ count_by p xs + count_by p ys
 count-append p xs ys = sum_by-append (λ x. cond (p x) 1 0) xs ys
 
--- a thing in the list that passes a test is counted
+-- an element that passes the test is counted
 pub counted : {X : Type 0} (test : X → Bool) (xs : List X) (x : X) → Contains xs x → test x ≡ true
     → 1 ≤ count_by test xs
 counted test [] x h passes = absurd (Contains-none x h)

@@ -1,4 +1,4 @@
--- Lists in an order that is total.
+-- Lists in a total order.
 use Rattle.std.proofs.Common.{◌≡◌, ◌≢◌, ℕ, ◌+◌, ◌<◌, false, Bool, List, get_or, AllPairs, refl, sym, ap, arith}
 use Rattle.std.specs.Prelude.{IsPermutation, IsSorted}
 use Rattle.std.specs.Bool.{Decides}
@@ -13,13 +13,13 @@ use Rattle.std.proofs.lemmas.Map.Keys.{IsDistinct-IsPermutation}
 use Rattle.std.specs.List.Sorted.{IsSortedBy}
 use Rattle.list_core.specs.Order.{RiseBy}
 
--- two orders tie where both do
+-- a lexicographic comparison gives `Equal` only if both comparisons do
 pub both_tie : (r s : Ordering) → ordering_then r s ≡ Equal → (r ≡ Equal) × (s ≡ Equal)
 both_tie Less s e = cc
 both_tie Equal s e = (refl, e)
 both_tie Greater s e = cc
 
--- no two things come before each other
+-- no two elements come before each other
 pub before-asym : {X : Type 0} (cmp : X → X → Ordering) → IsTotalOrder cmp → (a b : X) → cmp a b ≡ Less
     → cmp b a ≡ Less → ⊥
 before-asym cmp total a b one other =
@@ -27,7 +27,7 @@ before-asym cmp total a b one other =
     let turned : ordering_reverse (cmp b a) ≡ Greater = ap ordering_reverse other in
     cc
 
--- a test that decides `≡` is the same both ways
+-- a test that decides `≡` is symmetric
 Decides-flips : {X : Type 0} (eq : X → X → Bool) → ((a b : X) → Decides (eq a b) (a ≡ b))
     → (a b : X) → eq a b ≡ eq b a
 Decides-flips eq same a b =
@@ -35,14 +35,14 @@ Decides-flips eq same a b =
 
 module _ {X : Type 0} (cmp : X → X → Ordering) (total : IsTotalOrder cmp) (one : (a b : X) → cmp a b ≡ Equal → a ≡ b)
   where
-    -- what differs from a thing, and does not come before it, comes after it
+    -- an element that differs from another and doesn't come after it comes before it
     comes_after : (x y : X) (r s : Ordering) → r ≡ cmp x y → s ≡ cmp y x → r ≡ ordering_reverse s → is_lt s ≡ false
         → x ≢ y → r ≡ Less
     comes_after x y r Less er es turned h ne = cc
     comes_after x y r Equal er es turned h ne = absurd (ne (sym (one y x (sym es))))
     comes_after x y r Greater er es turned h ne = turned
 
-    -- things that differ are in order once they are sorted
+    -- distinct elements are strictly ordered once they are sorted
     pub sorted_in_order : (eq : X → X → Bool) → ((a b : X) → Decides (eq a b) (a ≡ b)) → (xs ys : List X)
         → AllPairs (λ x y. x ≢ y) xs → IsPermutation xs ys → IsSorted cmp ys → AllPairs (λ a b. cmp a b ≡ Less) ys
     sorted_in_order eq same xs ys differ moved sorted =
@@ -55,11 +55,11 @@ module _ {X : Type 0} (cmp : X → X → Ordering) (total : IsTotalOrder cmp) (o
         inside)
         (others i j d below inside)
 
--- what is above is not below
+-- a greater number doesn't compare as less
 not_lower : (m n : ℕ) → n < m → is_lt (nat_cmp m n) ≡ false
 not_lower m n less = grind (arith, nat_tests)
 
--- things by a rising number are sorted by it
+-- elements whose numbers rise are sorted by these numbers
 pub sorted-from_rise : {X : Type 0} (number : X → ℕ) (xs : List X) → RiseBy number xs
     → IsSortedBy (λ x y. is_lt (nat_cmp (number x) (number y))) xs
 sorted-from_rise number xs rise k d low h =

@@ -1,4 +1,4 @@
--- Lists that rise by an order, and hold the same, are one.
+-- Lists that rise in an order and have the same elements are equal.
 use Rattle.std.proofs.Common.{◌≡◌, zero, suc, List, [], ◌∷◌, arith, refl, sym, ap, ◌∙◌, inl, inr, ◌⊎◌, subst}
 use Rattle.std.specs.Prelude.{Contains, AllPairs}
 use Rattle.list_core.specs.Wanted.{IsListOf}
@@ -23,7 +23,7 @@ AllPairs-head R x xs z rises (k, h, e) = subst (λ w. R x w) e (rises 0 (suc k) 
 pub AllPairs-tail : {X : Type 0} (R : X → X → Type 0) (x : X) (xs : List X) → AllPairs R (x ∷ xs) → AllPairs R xs
 AllPairs-tail R x xs rises i j d less h = rises (suc i) (suc j) d (omega arith) (omega arith)
 
--- what is contained in the rest of a list is contained in the rest of another, where the first elements are one
+-- if the first elements are equal, the rest of one list is contained in the rest of the other
 rest_in : {X : Type 0} (R : X → X → Type 0) (x y : X) (xs ys : List X) → ((v w : X) → R v w → R w v → ⊥)
     → AllPairs R (x ∷ xs) → x ≡ y
     → ((z : X) → Contains (x ∷ xs) z → Contains (y ∷ ys) z) → (z : X) → Contains xs z → Contains ys z
@@ -35,7 +35,7 @@ rest_in R x y xs ys asym rises same in_other z member =
       | inr later ↦ later
     ]
 
--- the first elements are one
+-- the first elements are equal
 first_is_one : {X : Type 0} (R : X → X → Type 0) (x y : X) (xs ys : List X) → ((v w : X) → R v w → R w v → ⊥)
     → AllPairs R (x ∷ xs) → AllPairs R (y ∷ ys)
     → Contains (y ∷ ys) x → Contains (x ∷ xs) y → x ≡ y
@@ -48,7 +48,7 @@ first_is_one R x y xs ys asym one other there back =
       ]
     ]
 
--- lists that rise, and hold the same, are one
+-- lists that rise and have the same elements are equal
 pub rising_is_one : {X : Type 0} (R : X → X → Type 0) (xs ys : List X) → ((v w : X) → R v w → R w v → ⊥)
     → AllPairs R xs → AllPairs R ys
     → ((z : X) → Contains xs z → Contains ys z) → ((z : X) → Contains ys z → Contains xs z) → xs ≡ ys
@@ -63,7 +63,7 @@ rising_is_one R (x ∷ xs) (y ∷ ys) asym one other there back =
     (rest_in R x y xs ys asym one same there) (rest_in R y x ys xs asym other (sym same) back) in
     ap (λ l. x ∷ l) rest ∙ ap (λ w. w ∷ ys) same
 
--- two lists of all that is wanted are one, where no two things stand before each other
+-- two lists of everything wanted are equal if the order is asymmetric
 pub IsListOf-unique : {X : Type 0} (Before : X → X → Type 0) (Wanted : X → Type 0) (one other : List X)
     → ((x y : X) → Before x y → Before y x → ⊥)
     → IsListOf Before Wanted one → IsListOf Before Wanted other → one ≡ other

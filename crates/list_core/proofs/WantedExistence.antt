@@ -1,4 +1,4 @@
--- Lists of all that is wanted exist: those of many things together, and from any order into one that is total.
+-- Lists of everything wanted exist: for many elements together, and from any order into a total one.
 use Rattle.std.proofs.Common.{◌≡◌, List, [], ◌∷◌, ◌++◌, ◌↔◌, inl, inr, refl, sym, ap, subst, ◌∙◌, arith}
 use Rattle.std.specs.Prelude.{Contains, AllPairs}
 use Rattle.std.specs.Cmp.{IsTotalOrder}
@@ -13,11 +13,11 @@ use Rattle.list_core.proofs.WantedLemmas.{AllPairs-before, IsListOf-none, IsList
 
 -- ---- in any order
 
--- the things in the list are those that are wanted, in any order and however often
+-- the list's elements are those wanted, in any order and any number of times
 abbrev pub IsUnorderedListOf : {X : Type 0} → (X → Type 0) → List X → Type 0
 IsUnorderedListOf {X} Wanted xs = (x : X) → Contains xs x ↔ Wanted x
 
--- wanted for some thing in a list
+-- wanted for some element of a list
 abbrev pub WantedForSome : {X Y : Type 0} → (X → Y → Type 0) → List X → Y → Type 0
 WantedForSome {X} Wanted xs y = (x : X) × Contains xs x × Wanted x y
 
@@ -25,12 +25,12 @@ WantedForSome {X} Wanted xs y = (x : X) × Contains xs x × Wanted x y
 pub IsUnorderedListOf-none : {X : Type 0} (Wanted : X → Type 0) → ((x : X) → Wanted x → ⊥) → IsUnorderedListOf Wanted []
 IsUnorderedListOf-none Wanted none = (IsListOf-none (λ a b. ⊥) Wanted none).exactly
 
--- one thing is wanted
+-- one element is wanted
 pub IsUnorderedListOf-one : {X : Type 0} (Wanted : X → Type 0) (x : X) → Wanted x → ((y : X) → Wanted y → x ≡ y)
     → IsUnorderedListOf Wanted (x ∷ [])
 IsUnorderedListOf-one Wanted x is only = (IsListOf-one (λ a b. ⊥) Wanted x is only).exactly
 
--- what is wanted for the first thing, and behind it what is wanted for the others
+-- everything wanted for the first element, followed by everything wanted for the others
 IsUnorderedListOf-cons : {X Y : Type 0} (Wanted : X → Y → Type 0) (x : X) (xs : List X) (ys zs : List Y)
     → IsUnorderedListOf (Wanted x) ys → IsUnorderedListOf (WantedForSome Wanted xs) zs
     → IsUnorderedListOf (WantedForSome Wanted (x ∷ xs)) (ys ++ zs)
@@ -45,7 +45,7 @@ IsUnorderedListOf-cons Wanted x xs ys zs first others y = (
   ],
 )
 
--- where all that is wanted for each one thing can be listed, all that is wanted for the things in a list can be
+-- if everything wanted for one element can be listed, so can everything wanted for the elements of a list
 pub some_unordered : {X Y : Type 0} (Wanted : X → Y → Type 0)
     → ((x : X) → (ys : List Y) × IsUnorderedListOf (Wanted x) ys) → (xs : List X)
     → (ys : List Y) × IsUnorderedListOf (WantedForSome Wanted xs) ys
@@ -58,7 +58,7 @@ some_unordered Wanted each (x ∷ xs) =
 
 -- ---- in order
 
--- what a list contains another contains too, where that is so of what stands after their common first thing
+-- if one list contains the other's elements, it still does after the same element is put first in both
 Contains-rest : {X : Type 0} (x : X) (ys xs : List X) → ((z : X) → Contains ys z → Contains xs z)
     → (z : X) → Contains (x ∷ ys) z → Contains (x ∷ xs) z
 Contains-rest x ys xs rest z h =
@@ -67,7 +67,7 @@ Contains-rest x ys xs rest z h =
       | inr later ↦ Contains-cons x xs z (rest z later)
     ]
 
--- the order of the first two things doesn't matter to what a list contains
+-- swapping the first two elements doesn't change what a list contains
 Contains-swap : {X : Type 0} (x y : X) (ys : List X) (z : X) → Contains (x ∷ (y ∷ ys)) z → Contains (y ∷ (x ∷ ys)) z
 Contains-swap x y ys z h =
     elim (Contains-cons_cases x (y ∷ ys) z h) [
@@ -76,15 +76,15 @@ Contains-swap x y ys z h =
     ]
 
 module _ {X : Type 0} (cmp : X → X → Ordering) (total : IsTotalOrder cmp) (exact : CmpEqualImpliesEq cmp) where
-  -- one thing comes before another
+  -- one element comes before another
   abbrev Before : X → X → Type 0
   Before a b = cmp a b ≡ Less
 
-  -- a list in order with a thing put into it, unless it is there already
+  -- an ordered list with an element inserted, unless it is there already
   abbrev PutInto : X → List X → Type 0
   PutInto x ys = (zs : List X) × IsListOf Before (Contains (x ∷ ys)) zs
 
-  -- a thing that comes before the first stands before the list
+  -- an element less than the first is put first
   put_before : (x y : X) (ys : List X) → AllPairs Before (y ∷ ys) → Before x y → PutInto x (y ∷ ys)
   put_before x y ys rises less = (
     x ∷ (y ∷ ys),
@@ -98,7 +98,7 @@ module _ {X : Type 0} (cmp : X → X → Ordering) (total : IsTotalOrder cmp) (e
             | inr later ↦ total.trans x y z less (AllPairs-head Before y ys z rises later)
           ]
 
-  -- a thing that is the first is there already
+  -- an element equal to the first is there already
   put_there : (x y : X) (ys : List X) → AllPairs Before (y ∷ ys) → x ≡ y → PutInto x (y ∷ ys)
   put_there x y ys rises same = (
     y ∷ ys,
@@ -114,7 +114,7 @@ module _ {X : Type 0} (cmp : X → X → Ordering) (total : IsTotalOrder cmp) (e
     },
   )
 
-  -- a thing that comes after the first is put into the others
+  -- an element greater than the first is inserted into the rest
   put_behind : (x y : X) (ys : List X) → AllPairs Before (y ∷ ys) → Before y x → PutInto x ys → PutInto x (y ∷ ys)
   put_behind x y ys rises less (zs, is) = (
     y ∷ zs,
@@ -134,7 +134,7 @@ module _ {X : Type 0} (cmp : X → X → Ordering) (total : IsTotalOrder cmp) (e
             | inr later ↦ AllPairs-head Before y ys z rises later
           ]
 
-  -- a thing is put into a list by how it compares to the first
+  -- an element is inserted by its comparison with the first
   put_by : (x y : X) (ys : List X) (o : Ordering) → cmp x y ≡ o → AllPairs Before (y ∷ ys) → PutInto x ys
       → PutInto x (y ∷ ys)
   put_by x y ys Less e rises others = put_before x y ys rises e
@@ -142,14 +142,14 @@ module _ {X : Type 0} (cmp : X → X → Ordering) (total : IsTotalOrder cmp) (e
   put_by x y ys Greater e rises others =
       put_behind x y ys rises (total.antisymm y x ∙ ap ordering_reverse e) others
 
-  -- a thing is put into a list
+  -- an element is inserted into a list
   put_into : (x : X) (ys : List X) → AllPairs Before ys → PutInto x ys
   put_into x [] rises =
       (x ∷ [], record { ordered = λ i j d less h. absurd (omega arith); exactly = λ z. (λ h. h, λ h. h) })
   put_into x (y ∷ ys) rises =
       put_by x y ys (cmp x y) refl rises (put_into x ys (AllPairs-tail Before y ys rises))
 
-  -- the things in a list, each once, in order
+  -- the elements of a list, each once, in order
   pub some_ordered : (xs : List X) → (ys : List X) × IsListOf (λ a b. cmp a b ≡ Less) (Contains xs) ys
   some_ordered [] = ([], IsListOf-none Before (Contains []) (λ z h. Contains-none z h))
   some_ordered (x ∷ xs) =
@@ -160,7 +160,7 @@ module _ {X : Type 0} (cmp : X → X → Ordering) (total : IsTotalOrder cmp) (e
             (Contains-rest x ys xs (λ z. (is.exactly z).0)) (Contains-rest x xs ys (λ z. (is.exactly z).1)) put,
       )
 
-  -- all that is wanted, where it stands in a list in any order
+  -- everything wanted, in order, if a list in any order has it
   pub some_wanted : (Wanted : X → Type 0) (xs : List X) → IsUnorderedListOf Wanted xs
       → (ys : List X) × IsListOf (λ a b. cmp a b ≡ Less) Wanted ys
   some_wanted Wanted xs all =

@@ -1,4 +1,4 @@
--- Lists of all that is wanted, made of such lists.
+-- Lists of everything wanted, built from such lists.
 use Rattle.std.proofs.Common.{◌≡◌, List, [], ◌∷◌, ◌++◌, ◌⊎◌, inl, inr, All, get_or, arith, sym, subst, ◌∙◌}
 use Rattle.std.specs.Prelude.{Contains, AllPairs}
 use Rattle.std.proofs.lemmas.List.Elements.{Contains-get_or, Contains-append_left, Contains-append_right, Contains-append_cases}
@@ -6,11 +6,11 @@ use Rattle.std.proofs.lemmas.List.Kept.{AllPairs-cons}
 use Rattle.list_core.specs.Wanted.{IsListOf}
 use Rattle.list_core.proofs.RisingLemmas.{AllPairs-head, AllPairs-tail, Contains-head, Contains-cons, Contains-cons_cases, Contains-none}
 
--- what holds of each thing in a list holds of all
+-- a fact about each contained element holds for all
 All-contained : {X : Type 0} (P : X → Type 0) (xs : List X) → ((x : X) → Contains xs x → P x) → All P xs
 All-contained P xs each i d h = each (get_or xs i d) (Contains-get_or xs i d h)
 
--- a list whose first stands before each other, and whose others are in order, is in order
+-- a list is in order if its first element comes before each other one and the others are in order
 pub AllPairs-before : {X : Type 0} (R : X → X → Type 0) (x : X) (xs : List X) → ((y : X) → Contains xs y → R x y)
     → AllPairs R xs → AllPairs R (x ∷ xs)
 AllPairs-before R x xs first rest = AllPairs-cons R x xs (All-contained (R x) xs first) rest
@@ -27,7 +27,7 @@ AllPairs-append R (z ∷ zs) ys one other across =
     ])
     (AllPairs-append R zs ys (AllPairs-tail R z zs one) other (λ x y h k. across x y (Contains-cons z zs x h) k))
 
--- a list in one order is in another that follows from it
+-- a list in one order is in any order that follows from it
 pub AllPairs-other : {X : Type 0} (Before After : X → X → Type 0) (xs : List X) → AllPairs Before xs
     → ((x y : X) → Contains xs x → Contains xs y → Before x y → After x y) → AllPairs After xs
 AllPairs-other Before After [] ordered gives = λ i j d less h. absurd (omega arith)
@@ -37,7 +37,7 @@ AllPairs-other Before After (z ∷ zs) ordered gives =
     (AllPairs-other Before After zs (AllPairs-tail Before z zs ordered)
     (λ x y h k b. gives x y (Contains-cons z zs x h) (Contains-cons z zs y k) b))
 
--- of two things in a list that is in order, they are one, or one stands before the other
+-- two elements of an ordered list are equal, or one comes before the other
 pub AllPairs-cases : {X : Type 0} (R : X → X → Type 0) (xs : List X) (x y : X) → AllPairs R xs → Contains xs x
     → Contains xs y → (x ≡ y) ⊎ (R x y ⊎ R y x)
 AllPairs-cases R [] x y ordered h k = absurd (Contains-none x h)
@@ -53,7 +53,7 @@ AllPairs-cases R (z ∷ zs) x y ordered h k =
       ]
     ]
 
--- the list of what one wants, and behind it that of what another wants, where all of the one stands before the other
+-- two lists of wanted sets, concatenated, if the first set comes before the second
 pub IsListOf-append : {X : Type 0} (Before : X → X → Type 0) (A B W : X → Type 0) (xs ys : List X)
     → IsListOf Before A xs → IsListOf Before B ys → ((x y : X) → A x → B y → Before x y)
     → ((x : X) → A x → W x) → ((x : X) → B x → W x) → ((x : X) → W x → A x ⊎ B x) → IsListOf Before W (xs ++ ys)
@@ -74,7 +74,7 @@ IsListOf-append Before A B W xs ys a b across from_a from_b cases =
       );
     }
 
--- the list of what is wanted, said otherwise
+-- the list of a set described in another way
 pub IsListOf-same : {X : Type 0} (Before : X → X → Type 0) (A B : X → Type 0) (xs : List X) → ((x : X) → A x → B x)
     → ((x : X) → B x → A x) → IsListOf Before A xs → IsListOf Before B xs
 IsListOf-same Before A B xs to back a =
@@ -88,7 +88,7 @@ IsListOf-none Before A none =
       exactly = λ x. (λ h. absurd (Contains-none x h), λ w. absurd (none x w));
     }
 
--- one thing is wanted
+-- one element is wanted
 pub IsListOf-one : {X : Type 0} (Before : X → X → Type 0) (A : X → Type 0) (x : X) → A x → ((y : X) → A y → x ≡ y)
     → IsListOf Before A (x ∷ [])
 IsListOf-one Before A x is only =

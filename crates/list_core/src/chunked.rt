@@ -7,8 +7,8 @@ ghost use Rattle.list_core.specs.Chunks.{all_in};
 use std::alloc::{AllocError, Global};
 use std::marker::Model;
 
-/// Items in chunks that were listed apart and stand behind one another, so that none is moved where a list comes behind
-/// another. Contracts see the list of all.
+/// A list stored as a sequence of chunks, so that lists can be concatenated without moving their items. Contracts see
+/// the list of all items.
 #[derive(Debug, Drop)]
 pub struct ChunkedList<T> {
     chunks: Vec<Vec<T>>,
@@ -27,14 +27,14 @@ impl<T> Model for ChunkedList<T> {
 }
 
 impl<T> ChunkedList<T> {
-    /// How many items there are.
+    /// Returns the number of items.
     pub fn len(&self) -> usize
         ensures { result ≡ length self.now }
     {
         self.len
     }
 
-    /// The chunks, none of which is empty.
+    /// Returns the chunks. No chunk is empty.
     pub fn chunks(&self) -> &[Vec<T>]
         ensures items { all_in result.now ≡ self.now }
         ensures some { All (λ chunk. 0 < length chunk.items) result.now }
@@ -42,14 +42,14 @@ impl<T> ChunkedList<T> {
         &self.chunks
     }
 
-    /// The item at that place, from 0 on; None exactly past the last.
+    /// Returns the item at index `i`, or `None` if `i` is past the end.
     pub fn get(&self, i: usize) -> Option<&T>
         ensures { option_copied result ≡ slice_get self.now i }
     {
         get_in(&self.chunks, i)
     }
 
-    /// The first item.
+    /// Returns the first item, or `None` if the list is empty.
     pub fn first(&self) -> Option<&T>
         ensures { MatchOption result (self.now ≡ []) (λ first. (back : List T)
             × (self.now ≡ first.now ∷ back)) }
@@ -59,7 +59,7 @@ impl<T> ChunkedList<T> {
         Some(first)
     }
 
-    /// The last item.
+    /// Returns the last item, or `None` if the list is empty.
     pub fn last(&self) -> Option<&T>
         ensures { MatchOption result (self.now ≡ [])
             (λ last. (front : List T) × (self.now ≡ front ++ last.now ∷ [])) }
@@ -71,11 +71,11 @@ impl<T> ChunkedList<T> {
 }
 
 impl<T: Drop> ChunkedList<T> {
-    /// These items as one chunk.
+    /// Returns a list that has these items as one chunk.
     ///
     /// # Errors
     ///
-    /// `AllocError` where a growth is refused; the items are dropped then.
+    /// `AllocError` if an allocation is refused; the items are then dropped.
     pub fn of(alloc: Global, items: Vec<T>) -> Result<ChunkedList<T>, AllocError>
         ensures { IfOk result (λ list. list ≡ items.items) }
     {
@@ -87,11 +87,11 @@ impl<T: Drop> ChunkedList<T> {
         Ok(ChunkedList { chunks, len })
     }
 
-    /// These items, and others behind them.
+    /// Returns this list followed by `later`.
     ///
     /// # Errors
     ///
-    /// `AllocError` where a growth is refused; both lists are dropped then.
+    /// `AllocError` if an allocation is refused; both lists are then dropped.
     pub fn followed_by(self, later: ChunkedList<T>) -> Result<ChunkedList<T>, AllocError>
         ensures { IfOk result (λ list. list ≡ self ++ later) }
     {
@@ -104,11 +104,11 @@ impl<T: Drop> ChunkedList<T> {
         Ok(ChunkedList { chunks, len })
     }
 
-    /// The items of all lists, one list behind another.
+    /// Concatenates the lists, in their order.
     ///
     /// # Errors
     ///
-    /// `AllocError` where a growth is refused; the lists are dropped then.
+    /// `AllocError` if an allocation is refused; the lists are then dropped.
     pub fn of_all(alloc: Global, lists: Vec<ChunkedList<T>>) -> Result<ChunkedList<T>, AllocError>
         ensures { IfOk result (λ list. list ≡ flat_map (λ items. items) lists.items) }
     {
@@ -119,7 +119,7 @@ impl<T: Drop> ChunkedList<T> {
         Ok(all)
     }
 
-    /// These items, with another one in place of the first, where there is one.
+    /// Returns the list with its first item replaced by `item`; an empty list stays empty.
     pub fn with_first(self, item: T) -> ChunkedList<T>
         ensures { (first : T) (back : List T) → self ≡ first ∷ back → result ≡ item ∷ back }
     {
@@ -133,11 +133,11 @@ impl<T: Drop> ChunkedList<T> {
         }
     }
 
-    /// These items but the last one.
+    /// Returns the list without its last item; an empty list stays empty.
     ///
     /// # Errors
     ///
-    /// `AllocError` where a growth is refused; the items are dropped then.
+    /// `AllocError` if an allocation is refused; the items are then dropped.
     pub fn without_last(self) -> Result<ChunkedList<T>, AllocError>
         ensures { (front : List T) (last : T) → self ≡ front ++ last ∷ []
             → IfOk result (λ rest. rest ≡ front) }
@@ -157,7 +157,7 @@ impl<T: Drop> ChunkedList<T> {
     }
 }
 
-// The item at that place of all chunks.
+// Returns the item at an index of the concatenated chunks.
 fn get_in<T>(chunks: &[Vec<T>], place: usize) -> Option<&T>
     ensures { option_copied result ≡ slice_get (all_in chunks.now) place }
 {
@@ -171,7 +171,7 @@ fn get_in<T>(chunks: &[Vec<T>], place: usize) -> Option<&T>
     None
 }
 
-// The item at that place of a chunk.
+// Returns the item at an index of one chunk.
 fn item_at<T>(chunk: &[T], place: usize) -> Option<&T>
     ensures { option_copied result ≡ slice_get chunk.now place }
 {

@@ -1,12 +1,12 @@
-//! Copies that may be refused memory.
+//! Copies that report a refused allocation.
 
 ghost use Rattle.std.specs.Prelude.{◌≡◌, IfOk};
 
 use std::alloc::{AllocError, Global};
 
-/// What can be copied with memory of its own, which may be refused.
+/// A type whose values are copied into memory of their own, which may be refused.
 pub trait DeepCopy: Drop {
-    /// A value equal to this one.
+    /// Returns a value equal to this one.
     fn copy(&self, alloc: Global) -> Result<Self, AllocError>
         ensures { IfOk result (λ copy. copy ≡ self.now) };
 }
@@ -17,7 +17,7 @@ impl<S: Copy, T: DeepCopy> DeepCopy for (S, T) {
     }
 }
 
-/// Copies of the items, in their order.
+/// Returns copies of the items, in their order.
 pub fn copy_each<T: DeepCopy>(alloc: Global, items: &[T]) -> Result<Vec<T>, AllocError>
     ensures { IfOk result (λ copies. copies.items ≡ items.now) }
 {

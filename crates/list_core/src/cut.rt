@@ -1,9 +1,9 @@
-//! Lists that are kept one behind another in one list, by the place where each ends.
+//! Lists stored one after another in a single list, with the index where each of them ends.
 
 ghost use Rattle.std.specs.Prelude.{◌≡◌, ◌<◌, length, slice_get, Some};
 ghost use Rattle.list_core.specs.Cut.{cut, start_at, EndsAt};
 
-/// Where the part of that number starts, from 0 on, among parts that end at these places.
+/// Returns the index where part `number` starts, if the parts end at `ends`. Parts are counted from 0.
 pub fn start_at(ends: &[usize], number: usize) -> usize
     requires { number < length ends.now }
     ensures { result ≡ start_at 0 ends.now number }
@@ -11,7 +11,7 @@ pub fn start_at(ends: &[usize], number: usize) -> usize
     if number == 0 { 0 } else { ends[number - 1] }
 }
 
-/// The part at that place, from 0 on, among parts that end at these places, which 32 bits hold.
+/// Returns the part at the given index, if the parts end at `ends`. Each end fits 32 bits.
 #[inline(always)]
 pub fn part_at<'a, T>(items: &'a [T], ends: &[u32], place: usize) -> &'a [T]
     requires place { place < length ends.now }
@@ -21,7 +21,7 @@ pub fn part_at<'a, T>(items: &'a [T], ends: &[u32], place: usize) -> &'a [T]
     &items[start_of(ends, place)..ends[place] as usize]
 }
 
-/// Where the part of that number starts, as `start_at` gives it, where 32 bits hold the places.
+/// Returns what `start_at` returns, for ends of 32 bits.
 #[inline(always)]
 pub fn start_of(ends: &[u32], number: usize) -> usize
     requires { number < length ends.now }

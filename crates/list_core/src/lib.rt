@@ -1,7 +1,7 @@
 #![tactic(auto)]
 
-//! Lists that contracts see as their items, whatever room they have; and what it is to be the list of all
-//! that is wanted, in order.
+//! Lists that contracts see as their items, whatever their capacity, and the meaning of "the list of everything wanted,
+//! in order".
 
 mod chunked;
 mod copy;

@@ -8,7 +8,7 @@ use crate::lists::append;
 use std::alloc::{AllocError, Global};
 use std::marker::Model;
 
-/// Items in their order. Contracts see the list of them.
+/// Items in order. Contracts see the list of them.
 #[derive(Debug, Drop)]
 pub struct List<T> {
     items: Vec<T>,
@@ -43,7 +43,7 @@ impl<T> From<List<T>> for Vec<T> {
 }
 
 impl<T> List<T> {
-    /// The empty list, which takes no memory.
+    /// Returns the empty list, which allocates nothing.
     pub fn new(alloc: Global) -> Self
         ensures { result ≡ [] }
     {
@@ -52,28 +52,28 @@ impl<T> List<T> {
         }
     }
 
-    /// How many items there are.
+    /// Returns the number of items.
     pub fn len(&self) -> usize
         ensures { result ≡ length self.now }
     {
         self.items.len()
     }
 
-    /// Whether there are none.
+    /// Returns whether the list is empty.
     pub fn is_empty(&self) -> bool
         ensures { result ≡ (length self.now == 0) }
     {
         self.items.is_empty()
     }
 
-    /// The item at that place, from 0 on; None exactly past the last.
+    /// Returns the item at index `i`, or `None` if `i` is past the end.
     pub fn get(&self, i: usize) -> Option<&T>
         ensures { option_copied result ≡ slice_get self.now i }
     {
         self.items.get(i)
     }
 
-    /// All items, in their order.
+    /// Returns all items, in order.
     pub fn as_slice(&self) -> &[T]
         ensures { result.now ≡ self.now }
     {
@@ -82,7 +82,11 @@ impl<T> List<T> {
 }
 
 impl<T: Drop> List<T> {
-    /// Adds an item at the end. Where memory is refused the list is as before, and the item is dropped.
+    /// Adds an item at the end.
+    ///
+    /// # Errors
+    ///
+    /// `AllocError` if an allocation is refused; the list is then unchanged, and the item is dropped.
     pub fn push(&mut self, item: T) -> Result<(), AllocError>
         ensures ok { OnOk result (self.new ≡ self.old ++ item ∷ []) }
         ensures err { OnErr result (self.new ≡ self.old) }
@@ -91,8 +95,11 @@ impl<T: Drop> List<T> {
         Ok(())
     }
 
-    /// Adds items at the end, as they stand; the first ones stay where they are. Where memory is
-    /// refused the list is as before.
+    /// Adds items at the end, in their order. An empty list takes them over without moving them.
+    ///
+    /// # Errors
+    ///
+    /// `AllocError` if an allocation is refused; the list is then unchanged.
     pub fn append(&mut self, more: Vec<T>) -> Result<(), AllocError>
         ensures ok { OnOk result (self.new ≡ self.old ++ more.items) }
         ensures err { OnErr result (self.new ≡ self.old) }

@@ -1,9 +1,9 @@
-//! The room that lists are made with.
+//! The capacity that lists are created with.
 
 ghost use Rattle.std.specs.Prelude.{◌≤◌};
 
-/// Room for about half of so many items, which are cut at a middle of a few of them: five eighths, so that the half
-/// that comes out larger has room too, mostly.
+/// Returns a capacity for about half of `items`, if they are split at the median of a small sample: five eighths, so
+/// that the larger half mostly fits too.
 pub fn room_for_half(items: usize) -> usize
     ensures { result ≤ items }
 {

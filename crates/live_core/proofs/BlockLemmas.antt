@@ -1,4 +1,4 @@
--- How records open statements, and end them.
+-- How records begin and end statements.
 use Rattle.std.proofs.Common.{◌≡◌, ◌⊎◌, ℕ, ◌+◌, true, false, cond, List, [], ◌∷◌, ◌++◌, length, refl, sym, ap, ◌∙◌, subst, inl, inr, append_assoc}
 use Rattle.std.specs.Prelude.{codes}
 use Rattle.std.proofs.lemmas.Bool.{cases_Bool}
@@ -20,7 +20,7 @@ use Rattle.live_core.specs.declared.blocks.Block.{Block}
 use Rattle.live_core.specs.declared.blocks.Block.TheVariants as block
 use Rattle.live_core.proofs.ScanLemmas.{block_after-append}
 
--- `end` opens no load or check
+-- `end` opens no load or check.
 no-end : (line : Record) → opens_block line ≡ true → is_end line ≡ false
 no-end line opens = elim (cases_Bool (is_end line)) [ inl ends ↦ absurd (none line ends opens) | inr other ↦ other ]
   where
@@ -32,13 +32,13 @@ no-end line opens = elim (cases_Bool (is_end line)) [ inl ends ↦ absurd (none 
         cc opened
     none (first ∷ second ∷ rest) ends opens = cc ends
 
--- ---- records that were taken
+-- ---- records that were read
 
--- it ends no load or check
+-- The record doesn't end a load or a check.
 abbrev IsRow : Record → Type 0
 IsRow line = is_end line ≡ false
 
--- the rows of a load or a check
+-- The rows of a load or a check.
 after-rows : (body : List Record) → IsBody body → block_after block.Rows body ≡ block.Rows
 after-rows [] inside = refl
 after-rows (line ∷ body) inside =
@@ -51,7 +51,7 @@ after-inner (line ∷ rows) inside =
     ap (λ b. block_after b rows) (ap (λ b. cond b block.Together block.RowsInside) (All-head IsRow line rows inside))
     ∙ after-inner rows (All-tail IsRow line rows inside)
 
--- a command of a block of commands
+-- A command of a block of commands.
 after-member : (own : List Record) (member : Member) → IsMember own member
     → block_after block.Together own ≡ block.Together
 after-member own member is = by is.means
@@ -83,18 +83,18 @@ after-members number body (member ∷ more) (own, later, split, first, is, behin
 
 -- ---- complete statements
 
--- A statement of records that are complete takes the same ones, whatever follows, and those behind are complete.
+-- A complete statement takes the same records whatever follows, and the statements after it are complete too.
 pub record IsComplete (number : ℕ) (own later : List Record) (statement : Statement) : Type 0 where
   pub states : (more : List Record) → States number own (later ++ more) statement
   pub behind : block_after block.Outside later ≡ block.Outside
 
--- behind a statement that leads there it is between statements
+-- After a statement that ends at position `b`, the later records lead to a position between statements.
 at-end : (own later : List Record) (b : Block) → block_after block.Outside own ≡ b
     → block_after block.Outside (own ++ later) ≡ block.Outside → block_after b later ≡ block.Outside
 at-end own later b at closed =
     ap (λ s. block_after s later) (sym at) ∙ (sym (block_after-append block.Outside own later) ∙ closed)
 
--- a load or a check
+-- A load or a check.
 after-block : (opening last : Record) (body : List Record) → begins (codes "together") opening ≡ false
     → opens_block opening ≡ true → IsBody body → is_end last ≡ true
     → block_after block.Outside (opening ∷ (body ++ last ∷ [])) ≡ block.Outside
@@ -104,14 +104,14 @@ after-block opening last body plain opens inside closes =
     ap (λ s. block_after s (body ++ last ∷ [])) first
     ∙ (block_after-append block.Rows body (last ∷ []) ∙ (ap (λ s. next_block s last) (after-rows body inside) ∙ end))
 
--- one without its `end`
+-- A load or a check without its `end`.
 after-opening : (opening : Record) (body : List Record) → begins (codes "together") opening ≡ false
     → opens_block opening ≡ true → IsBody body → block_after block.Outside (opening ∷ body) ≡ block.Rows
 after-opening opening body plain opens inside =
     let first : next_block block.Outside opening ≡ block.Rows = rw (plain, opens) refl in
     ap (λ s. block_after s body) first ∙ after-rows body inside
 
--- a block of commands, up to a command of it
+-- A block of commands, up to one of its commands.
 after-together : (number : ℕ) (opening : Record) (body rest : List Record) (members : List Member)
     → begins (codes "together") opening ≡ true → AreMembers number body members
     → block_after block.Outside (opening ∷ (body ++ rest)) ≡ block_after block.Together rest
@@ -121,7 +121,7 @@ after-together number opening body rest members opens inside =
     ∙ (block_after-append block.Together body rest
     ∙ ap (λ s. block_after s rest) (after-members number body members inside))
 
--- what may stand behind the last command of an unended block
+-- The records after the last whole command of an unended block.
 after-open : (rest : List Record) → IsOpen rest → block_after block.Together rest ≡ block.Outside → ⊥
 after-open [] unclosed e = cc e
 after-open (inner ∷ rows) unclosed e =
@@ -189,14 +189,14 @@ complete number own later statement (inr (inr u)) closed =
 
 -- ---- open statements
 
--- members, and one more behind them
+-- Members, and one more after them.
 pub members-more : (number : ℕ) (body own : List Record) (member : Member)
     → ((members : List Member) × AreMembers number body members) → member.number ≡ number + length body
     → IsMember own member → (more : List Member) × AreMembers number (body ++ own) more
 members-more number body own member (front, are) first is =
     (front ++ member ∷ [], AreMembers-more number body own front member are first is)
 
--- a command of one record, of this number
+-- A command of one record, with this number.
 abbrev single : ℕ → Record → Member
 single number line =
     record { number = number; opening = line; alone = meaning_or_refusal number (record_meaning line) }
@@ -210,7 +210,7 @@ single-is number line stands plain = record {
   means = inl (record { opening = line; alone = refl; plain = plain; means = refl });
 }
 
--- one record more, with which none ends
+-- One more record that doesn't end the statement.
 pub opens-more : (b : Block) (lines : List Record) (line : Record) → Opens b lines
     → is_outside (next_block b line) ≡ false → Opens (next_block b line) (lines ++ line ∷ [])
 opens-more block.Outside lines line none inside = elim (cases_Bool (begins (codes "together") line)) [
@@ -291,9 +291,9 @@ opens-more block.RowsInside lines line (opening, body, inner, rows, is, opens, m
           });
         })
 
--- ---- what is left
+-- ---- the records that are left
 
--- a load or a check is no block of commands
+-- A load or a check isn't a block of commands.
 no-together : (line : Record) → opens_block line ≡ true → begins (codes "together") line ≡ false
 no-together line opens = elim (cases_Bool (begins (codes "together") line)) [
   | inl other ↦ absurd (none line other opens)
@@ -308,7 +308,7 @@ no-together line opens = elim (cases_Bool (begins (codes "together") line)) [
         subst (λ w. opens_block (w ∷ rest) ≡ true) word opens in
         cc opened
 
--- an open statement is a block without its `end`
+-- An unfinished statement is a block without its `end`.
 pub opens-unended : (number : ℕ) (b : Block) (lines : List Record) → Opens b lines
     → (lines ≡ []) ⊎ IsUnended number lines
 opens-unended number block.Outside lines none = inl none
@@ -358,7 +358,7 @@ opens-unended number block.RowsInside lines (opening, body, inner, rows, is, ope
       },
     ))
 
--- the same block with an empty record more, which ends nothing
+-- The same block with one more record, which is empty and ends nothing.
 unended-more : (number : ℕ) (lines : List Record) → IsUnended number lines
     → (statement : Statement) × States number (lines ++ [] ∷ []) [] statement
 unended-more number lines (inl (meaning, u)) = (
@@ -420,7 +420,7 @@ unended-more number lines (inr (statement, u)) = by u.rest refl u.unclosed
       })),
     )
 
--- a statement of it takes all
+-- A statement that begins with an unended block takes all records.
 pub unended-takes : (number : ℕ) (lines own later : List Record) (statement : Statement) → IsUnended number lines
     → own ++ later ≡ lines ++ [] ∷ [] → States number own later statement → later ≡ []
 unended-takes number lines own later statement unended split states =

@@ -22,7 +22,7 @@ use Rattle.live_core.proofs.WholeLemmas.{whole-at, whole-mark}
 
 -- ---- steps
 
--- statements that are complete are done the same, whatever records follow
+-- Complete statements are executed in the same way whatever records follow.
 pub steps-complete : (p q : Place) (dones : List Done) (later : List Record) → Steps p dones q
     → block_after block.Outside p.left ≡ block.Outside → Steps (with_more p later) dones (with_more q later)
 steps-complete p q [] later same closed = ap (λ z. with_more z later) same
@@ -45,18 +45,18 @@ pub steps-both : (p q r : Place) (one other : List Done) → Steps p one q → S
 steps-both p q r [] other same steps = subst (λ z. Steps z other r) (sym same) steps
 steps-both p q r (d ∷ ds) other (mid, step, rest) steps = (mid, step, steps-both mid q r ds other rest steps)
 
--- ---- what was read, and done
+-- ---- records that were read, and statements that were executed
 
--- a place after this history
+-- A position after this history.
 abbrev pub place_at : History → ℕ → List Record → Place
 place_at history number left = record { history = history; number = number; left = left }
 
--- these statements take the records that were passed, whatever records follow
+-- These statements take the records `passed`, whatever records follow.
 abbrev pub Passes : List Record → List Done → History → ℕ → Type 0
 Passes passed dones history number =
     (later : List Record) → Steps (start_of (passed ++ later)) dones (place_at history number later)
 
--- what follows a text that was read
+-- The records of a scanned text and of the bytes that follow it.
 pub text-goes-on : (text : List ℕ) (r : Reading) → IsScanned text r → (more : List ℕ) (later : List Record)
     → AreFrom r.state r.fields r.field more later → AreScriptRecords (text ++ more) (r.done ++ (r.pending ++ later))
 text-goes-on text r s more later from =
@@ -114,7 +114,7 @@ one_whole bytes one other p q =
     same_front one other back more
     (omega (arith, p.longest other q.first, q.longest one p.first)) (sym first ∙ second)
 
--- no statement stands there but one that takes all
+-- A statement at this position takes all records.
 abbrev IsLast : Place → Type 0
 IsLast place = (done : Done) (next : Place) → Step place done next → next.left ≡ []
 
@@ -128,7 +128,7 @@ last-at place (inl none) done next step =
 last-at place (inr unended) done next step =
     unended-takes place.number place.left step.own next.left done.statement unended (sym step.taken) step.states
 
--- a step leaves no more
+-- No step makes the list of remaining records longer.
 steps-shrink : (p q : Place) (dones : List Done) → Steps p dones q → length q.left ≤ length p.left
 steps-shrink p q [] same = omega (arith, ap (λ (z : Place). length z.left) same)
 steps-shrink p q (d ∷ ds) (mid, step, rest) =
@@ -168,7 +168,7 @@ one_done bytes one other p q =
     (q.steps ([] ∷ [])) (last-at p.place p.left) (last-at q.place q.left) (some-left p.place.left)
     (some-left q.place.left)
 
--- ---- they are the first of a script that begins so
+-- ---- they are the first statements of a script that begins so
 
 pub first_done : (bytes more : List ℕ) (dones all : List Done) → AreDone bytes dones
     → AreStatementsOf (bytes ++ more) all → (later : List Done) × (all ≡ dones ++ later)
@@ -181,12 +181,12 @@ first_done bytes more dones all d s =
     s.finished.over in
     (rest, is)
 
--- ---- there are such
+-- ---- the statements exist
 
 none_is_legal : IsLegal []
 none_is_legal n c e = cc e
 
--- of bytes that may come to be a byte order mark
+-- The bytes may still become a byte order mark.
 pub mark-done : (bytes : List ℕ) (dones : List Done) (history : History) (number : ℕ) → IsMarkFront bytes
     → Passes [] dones history number → AreDone bytes dones
 mark-done bytes dones history number front steps = record {

@@ -1,4 +1,4 @@
--- What is fed, and what of it is left.
+-- Bytes that were fed, and the text that is left of them.
 use Rattle.std.proofs.Common.{◌≡◌, ◌≢◌, ◌⊎◌, ℕ, ◌+◌, ◌-◌, List, [], ◌∷◌, ◌++◌, drop, length, take, refl, sym, ap, ◌∙◌, subst, inl, inr, append_assoc, append-nil, arith}
 use Rattle.std.proofs.Math.Seq.{drop-append_seam, take-append_seam}
 use Rattle.std.proofs.lemmas.List.{length-append}
@@ -13,9 +13,9 @@ use Rattle.live_core.specs.declared.scan.Scan.{Scan}
 use Rattle.live_core.proofs.LineLemmas.{from-records, from-same}
 use Rattle.live_core.proofs.TextLemmas.{lead-all, lead-front}
 
--- ---- what follows
+-- ---- the bytes that follow
 
--- more bytes
+-- More bytes.
 pub rest-more : (bytes text more : List ℕ) (passed : List Record) → IsRest bytes passed text
     → IsRest (bytes ++ more) passed (text ++ more)
 rest-more bytes text more passed rest = record {
@@ -27,7 +27,7 @@ rest-more bytes text more passed rest = record {
       (subst (λ l. AreScriptRecords l later) (append_assoc text more on) are));
 }
 
--- behind the end of a record the lines are those of the bytes that follow
+-- After the end of a record, the records are those of the following bytes.
 lines-end : (byte : ℕ) (bytes : List ℕ) (lines : List Record) → IsLineEnd byte → AreScriptRecords (byte ∷ bytes) lines
     → AreLines bytes lines
 unfolding strip_bom next_record
@@ -52,7 +52,7 @@ lines-end byte (a ∷ b ∷ rest) lines (inr e) all =
 
 -- ---- a text whose complete statements are answered
 
--- the last byte of these, and what is before it
+-- The last byte of the complete statements, and the bytes before it.
 pub record Cut (text : List ℕ) (r : Reading) (lead : List ℕ) : Type 0 where
   pub front : List ℕ
   pub byte : ℕ
@@ -77,7 +77,7 @@ cut-of text r s some = by s.read.cut
           ∙ sym (append_assoc s.lead front (byte ∷ r.behind))));
     }
 
--- what stays in memory
+-- The bytes that stay in memory.
 pub cut-left : (text : List ℕ) (r : Reading) (lead : List ℕ) (end : ℕ) (c : Cut text r lead)
     → end ≡ length lead + length r.whole → drop (end - 1) text ≡ c.byte ∷ r.behind
 cut-left text r lead end c is =
@@ -133,7 +133,7 @@ begun-cut text r scan s c knows = record {
   knows = record { spot = knows.spot; first = knows.first; is_first = knows.is_first; block = knows.block };
 }
 
--- the records of the complete statements are those of a front of the text
+-- The records of the complete statements are those of a prefix of the text.
 pub front-records : (text : List ℕ) (r : Reading) (s : IsScanned text r) (end : ℕ) (records : List Record)
     → end ≡ length s.lead + length r.whole → AreScriptRecords (take end text) records → records ≡ r.done
 unfolding next_record

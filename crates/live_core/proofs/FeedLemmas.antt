@@ -1,4 +1,4 @@
--- What is known behind each portion.
+-- The state after each portion.
 use Rattle.std.proofs.Common.{◌≡◌, ℕ, ◌+◌, ◌-◌, ◌*◌, ◌<◌, ◌≤◌, Bool, true, false, List, [], ◌∷◌, ◌++◌, drop, length, take, refl, sym, ap, ◌∙◌, subst, inl, inr, append_assoc, append-nil, arith}
 use Rattle.std.specs.Io.KnownBytes.{Keeps}
 use Rattle.std.specs.Prelude.{sum_by}
@@ -34,23 +34,23 @@ use Rattle.live_core.proofs.SessionLemmas.{front-all, front-none, stops}
 use Rattle.live_core.proofs.TextLemmas.{begins, begins-lead, scanned-bytes, scanned-first, spot-bytes}
 use Rattle.live_core.specs.declared.steps.Spot.TheVariants as spot
 
--- ---- what is complete
+-- ---- the complete statements
 
--- no record was passed
+-- No record was passed.
 none-passed : (dones : List Done) (live : Live) (passed : List Record) → passed ≡ []
     → ((later : List Record) → Steps (start_of (passed ++ later)) dones (place_of live.session later))
     → (later : List Record) → Steps (start_of later) dones (place_of live.session later)
 none-passed dones live passed none steps later =
     subst (λ (l : List Record). Steps (start_of (l ++ later)) dones (place_of live.session later)) none (steps later)
 
--- of bytes of which nothing was scanned
+-- The complete statements of bytes that weren't scanned yet.
 waiting-done : (bytes text : List ℕ) (dones : List Done) (live : Live) (passed : List Record) (scan : Scan)
     → HasPassed bytes dones live passed → IsWaiting bytes passed text scan → AreDone bytes dones
 waiting-done bytes text dones live passed scan has waits =
     mark-done bytes dones (ledger_history live.session.ledger) live.session.number
     (subst IsMarkFront (sym waits.is) waits.front) (none-passed dones live passed waits.none has.steps)
 
--- of a text that was scanned, whose statements up to the last one that is complete are these
+-- The complete statements of a scanned text: `dones`, then `more`.
 scanned-done : (bytes text : List ℕ) (dones more : List Done) (live : Live) (passed : List Record) (r : Reading)
     → IsRest bytes passed text
     → ((later : List Record) → Steps (start_of (passed ++ later)) dones (place_of live.session later))
@@ -59,16 +59,16 @@ scanned-done bytes text dones more live passed r rest steps s (at, is) (last, on
     done-at bytes text passed r at (ledger_history live.session.ledger) live.session.number dones more last rest s is
     steps on over
 
--- there are such
+-- Such statements exist.
 pub some-rest : (session : Session) (records : List Record)
     → (dones : List Done) × AreRest (place_of session records) dones
 some-rest session records = rest_done (place_of session records) (ledger-legal session.ledger)
 
--- what a scan knows has a spot
+-- The state that a scan knows is one that a `Spot` has.
 known-spot : (scan : Scan) (r : Reading) → Knows scan r → HasSpot r.state
 known-spot scan r knows = (scan.spot, sym knows.spot)
 
--- more bytes complete some statements
+-- More bytes complete some statements.
 pub some-more : (bytes portion : List ℕ) (dones : List Done) (live : Live) → Fed bytes dones live
     → (more : List Done) × AreDone (bytes ++ portion) (dones ++ more)
 some-more bytes portion dones live fed = by live.is_begun fed.reads
@@ -103,7 +103,7 @@ some-more bytes portion dones live fed = by live.is_begun fed.reads
           (spot-bytes nothing_read b.rest (spot.Between, refl))
     ]
 
--- why nothing of them was written
+-- Nothing of these answers was written.
 pub none-written : (bytes portion : List ℕ) (dones : List Done) (live : Live) (before after : Sink) → Fed bytes dones live
     → Keeps before.written after.written → ExplainsMore (bytes ++ portion) dones before after NoMemory
 none-written bytes portion dones live before after fed kept =
@@ -112,7 +112,7 @@ none-written bytes portion dones live before after fed kept =
 
 -- ---- scanned
 
--- the same session, and a longer text
+-- The same session with a longer text.
 pub record Grows (old new : Live) (portion : List ℕ) : Type 0 where
   pub session : new.session ≡ old.session
   pub text : new.text.items ≡ old.text.items ++ portion
@@ -129,7 +129,7 @@ passed-more bytes portion dones old new passed grows has =
       fit = subst IsFit session has.fit;
     }
 
--- nothing was answered of a text that was scanned
+-- A text that was scanned, without answering statements.
 has-scanned : (bytes : List ℕ) (dones : List Done) (live : Live) (passed : List Record) (end : ℕ)
     → HasPassed bytes dones live passed → length live.text.items ≤ 2 * script_limit → live.is_begun ≡ true
     → IsScannedTo live.text.items live.scan end → HasScanned bytes dones live end
@@ -158,7 +158,7 @@ has-scanned bytes dones live passed end has few begun to = record {
       );
 }
 
--- the place of the last cut
+-- The index of the last cut.
 cut-place : (text lead bytes : List ℕ) (old new : Reading) (scan : Scan) (from end : ℕ) (s : IsScanned text new)
     → s.lead ≡ lead → old.whole ≡ [] → old.done ≡ [] → from ≡ length lead + length old.behind
     → IsCutAt old new (end - from) → (0 < end → from < end) → Knows scan new → IsScannedTo text scan end
@@ -179,7 +179,7 @@ cut-place text lead bytes old new scan from end s is nothing none at cut some kn
       );
 }
 
--- a text that was scanned before goes on
+-- One more portion of a text that was scanned before.
 pub scanned-on : (bytes portion : List ℕ) (dones : List Done) (old new : Live) (from end : ℕ) → Fed bytes dones old
     → Grows old new portion → length portion ≤ script_limit → old.is_begun ≡ true → new.is_begun ≡ true
     → from ≡ length old.text.items
@@ -222,7 +222,7 @@ scanned-on bytes portion dones old new from end fed grows few was begun start re
         begun
         (subst (λ (l : List ℕ). IsScannedTo l new.scan end) (sym grows.text) to)
 
--- a text's first bytes are there
+-- It is known now where the text's records begin.
 pub scanned-begun : (bytes portion : List ℕ) (dones : List Done) (old new : Live) (place end : ℕ) → Fed bytes dones old
     → Grows old new portion → length portion ≤ script_limit → old.is_begun ≡ false → new.is_begun ≡ true
     → place ≤ length new.text.items → IsLead (take place new.text.items) (drop place new.text.items)
@@ -251,7 +251,7 @@ scanned-begun bytes portion dones old new place end fed grows few was begun with
         ))
         begun to
 
--- they may still come to be a byte order mark
+-- The bytes may still become a byte order mark.
 pub scanned-waits : (bytes portion : List ℕ) (dones : List Done) (old new : Live) → Fed bytes dones old
     → Grows old new portion → old.is_begun ≡ false → new.is_begun ≡ false → new.scan ≡ old.scan
     → IsMarkFront new.text.items → HasScanned (bytes ++ portion) dones new 0
@@ -282,7 +282,7 @@ scanned-waits bytes portion dones old new fed grows was waits scan front =
 
 -- ---- answered
 
--- no statement more
+-- No further statement is complete.
 pub answers-none : (bytes : List ℕ) (dones : List Done) (live : Live) (before after : Sink) → AreDone bytes dones
     → Fed bytes dones live → Keeps before.written after.written → AnswersMore bytes dones live before after
 answers-none bytes dones live before after are fed kept = record {
@@ -304,7 +304,7 @@ tells-both old new dones more tells commands errors = record {
       ∙ sym (sum_by-append (λ (done : Done). errors_in done.answer) dones more));
 }
 
--- the statements up to a place of the text
+-- The statements before an index of the text were answered.
 pub answers-more : (bytes : List ℕ) (dones : List Done) (old new : Live) (end : ℕ) (records : List Record)
     (before after : Sink) → FedTo bytes dones old end → 0 < end
     → AreScriptRecords (take end old.text.items) records → new.text.items ≡ drop (end - 1) old.text.items
@@ -349,7 +349,7 @@ answers-more bytes dones old new end records before after fed some parsed text s
       };
     }
 
--- why they weren't, or not all
+-- Not all of them were answered.
 pub stops-more : (bytes : List ℕ) (dones : List Done) (live : Live) (end : ℕ) (records : List Record)
     (before after : Sink) (fault : RunFault) → FedTo bytes dones live end → 0 < end
     → AreScriptRecords (take end live.text.items) records → StopsAnswering records live.session before after fault
@@ -366,7 +366,7 @@ stops-more bytes dones live end records before after fault fed some parsed why =
       stop,
     )
 
--- they were, and too many bytes are left
+-- All of them were answered, and too many bytes are left.
 pub long-more : (bytes : List ℕ) (dones : List Done) (old : Live) (new : Session) (end : ℕ) (records : List Record)
     (before after : Sink) → FedTo bytes dones old end → 0 < end
     → AreScriptRecords (take end old.text.items) records → HasAnswered records old.session new before after
@@ -384,7 +384,7 @@ long-more bytes dones old new end records before after fed some parsed has =
       front-all before.written after.written (output_of has.dones) has.written,
     )
 
--- none was, for want of memory
+-- None of them was answered, because memory was refused.
 pub none-answered : (bytes : List ℕ) (dones : List Done) (live : Live) (end : ℕ) (before after : Sink)
     → FedTo bytes dones live end → Keeps before.written after.written → ExplainsMore bytes dones before after NoMemory
 none-answered bytes dones live end before after fed kept =
@@ -398,7 +398,7 @@ none-answered bytes dones live end before after fed kept =
 
 -- ---- at the end
 
--- the statements of all records
+-- The statements of all records.
 statements-rest : (bytes : List ℕ) (dones more : List Done) (live : Live) (records : List Record)
     → Fed bytes dones live → AreScriptRecords live.text.items records → AreRest (place_of live.session records) more
     → AreStatementsOf bytes (dones ++ more)

@@ -1,4 +1,4 @@
--- The records of bytes, one byte after another.
+-- The records of bytes, byte by byte.
 use Rattle.std.proofs.Common.{◌≡◌, ℕ, ◌||◌, ◌==◌, Bool, true, false, cond, List, [], ◌∷◌, ◌++◌, Some, refl, sym, ap, ◌∙◌, subst, inl, inr}
 use Rattle.std.proofs.lemmas.Bool.{cases_Bool}
 use Rattle.csv.specs.Machine.{field_after, fields_after, in_field, is_end, next_record, start_field, start_record, step}
@@ -13,7 +13,7 @@ use Rattle.live_core.specs.Texts.{AreFrom}
 use Rattle.live_core.specs.declared.steps.Spot.{Spot}
 use Rattle.live_core.specs.declared.steps.Spot.TheVariants as spot
 
--- ---- as `csv` has them
+-- ---- as defined by `csv`
 
 pub to-records : (s : State) (xs : List ℕ) (lines : List Record) → AreFrom s [] [] xs lines
     → AreRecords default_config s xs lines
@@ -33,14 +33,14 @@ from-records s xs (line ∷ lines) (t, ys, (read, is, first, reached), none) =
 
 -- ---- byte by byte
 
--- where the next record is the same, so are all
+-- If the next record is the same, so are all records.
 pub from-same : (s t : State) (f g : Record) (p o xs ys : List ℕ) (lines : List Record)
     → next_record default_config s f p xs ≡ next_record default_config t g o ys → AreFrom t g o ys lines
     → AreFrom s f p xs lines
 from-same s t f g p o xs ys [] same none = same ∙ none
 from-same s t f g p o xs ys (line ∷ lines) same (read, is, first, more) = (read, same ∙ is, first, more)
 
--- behind a carriage return all is as between records
+-- After a carriage return, each byte is read as between records.
 step-folded : (c : ℕ) → step default_config st.AfterCr c ≡ step default_config st.StartRecord c
 step-folded c = elim (cases_Bool (c == 10)) [
   | inl line ↦ elim (cases_Bool (c == 13)) [ inl return ↦ rw (line, return) refl | inr other ↦ rw (line, other) refl ]
@@ -62,7 +62,7 @@ next-folded st.AfterCr f p (c ∷ rest) =
     ap (λ (q : State × Action). cond (is_end q.1) (Some (fields_after q.1 f p, q.0, rest))
     (next_record default_config q.0 (fields_after q.1 f p) (field_after q.1 c p) rest)) (sym (step-folded c))
 
--- a byte that ends no record
+-- A byte that doesn't end a record.
 pub next-inside : (s : State) (f : Record) (p : List ℕ) (c : ℕ) (rest : List ℕ)
     → is_end (step default_config s c).1 ≡ false
     → next_record default_config s f p (c ∷ rest)
@@ -77,7 +77,7 @@ end-fields act.Copy f p e = absurd (cc e)
 end-fields act.EndField f p e = absurd (cc e)
 end-fields act.EndRecord f p e = refl
 
--- a byte that ends one
+-- A byte that ends a record.
 pub next-end : (s : State) (f : Record) (p : List ℕ) (c : ℕ) (rest : List ℕ)
     → is_end (step default_config s c).1 ≡ true
     → next_record default_config s f p (c ∷ rest) ≡ Some (f ++ p ∷ [], (step default_config s c).0, rest)
@@ -88,7 +88,7 @@ next-end s f p c rest e =
 
 -- ---- a byte that ends a record
 
--- it is a line feed or a carriage return, and behind it is no record
+-- The byte is a line feed or a carriage return, and the state after it is between records.
 abbrev Ends : ℕ → State × Action → Type 0
 Ends c q = is_end q.1 ≡ true → (folded q.0 ≡ st.StartRecord) × (((c == 13) || (c == 10)) ≡ true)
 
@@ -124,9 +124,9 @@ step-ends st.InEscape c = λ e. absurd (cc e)
 step-ends st.InComment c = if-both (Ends c) (c == 10) _ _ (λ e. absurd (cc e)) (λ e. absurd (cc e))
 step-ends st.AfterCr c = if-both (Ends c) (c == 10) _ _ (λ e. absurd (cc e)) (start_record-ends c)
 
--- ---- spots
+-- ---- positions
 
--- the state is one of those that a scan knows
+-- The state is one that a scan can have.
 abbrev pub HasSpot : State → Type 0
 HasSpot s = (at : Spot) × (s ≡ state_of at)
 

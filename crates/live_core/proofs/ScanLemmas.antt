@@ -1,4 +1,4 @@
--- What a scan knows of the bytes that were read.
+-- The state of a scan after the bytes that were read.
 use Rattle.std.proofs.Common.{◌≡◌, ℕ, suc, ◌+◌, ◌<◌, Bool, true, false, cond, List, [], ◌∷◌, ◌++◌, get_or, length, take, refl, sym, ap, ◌∙◌, subst, arith}
 use Rattle.std.proofs.Math.Seq.{take-suc}
 use Rattle.std.proofs.lemmas.List.{length-append}
@@ -59,11 +59,11 @@ pub read_bytes-append : (r : Reading) (bytes more : List ℕ)
 read_bytes-append r [] more = refl
 read_bytes-append r (c ∷ rest) more = read_bytes-append (read_byte r c) rest more
 
--- how many bytes were read
+-- The number of bytes that were read.
 abbrev size_of : Reading → ℕ
 size_of r = length r.whole + length r.behind
 
--- what one byte does to a cut
+-- The effect of one byte on the last cut.
 record IsCutBy (old new : Reading) (ends : Bool) : Type 0 where
   size : size_of new ≡ suc (size_of old)
   at : ends ≡ true → length new.whole ≡ suc (size_of old)
@@ -94,7 +94,7 @@ cut-by r c = by (is_end (step default_config r.state c).1) refl
           none = λ e. (refl, refl);
         })
 
--- how far bytes were read: what is known, and the last cut
+-- The scan's state after `place` bytes, and the last cut.
 pub record IsReadTo (scan : Scan) (r new : Reading) (place last : ℕ) : Type 0 where
   pub knows : Knows scan new
   pub cut : IsCutAt r new last
@@ -107,7 +107,7 @@ read-none scan r knows = record {
   size = omega arith;
 }
 
--- one byte more
+-- One more byte.
 pub read-byte : (old new : Scan) (r mid : Reading) (place cut : ℕ) (c : ℕ) (ends : Bool)
     → IsReadTo old r mid place cut → Knows new (read_byte mid c) → ends ≡ ends_statement mid c
     → IsReadTo new r (read_byte mid c) (place + 1) (cond ends (place + 1) cut)
@@ -133,7 +133,7 @@ read-byte old new r mid place cut c false to knows is =
       size = omega (arith, b.size, to.size);
     }
 
--- the next of some bytes
+-- The next of some bytes.
 pub read-on : (old new : Scan) (r : Reading) (bytes : List ℕ) (place cut next : ℕ) (ends : Bool)
     → place < length bytes → IsReadTo old r (read_bytes r (take place bytes)) place cut
     → ((r : Reading) → Knows old r → Knows new (read_byte r (get_or bytes place 0))

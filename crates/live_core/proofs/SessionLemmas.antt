@@ -1,4 +1,4 @@
--- What a session has answered.
+-- The statements that a session has answered.
 use Rattle.std.proofs.Common.{◌≡◌, ℕ, ◌+◌, ◌*◌, ◌≤◌, List, [], ◌∷◌, ◌++◌, Option, length, take, sym, ap, ◌∙◌, subst, arith}
 use Rattle.std.specs.Io.KnownBytes.{Appends, Keeps}
 use Rattle.std.proofs.KnownBytes.{Appends-kept, Appends-nil}
@@ -22,7 +22,7 @@ use Rattle.live_core.specs.Portions.{ExplainsStop}
 use Rattle.live_core.specs.Standing.{HasAnswered, StopsAnswering, place_of}
 use Rattle.live_core.specs.declared.session.Session.{Session}
 
--- a text of some bytes has few records
+-- A text has at most two records for each byte.
 pub text-few : (text : List ℕ) (records : List Record) → AreScriptRecords text records
     → length records ≤ 2 * length text
 text-few text records (t, left, reached, none) =
@@ -32,7 +32,7 @@ text-few text records (t, left, reached, none) =
       strip_bom-le text,
     )
 
--- all was answered
+-- All statements were answered.
 pub has-answered : (records : List Record) (old new : Session) (before after : Sink) (reported : Outcome)
     → AnswersAll (place_of old records) (ledger_history new.ledger) before after reported
     → new.number ≡ old.number + length records
@@ -48,7 +48,7 @@ has-answered records old new before after reported (dones, steps, writes) number
   errors = errors ∙ ap (λ n. old.outcome.errors + n) writes.tells.errors;
 }
 
--- why it stopped
+-- Answering stopped.
 pub stops-answering : (records : List Record) (old : Session) (before after : Sink) (fault : RunFault)
     → ExplainsAnswering (place_of old records) before after fault → StopsAnswering records old before after fault
 stops-answering records old before after ReadFault why = why
@@ -56,20 +56,20 @@ stops-answering records old before after TooLong why = absurd why
 stops-answering records old before after NoMemory why = why
 stops-answering records old before after WriteFault why = why
 
--- ---- fronts
+-- ---- prefixes
 
--- none of it
+-- The empty prefix.
 pub front-none : (before after : Option (List ℕ)) (bytes : List ℕ) → Keeps before after
     → AppendsFront before after bytes
 front-none before after bytes kept = (0, Appends-kept before before after [] (Appends-nil before) kept)
 
--- all of it
+-- The whole.
 pub front-all : (before after : Option (List ℕ)) (bytes : List ℕ) → Appends before after bytes
     → AppendsFront before after bytes
 front-all before after bytes written =
     (length bytes, subst (Appends before after) (sym (take_all (length bytes) bytes (omega arith))) written)
 
--- the answers of some first statements
+-- The answers to the first statements.
 pub front-before : (dones : List Done) (before after : Sink) → WritesBefore dones before after
     → AppendsFront before.written after.written (output_of dones)
 front-before dones before after w =
@@ -83,7 +83,7 @@ front-before dones before after w =
           w.written,
     )
 
--- what a stop says of the statements that were to be answered
+-- The statements that were to be answered, when answering stopped.
 pub stops : (records : List Record) (old : Session) (before after : Sink) (fault : RunFault)
     → ((dones : List Done) × AreRest (place_of old records) dones) → StopsAnswering records old before after fault
     → (dones : List Done) × AreRest (place_of old records) dones × ExplainsStop dones before after fault

@@ -1,4 +1,4 @@
--- What is written of a script while it is read.
+-- The answers that are written while a script is read.
 use Rattle.std.proofs.Common.{◌≡◌, ℕ, ◌+◌, ◌≤◌, ◌<◌, suc, List, [], ◌∷◌, ◌++◌, Option, None, Some, Result, drop, length, take, refl, sym, ap, ◌∙◌, subst, inl, inr, append_assoc, append-nil, arith}
 use Rattle.std.specs.Prelude.{IfErr, IfOk}
 use Rattle.std.specs.Io.KnownBytes.{Appends, Consumes, IsAtEnd}
@@ -24,7 +24,7 @@ use Rattle.live_core.proofs.DoneLemmas.{first_done, mark-done}
 use Rattle.live_core.proofs.FeedLemmas.{some-more}
 use Rattle.live_core.proofs.SessionLemmas.{front-all, front-none}
 
--- ---- answers one after another
+-- ---- consecutive answers
 
 output-both : (one other : List Done) → output_of (one ++ other) ≡ output_of one ++ output_of other
 output-both one other = flat_map-append (λ (done : Done). bytes_of done.answer) one other
@@ -61,9 +61,9 @@ within-both one other before mid after written w =
           w.written);
     }
 
--- ---- a run so far
+-- ---- an unfinished run
 
--- these bytes were read and fed, these statements answered
+-- These bytes were read and fed, and these statements were answered.
 pub record IsRunTo (before now : Streams) (live : Live) : Type 0 where
   pub bytes : List ℕ
   pub dones : List Done
@@ -72,7 +72,7 @@ pub record IsRunTo (before now : Streams) (live : Live) : Type 0 where
   pub are : AreDone bytes dones
   pub written : Appends before.writer.written now.writer.written (output_of dones)
 
--- nothing is complete in no bytes
+-- No statement is complete in no bytes.
 none-done : AreDone [] []
 none-done = mark-done [] [] [] 1 (inl refl) (λ later. refl)
 
@@ -86,7 +86,7 @@ run-none now live fed = record {
   written = Appends-nil now.writer.written;
 }
 
--- one portion more
+-- One more portion.
 pub run-more : (before now next : Streams) (old new : Live) (portion : List ℕ) → (t : IsRunTo before now old)
     → Consumes now.reader.unread next.reader.unread portion
     → AnswersMore (t.bytes ++ portion) t.dones new now.writer next.writer → IsRunTo before next new
@@ -101,7 +101,7 @@ run-more before now next old new portion t read answers = record {
       (output_of answers.more) t.written answers.written);
 }
 
--- all of it
+-- The whole script.
 pub run-over : (before now after : Streams) (live : Live) (outcome : Outcome) → (t : IsRunTo before now live)
     → after.reader.unread ≡ now.reader.unread → IsAtEnd now.reader.unread
     → AnswersRest t.bytes t.dones outcome now.writer after.writer → RunsAll before after outcome
@@ -123,7 +123,7 @@ run-over before now after live outcome t same end rest = (
 
 -- ---- why a run stopped
 
--- its statements, and those behind them of which a front was answered
+-- The run's answers, then a prefix of the answers to further statements.
 stopped : (one other : List Done) (before now after : Streams) (fault : RunFault)
     → Appends before.writer.written now.writer.written (output_of one)
     → before.writer.failures ≤ now.writer.failures → before.writer.failures < greatest_count
@@ -140,7 +140,7 @@ stopped one other before now after NoMemory written counts room why =
 stopped one other before now after WriteFault written counts room (grown, within) =
     (omega (arith, grown, counts, room), within-both one other before.writer now.writer after.writer written within)
 
--- in a portion
+-- The run stopped in a portion.
 pub run-stopped : (before now after : Streams) (live : Live) (portion : List ℕ) (fault : RunFault)
     → (t : IsRunTo before now live) → (left : Option (List ℕ)) → Consumes now.reader.unread left portion
     → before.writer.failures ≤ now.writer.failures → before.writer.failures < greatest_count
@@ -155,7 +155,7 @@ run-stopped before now after live portion fault t left read counts room (more, a
   stopped t.dones more before now after fault t.written counts room why,
 )
 
--- at the end
+-- The run stopped at the end of the script.
 pub run-stopped-rest : (before now after : Streams) (live : Live) (fault : RunFault) → (t : IsRunTo before now live)
     → after.reader.unread ≡ now.reader.unread → IsAtEnd now.reader.unread
     → before.writer.failures ≤ now.writer.failures → before.writer.failures < greatest_count
@@ -171,7 +171,7 @@ run-stopped-rest before now after live fault t same end counts room (more, are, 
   stopped t.dones more before now after fault t.written counts room why,
 )
 
--- in a read
+-- The run stopped in a read.
 pub run-unread : (before now after : Streams) (live : Live) (limit : ℕ) (fault : RunFault)
     → (t : IsRunTo before now live) → after.writer ≡ now.writer → before.reader.failures ≤ now.reader.failures
     → before.reader.failures < greatest_count → ExplainsReadingOn [] limit now.reader after.reader fault
@@ -209,7 +209,7 @@ run-unread before now after live limit NoMemory t same counts room why = (
 )
 run-unread before now after live limit WriteFault t same counts room why = absurd why
 
--- before anything was read
+-- The run stopped before anything was read.
 pub run-unbegun : (now : Streams) → ExplainsRun now now NoMemory
 run-unbegun now = (
   [],
@@ -217,7 +217,7 @@ run-unbegun now = (
   front-none now.writer.written now.writer.written [] (Keeps-refl now.writer.written),
 )
 
--- past all portions
+-- The run stopped after the last possible portion.
 pub run-endless : (before now : Streams) (live : Live) → IsRunTo before now live → ExplainsRun before now TooLong
 run-endless before now live t = (
   t.dones,
@@ -233,7 +233,7 @@ whole_script script unread left read known consumed end =
     sym (Consumes-whole (Some script) left read (λ bytes. bytes ≡ read)
     (subst (λ bytes. Consumes bytes left read) known consumed) end refl)
 
--- its output is what its statements answer
+-- The script's output is the answers to its statements.
 output_is : (script output : List ℕ) (before after : Source) (dones : List Done) → before.unread ≡ Some script
     → IsOutput script output → ReadsAll before after dones → output ≡ output_of dones
 output_is script output before after dones known o (read, consumed, end, are) =
@@ -254,7 +254,7 @@ ok-written before after result runs script output known o =
     IfOk-weaker result (RunsAll before after) (λ _. Appends before.writer.written after.writer.written output)
     (λ outcome all. all-written before after outcome script output all known o) runs
 
--- the statements of some first bytes are the first of the script
+-- The statements of a prefix of the script are its first statements.
 output_begins : (script output : List ℕ) (before after : Source) (dones : List Done) → before.unread ≡ Some script
     → IsOutput script output → ReadsSome before after dones → (rest : List ℕ) × (output ≡ output_of dones ++ rest)
 output_begins script output before after dones known o (inr all) =
@@ -270,7 +270,7 @@ output_begins script output before after dones known o (inl (bytes, (left, read)
         first_done bytes more dones o.dones are (subst (λ l. AreStatementsOf l o.dones) is o.statements) in
         (output_of later, o.is ∙ (ap output_of first ∙ output-both dones later))
 
--- a front of some bytes is one of more
+-- A prefix of some bytes is a prefix of these and more.
 front-more : (old new : Option (List ℕ)) (bytes rest : List ℕ) → AppendsFront old new bytes
     → AppendsFront old new (bytes ++ rest)
 front-more old new bytes rest (size, written) =
@@ -282,7 +282,7 @@ front-more old new bytes rest (size, written) =
         ∙ (ap (take (length (take size bytes))) (append_assoc (take size bytes) (drop size bytes) rest)
         ∙ take-append_seam (take size bytes) (drop size bytes ++ rest))
 
--- what was written is a front of these answers
+-- The bytes that were written are a prefix of these answers.
 up-to : (dones : List Done) (before after : Streams) (fault : RunFault) → WritesUpTo dones before after fault
     → AppendsFront before.writer.written after.writer.written (output_of dones)
 up-to dones before after ReadFault (failed, written) =
@@ -318,7 +318,7 @@ fault-front before after result why script output known o =
         (front-more before.writer.written after.writer.written (output_of dones) rest
         (up-to dones before after fault writes))
 
--- what was read behind nothing
+-- The bytes that were read into an empty text.
 pub read-portion : (unread left : Option (List ℕ)) (old text : List ℕ) → HasReadOn unread left old text → old ≡ []
     → Consumes unread left text
 read-portion unread left old text (bytes, read, is) none =

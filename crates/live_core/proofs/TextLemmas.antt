@@ -13,9 +13,9 @@ use Rattle.live_core.proofs.BlockLemmas.{opens-more}
 use Rattle.live_core.proofs.LineLemmas.{HasSpot, from-same, next-end, next-folded, next-inside, spot-step, step-ends, to-records}
 use Rattle.live_core.proofs.ScanLemmas.{block_after-append, outside-is}
 
--- ---- what stands before the bytes that are read
+-- ---- the bytes before those that are read
 
--- more bytes
+-- More bytes.
 pub lead-more : (lead bytes more : List ℕ) → IsLead lead bytes → IsLead lead (bytes ++ more)
 lead-more lead bytes more (inl is) = inl is
 lead-more lead bytes more (inr (inl (none, unmarked))) =
@@ -26,7 +26,7 @@ lead-more lead bytes more (inr (inl (none, unmarked))) =
     ))
 lead-more lead bytes more (inr (inr end)) = inr (inr end)
 
--- the end of a record begins no mark, and is passed over
+-- The end of a record isn't the start of a byte order mark, and is skipped.
 pub end-lines : (byte : ℕ) (bytes : List ℕ) (lines : List Record) → IsLineEnd byte → AreLines bytes lines
     → AreScriptRecords (byte ∷ bytes) lines
 unfolding strip_bom next_record
@@ -49,7 +49,7 @@ end-lines byte (a ∷ b ∷ rest) lines (inr e) all =
     rw e (to-records st.StartRecord (13 ∷ a ∷ b ∷ rest) lines
     (from-same st.StartRecord st.StartRecord [] [] [] [] (13 ∷ a ∷ b ∷ rest) (a ∷ b ∷ rest) lines refl all))
 
--- a text that begins with no mark doesn't where it is cut short
+-- If a text has no byte order mark, nor has a prefix of it.
 unmarked-front : (text back : List ℕ) → strip_bom (text ++ back) ≡ text ++ back → strip_bom text ≡ text
 unfolding strip_bom
 unmarked-front [] back same = refl
@@ -67,7 +67,7 @@ mark-lines : (bytes : List ℕ) (lines : List Record) → AreLines bytes lines �
 unfolding strip_bom
 mark-lines bytes lines all = to-records st.StartRecord bytes lines all
 
--- the records of a front of the bytes that are read
+-- The records of a prefix of the bytes.
 pub lead-front : (lead front back : List ℕ) (lines : List Record) → IsLead lead (front ++ back) → AreLines front lines
     → AreScriptRecords (lead ++ front) lines
 lead-front lead front back lines (inl is) all = rw is (mark-lines front lines all)
@@ -78,7 +78,7 @@ lead-front lead front back lines (inr (inl (none, unmarked))) all =
     rw (none, same) (to-records st.StartRecord front lines all)
 lead-front lead front back lines (inr (inr (byte, is, ends))) all = rw is (end-lines byte front lines ends all)
 
--- those of all of them, and of what follows
+-- The records of all bytes, and of the bytes that follow.
 pub lead-all : (lead bytes more : List ℕ) (lines : List Record) → IsLead lead bytes → AreLines (bytes ++ more) lines
     → AreScriptRecords ((lead ++ bytes) ++ more) lines
 lead-all lead bytes more lines leads all =
@@ -88,7 +88,7 @@ lead-all lead bytes more lines leads all =
 
 -- ---- one byte
 
--- a byte that ends a record: what it is
+-- A byte that ends a record is a line feed or a carriage return.
 end-byte : (c : ℕ) → ((c == 13) || (c == 10)) ≡ true → IsLineEnd c
 end-byte c e = elim (cases_Bool (c == 13)) [
   | inl return ↦ inr (eqb-true c 13 return)
@@ -96,7 +96,7 @@ end-byte c e = elim (cases_Bool (c == 13)) [
 ]
 
 module _ (r : Reading) (c : ℕ) (s : IsRead r) where
-  -- the byte and what follows, where it ends no record
+  -- The byte doesn't end a record.
   inside-pending : is_end (step default_config r.state c).1 ≡ false → (more : List ℕ) (later : List Record)
       → AreFrom (folded (step default_config r.state c).0)
       (fields_after (step default_config r.state c).1 r.fields r.field)
@@ -122,7 +122,7 @@ module _ (r : Reading) (c : ℕ) (s : IsRead r) where
     opens = s.opens;
   }
 
-  -- where it ends one
+  -- The byte ends a record.
   ended-pending : is_end (step default_config r.state c).1 ≡ true → (more : List ℕ) (later : List Record)
       → AreLines more later → AreLines ((r.behind ++ c ∷ []) ++ more) ((r.pending ++ line_at_hand r ∷ []) ++ later)
   ended-pending e more later all =
@@ -198,7 +198,7 @@ pub read-bytes : (r : Reading) (bytes : List ℕ) → IsRead r → IsRead (read_
 read-bytes r [] s = s
 read-bytes r (c ∷ rest) s = read-bytes (read_byte r c) rest (read-byte r c s)
 
--- the bytes that were read
+-- The bytes that were read.
 abbrev pub all_read : Reading → List ℕ
 all_read r = r.whole ++ r.behind
 
@@ -244,7 +244,7 @@ spot-bytes r (c ∷ rest) at = spot-bytes (read_byte r c) rest (by (is_end (step
 
 -- ---- a text's first bytes
 
--- where reading begins, unless the bytes may come to be a byte order mark
+-- The start of the records, unless the bytes may still become a byte order mark.
 pub record Begins (text : List ℕ) : Type 0 where
   pub lead : List ℕ
   pub rest : List ℕ
@@ -300,7 +300,7 @@ begins (a ∷ b ∷ c ∷ rest) = elim (cases_Bool (is_bom a b c)) [
     marks true false z p q s marked = absurd (cc (rw (p, q) at marked))
     marks true true false p q s marked = absurd (cc (rw (p, q, s) at marked))
 
--- nothing was read yet
+-- Nothing was read yet.
 pub read-nothing : IsRead nothing_read
 read-nothing = record {
   whole = λ more later all. all;
@@ -319,7 +319,7 @@ scanned-first text lead rest is leads = record {
   read = read-bytes nothing_read rest read-nothing;
 }
 
--- a text that is no front of a mark, and doesn't begin with one
+-- A text that neither begins with the byte order mark nor is a prefix of it.
 pub lead-none : (text : List ℕ) → starts_with nat_eq text mark ≡ false → starts_with nat_eq mark text ≡ false
     → IsLead [] text
 lead-none text other short = elim (begins text) [

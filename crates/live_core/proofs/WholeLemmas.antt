@@ -46,7 +46,7 @@ some_from s f p (c ∷ rest) =
           (field_after (step default_config s c).1 c p) (c ∷ rest) rest lines (next-inside s f p c rest e) on,
     )
 
--- ---- those that are whole are the first
+-- ---- the whole records are the first
 
 pub begin-with : (bytes : List ℕ) (records : List Record) (s : State) (f : Record) (p : List ℕ)
     → ((more : List ℕ) (later : List Record) → AreFrom s f p more later
@@ -55,9 +55,9 @@ begin-with bytes records s f p goes_on = λ more all are.
     let (later, from) = some_from s f p more in
     (later, one_records (bytes ++ more) all (records ++ later) are (goes_on more later from))
 
--- ---- and no others are
+-- ---- no other record is whole
 
--- the record that the end of the bytes ends
+-- The record that the end of the bytes ends.
 abbrev ended : Spot → Record → List ℕ → List Record
 ended spot.Between f p = []
 ended spot.FieldStart f p = (f ++ p ∷ []) ∷ []
@@ -73,7 +73,7 @@ ended-is spot.InField f p = ((f ++ p ∷ [], st.StartRecord, []), refl, refl, re
 ended-is spot.InQuotes f p = ((f ++ p ∷ [], st.StartRecord, []), refl, refl, refl)
 ended-is spot.BehindQuote f p = ((f ++ p ∷ [], st.StartRecord, []), refl, refl, refl)
 
--- a letter more
+-- The same record with one more letter.
 abbrev longer : Record → List ℕ → List Record
 longer f p = (f ++ (p ++ 120 ∷ []) ∷ []) ∷ []
 
@@ -85,7 +85,7 @@ longer-is spot.InField f p = ((f ++ (p ++ 120 ∷ []) ∷ [], st.StartRecord, []
 longer-is spot.InQuotes f p = ((f ++ (p ++ 120 ∷ []) ∷ [], st.StartRecord, []), refl, refl, refl)
 longer-is spot.BehindQuote f p = ((f ++ (p ++ 120 ∷ []) ∷ [], st.StartRecord, []), refl, refl, refl)
 
--- how many bytes there are
+-- The number of bytes in records.
 abbrev bytes_in : List Record → ℕ
 bytes_in records = sum_by (λ (line : Record). sum_by (λ (field : List ℕ). length field) line) records
 
@@ -97,7 +97,7 @@ bytes-one records f p =
     let one = sum_by-append (λ (field : List ℕ). length field) f (p ∷ []) in
     omega (arith, all, one)
 
--- a record that a letter changes isn't known
+-- A record that another letter would change isn't known.
 differs : (records others back more : List Record) (f : Record) (p : List ℕ)
     → records ++ (f ++ p ∷ []) ∷ [] ≡ others ++ back → records ++ longer f p ≡ others ++ more
     → length others ≤ length records
@@ -119,7 +119,7 @@ differs records others back more f p one other = elim (cases_lt (length records)
       absurd (omega (arith, ap bytes_in same, less, more, length-append p (120 ∷ [])))
 ]
 
--- none but those before the record at hand
+-- Only the records before the current one are known.
 pub longest : (bytes : List ℕ) (records : List Record) (s : Spot) (f : Record) (p : List ℕ)
     → AreScriptRecords (bytes ++ []) (records ++ ended s f p)
     → AreScriptRecords (bytes ++ 120 ∷ []) (records ++ longer f p)
@@ -151,13 +151,13 @@ whole-at bytes records s f p goes_on = record {
       (goes_on (120 ∷ []) (longer f p) (longer-is s f p));
 }
 
--- a line of these bytes alone
+-- One line of these bytes.
 alone : (bytes : List ℕ) → next_record default_config st.StartRecord [] [] bytes ≡ Some (bytes ∷ [], st.StartRecord, [])
     → AreLines bytes ((bytes ∷ []) ∷ [])
 unfolding next_record
 alone bytes is = ((bytes ∷ [], st.StartRecord, []), is, refl, refl)
 
--- a front of the byte order mark has no whole record
+-- A proper prefix of the byte order mark has no whole record.
 pub whole-mark : (bytes : List ℕ) → IsMarkFront bytes → AreWhole bytes []
 unfolding strip_bom next_record
 whole-mark bytes (inl is) = rw is (record {

@@ -1,4 +1,4 @@
--- What a run does that answers a script while it reads.
+-- A run that answers a script while it reads.
 use Rattle.std.specs.Prelude.{ℕ, ◌<◌, ◌⊎◌, List, Option}
 use Rattle.std.specs.Io.KnownBytes.{Appends, Consumes, IsAtEnd}
 use Rattle.stream_core.specs.Counted.{Source}
@@ -8,26 +8,26 @@ use Rattle.script_core.specs.Script.{AppendsFront, AreStatementsOf, Done, Stream
 use Rattle.script_core.specs.declared.outcome.Outcome.{Outcome}
 use Rattle.live_core.specs.Portions.{AreDone}
 
--- these are the statements of a script that a reader gave, to its end
+-- These are the statements of the script that the reader gave, up to its end.
 abbrev pub ReadsAll : Source → Source → List Done → Type 0
 ReadsAll before after dones =
     (script : List ℕ) × Consumes before.unread after.unread script × IsAtEnd after.unread × AreStatementsOf script dones
 
--- a script was read to its end, and its output written; the outcome's numbers are those of its statements
+-- A script was read to its end, its output was written, and the outcome has the numbers of its statements.
 abbrev pub RunsAll : Streams → Streams → Outcome → Type 0
 RunsAll before after outcome =
     (dones : List Done) × ReadsAll before.reader after.reader dones × WritesAll outcome dones before.writer after.writer
 
--- the first bytes of those that a reader has
+-- The reader's next bytes begin with these.
 abbrev pub HasFirst : Source → List ℕ → Type 0
 HasFirst source bytes = (left : Option (List ℕ)) × Consumes source.unread left bytes
 
--- these are the statements that are complete in some first bytes, or, where a reader is at its end, all
+-- These are the statements that are complete in a prefix of the script, or all statements if the reader is at its end.
 abbrev pub ReadsSome : Source → Source → List Done → Type 0
 ReadsSome before after dones =
     ((bytes : List ℕ) × HasFirst before bytes × AreDone bytes dones) ⊎ ReadsAll before after dones
 
--- why a run stopped, and what it wrote of these answers: all where a read failed, else a front
+-- Why a run stopped, and what it wrote of these answers: all if a read failed, otherwise a prefix.
 abbrev pub WritesUpTo : List Done → Streams → Streams → RunFault → Type 0
 WritesUpTo dones before after ReadFault =
     (before.reader.failures < after.reader.failures) × Appends before.writer.written after.writer.written (output_of dones)
@@ -36,7 +36,7 @@ WritesUpTo dones before after NoMemory = AppendsFront before.writer.written afte
 WritesUpTo dones before after WriteFault =
     (before.writer.failures < after.writer.failures) × WritesWithin dones before.writer after.writer
 
--- the same of the statements of what was read
+-- The same, for the statements of the bytes that were read.
 abbrev pub ExplainsRun : Streams → Streams → RunFault → Type 0
 ExplainsRun before after why =
     (dones : List Done) × ReadsSome before.reader after.reader dones × WritesUpTo dones before after why

@@ -1,4 +1,4 @@
--- Where the reading of a text stands that goes on byte by byte: in a record, and in a statement.
+-- The state of reading a text byte by byte: the position in a record, and in a statement.
 use Rattle.std.specs.Prelude.{ℕ, ◌+◌, ◌≡◌, ◌<◌, List, [], ◌∷◌, ◌++◌, Bool, true, false, codes, if◌then◌else◌, length}
 use Rattle.csv.specs.Machine.{field_after, fields_after, is_end, step}
 use Rattle.csv.specs.Reading.{default_config}
@@ -18,7 +18,7 @@ use Rattle.live_core.specs.declared.scan.Scan.{Scan}
 
 -- ---- bytes
 
--- a spot as `csv` calls it
+-- The state of `csv` for a position.
 abbrev pub state_of : Spot → State
 state_of spot.Between = st.StartRecord
 state_of spot.FieldStart = st.StartField
@@ -26,14 +26,14 @@ state_of spot.InField = st.InField
 state_of spot.InQuotes = st.InQuoted
 state_of spot.BehindQuote = st.AfterQuote
 
--- what a byte does, as `csv` calls it
+-- The action of `csv` for the effect of a byte.
 abbrev pub action_of : Move → Action
 action_of move.Skip = act.Skip
 action_of move.Copy = act.Copy
 action_of move.EndField = act.EndField
 action_of move.EndRecord = act.EndRecord
 
--- behind a carriage return that ended a record each byte does what it does between records
+-- After a carriage return that ended a record, each byte is read as between records.
 abbrev pub folded : State → State
 folded st.StartRecord = st.StartRecord
 folded st.StartField = st.StartField
@@ -46,7 +46,7 @@ folded st.AfterCr = st.StartRecord
 
 -- ---- records
 
--- where it stands behind a record in a statement
+-- The position in a statement after one more record.
 abbrev pub next_block : Block → Record → Block
 next_block block.Outside line =
     if words.begins (codes "together") line then block.Together
@@ -57,12 +57,12 @@ next_block block.Together line =
     else if words.opens_block line then block.RowsInside else block.Together
 next_block block.RowsInside line = if words.is_end line then block.Together else block.RowsInside
 
--- the same behind records
+-- The position after several records.
 abbrev pub block_after : Block → List Record → Block
 block_after block [] = block
 block_after block (line ∷ lines) = block_after (next_block block line) lines
 
--- whether it is between statements
+-- The position is between statements.
 abbrev pub is_outside : Block → Bool
 is_outside block.Outside = true
 is_outside block.Rows = false
@@ -71,8 +71,8 @@ is_outside block.RowsInside = false
 
 -- ---- a text
 
--- Bytes that were read: those of the statements that are complete, with their records, and those behind, with the
--- records that are whole of these, and the fields and the field of the record at hand.
+-- The bytes that were read. `whole` are the bytes of the complete statements, and `done` their records. `behind` are
+-- the bytes after them, `pending` the whole records of `behind`. `fields` and `field` are the unfinished record.
 pub record Reading : Type 0 where
   pub whole : List ℕ
   pub done : List Record
@@ -82,7 +82,7 @@ pub record Reading : Type 0 where
   pub fields : Record
   pub field : List ℕ
 
--- nothing yet
+-- Nothing was read yet.
 abbrev pub nothing_read : Reading
 nothing_read = record {
   whole = [];
@@ -94,7 +94,7 @@ nothing_read = record {
   field = [];
 }
 
--- a byte that ends no record
+-- A byte that doesn't end a record.
 abbrev pub inside : Reading → ℕ → State × Action → Reading
 inside r c q = record {
   whole = r.whole;
@@ -106,7 +106,7 @@ inside r c q = record {
   field = field_after q.1 c r.field;
 }
 
--- a byte that ends a record, and its statement or not
+-- A byte that ends a record, and maybe its statement.
 abbrev pub closing : Reading → ℕ → State → Record → Bool → Reading
 closing r c state line true = record {
   whole = r.whole ++ (r.behind ++ c ∷ []);
@@ -127,15 +127,15 @@ closing r c state line false = record {
   field = [];
 }
 
--- the record at hand, where it ends here
+-- The current record, if it ends here.
 abbrev pub line_at_hand : Reading → Record
 line_at_hand r = r.fields ++ r.field ∷ []
 
--- whether its statement ends with it
+-- The current record's end is the end of its statement.
 abbrev pub closes : Reading → Bool
 closes r = is_outside (next_block (block_after block.Outside r.pending) (line_at_hand r))
 
--- one byte more, of which `csv` says what it does
+-- One more byte, with the action that `csv` has for it.
 abbrev pub by_action : Reading → ℕ → State × Action → Bool → Reading
 by_action r c q true = closing r c q.0 (line_at_hand r) (closes r)
 by_action r c q false = inside r c q
@@ -143,34 +143,33 @@ by_action r c q false = inside r c q
 abbrev pub read_byte : Reading → ℕ → Reading
 read_byte r c = by_action r c (step default_config r.state c) (is_end (step default_config r.state c).1)
 
--- whether it ends a statement
+-- The byte ends a statement.
 abbrev pub ends_statement : Reading → ℕ → Bool
 ends_statement r c = if is_end (step default_config r.state c).1 then closes r else false
 
--- more bytes
+-- More bytes.
 abbrev pub read_bytes : Reading → List ℕ → Reading
 read_bytes r [] = r
 read_bytes r (c ∷ rest) = read_bytes (read_byte r c) rest
 
--- of the bytes that were read on, the last with which a statement ends stands before this place, or there is none and
--- the place is 0
+-- The index `cut` is after the last of the new bytes that ends a statement, or 0 if none does.
 pub record IsCutAt (old new : Reading) (cut : ℕ) : Type 0 where
   pub none : cut ≡ 0 → (new.whole ≡ old.whole) × (new.done ≡ old.done)
   pub some : 0 < cut → length new.whole ≡ length old.whole + length old.behind + cut
 
 -- ---- a text in memory
 
--- the first field of the record at hand, as far as it was read
+-- The first field of the current record, as far as it was read.
 abbrev pub first_of : Record → List ℕ → List ℕ
 first_of [] field = field
 first_of (first ∷ fields) field = first
 
--- no field of it is over
+-- The current record's first field isn't finished.
 abbrev pub is_first : Record → Bool
 is_first [] = true
 is_first (first ∷ fields) = false
 
--- a scan knows where reading stands
+-- A scan has the state of a reading.
 pub record Knows (scan : Scan) (r : Reading) : Type 0 where
   pub spot : state_of scan.spot ≡ r.state
   pub first : scan.first.items ≡ first_of r.fields r.field

@@ -1,4 +1,4 @@
--- Where a script stands whose bytes come in portions.
+-- The position and the store of a script that arrives in portions.
 use Rattle.std.specs.Prelude.{ℕ, ◌+◌, ◌*◌, ◌≡◌, ◌≤◌, ◌<◌, List, [], ◌++◌, length, sum_by, true}
 use Rattle.std.specs.Io.KnownBytes.{Appends}
 use Rattle.turn_core.specs.Limits.{call_limit}
@@ -17,18 +17,18 @@ use Rattle.live_core.specs.Texts.{IsReading, IsRest, IsScannedTo}
 use Rattle.live_core.specs.declared.live.Live.{Live}
 use Rattle.live_core.specs.declared.session.Session.{Session}
 
--- where the script stands, whose records that are left are these
+-- The position of the script, if these records are left.
 abbrev pub place_of : Session → List Record → Place
 place_of session left = place_in session.ledger session.number left
 
--- it has calls left for more records, and its counts have room
+-- The store has enough calls left for more records, and the counts can't overflow.
 pub record IsFit (session : Session) : Type 0 where
   pub some : 0 < session.number
   pub calls : call_limit + 2 ≤ left_in session.ledger + 2 * session.number
   pub commands : session.outcome.commands < session.number
   pub errors : session.outcome.errors ≤ session.outcome.commands
 
--- nothing was answered yet
+-- Nothing was answered yet.
 pub record IsNew (session : Session) : Type 0 where
   pub history : ledger_history session.ledger ≡ []
   pub calls : left_in session.ledger ≡ call_limit
@@ -36,7 +36,7 @@ pub record IsNew (session : Session) : Type 0 where
   pub commands : session.outcome.commands ≡ 0
   pub errors : session.outcome.errors ≡ 0
 
--- all statements of these records, which come next, were answered
+-- All statements of these records, which come next, were answered.
 pub record HasAnswered (records : List Record) (old new : Session) (before after : Sink) : Type 0 where
   pub dones : List Done
   pub steps : Steps (place_of old records) dones (place_of new [])
@@ -44,7 +44,7 @@ pub record HasAnswered (records : List Record) (old new : Session) (before after
   pub commands : new.outcome.commands ≡ old.outcome.commands + sum_by (λ done. commands_in done.statement) dones
   pub errors : new.outcome.errors ≡ old.outcome.errors + sum_by (λ done. errors_in done.answer) dones
 
--- why that stopped
+-- Why the answering of these records stopped.
 abbrev pub StopsAnswering : List Record → Session → Sink → Sink → RunFault → Type 0
 StopsAnswering records old before after ReadFault = ⊥
 StopsAnswering records old before after TooLong = IsUntouched before after
@@ -52,21 +52,22 @@ StopsAnswering records old before after NoMemory = Answering WritesBefore (place
 StopsAnswering records old before after WriteFault =
     HasGrown before.failures after.failures × Answering WritesWithin (place_of old records) before after
 
--- of these bytes the records were passed, whose statements were answered
+-- The records `passed` are the first ones of these bytes, and their statements were answered.
 pub record HasPassed (bytes : List ℕ) (dones : List Done) (live : Live) (passed : List Record) : Type 0 where
   pub rest : IsRest bytes passed live.text.items
   pub steps : (later : List Record) → Steps (start_of (passed ++ later)) dones (place_of live.session later)
   pub tells : Tells live.session.outcome dones
   pub fit : IsFit live.session
 
--- these bytes were fed, and these statements answered
+-- These bytes were fed, and these statements were answered.
 pub record Fed (bytes : List ℕ) (dones : List Done) (live : Live) : Type 0 where
   pub passed : List Record
   pub has : HasPassed bytes dones live passed
   pub few : length live.text.items ≤ script_limit
   pub reads : IsReading live.is_begun bytes passed live.text.items live.scan
 
--- these bytes were fed, and these statements answered, but none yet of those that end before this place of the text
+-- These bytes were fed, and these statements were answered. The statements that end before index `end` of the text
+-- weren't answered yet.
 pub record FedTo (bytes : List ℕ) (dones : List Done) (live : Live) (end : ℕ) : Type 0 where
   pub passed : List Record
   pub has : HasPassed bytes dones live passed

@@ -1,4 +1,4 @@
--- What is known of the text of a script's bytes behind the statements that were answered.
+-- The text after the answered statements of a script.
 use Rattle.std.specs.Prelude.{ℕ, ◌+◌, ◌<◌, ◌≡◌, ◌≢◌, ◌⊎◌, List, [], ◌∷◌, ◌++◌, Bool, true, false, None, Some, codes, length}
 use Rattle.csv.specs.Machine.{Read, next_record}
 use Rattle.csv.specs.Reading.{default_config, strip_bom}
@@ -15,19 +15,19 @@ use Rattle.live_core.specs.declared.scan.Scan.{Scan}
 
 -- ---- records
 
--- the records of bytes, where one was begun with these fields and these bytes of a field
+-- The records of bytes, if a record was begun with these fields and this part of a field.
 abbrev pub AreFrom : State → Record → List ℕ → List ℕ → List Record → Type 0
 AreFrom state fields field bytes [] = next_record default_config state fields field bytes ≡ None
 AreFrom state fields field bytes (line ∷ lines) =
     (read : Read) × (next_record default_config state fields field bytes ≡ Some read) × (line ≡ read.0)
     × AreFrom read.1 [] [] read.2 lines
 
--- the records of bytes that stand behind a record
+-- The records of bytes after a record.
 abbrev pub AreLines : List ℕ → List Record → Type 0
 AreLines bytes lines = AreFrom st.StartRecord [] [] bytes lines
 
--- Of these bytes the records were passed: whatever follows, the others are those of this text, which is their end, and
--- of what follows.
+-- The text is the end of the bytes, after the records `passed`: whatever follows, the script's other records are those
+-- of the text and of what follows.
 pub record IsRest (bytes : List ℕ) (passed : List Record) (text : List ℕ) : Type 0 where
   pub gone : List ℕ
   pub is : bytes ≡ gone ++ text
@@ -36,7 +36,7 @@ pub record IsRest (bytes : List ℕ) (passed : List Record) (text : List ℕ) : 
 
 -- ---- statements
 
--- these records open a statement, the next record of which stands so
+-- These records are an unfinished statement, and `Block` is the position of its next record.
 abbrev pub Opens : Block → List Record → Type 0
 Opens block.Outside lines = lines ≡ []
 Opens block.Rows lines =
@@ -53,26 +53,26 @@ Opens block.RowsInside lines =
 
 -- ---- texts
 
--- the byte order mark
+-- The byte order mark.
 abbrev pub mark : List ℕ
 mark = 0xEF ∷ 0xBB ∷ 0xBF ∷ []
 
--- a byte that may end a record
+-- A byte that may end a record.
 abbrev pub IsLineEnd : ℕ → Type 0
 IsLineEnd byte = (byte ≡ 10) ⊎ (byte ≡ 13)
 
--- what stands before these bytes in a text, and isn't read: the mark, nothing, where they begin with no mark, whatever
--- follows them, or the end of the record before
+-- The bytes before these in a text that aren't read: the byte order mark; nothing, if the bytes can't begin with the
+-- mark; or the end of the previous record.
 abbrev pub IsLead : List ℕ → List ℕ → Type 0
 IsLead lead bytes =
     (lead ≡ mark) ⊎ ((lead ≡ []) × ((more : List ℕ) → strip_bom (bytes ++ more) ≡ bytes ++ more))
     ⊎ ((byte : ℕ) × (lead ≡ byte ∷ []) × IsLineEnd byte)
 
--- nothing, or bytes the last of which may end a record
+-- No bytes, or bytes the last of which may end a record.
 abbrev pub IsCutOff : List ℕ → Type 0
 IsCutOff bytes = (bytes ≡ []) ⊎ ((front : List ℕ) × (byte : ℕ) × (bytes ≡ front ++ byte ∷ []) × IsLineEnd byte)
 
--- bytes were read, and reading stands so
+-- The state is right for the bytes that were read.
 pub record IsRead (r : Reading) : Type 0 where
   pub whole : (more : List ℕ) (later : List Record) → AreLines more later → AreLines (r.whole ++ more) (r.done ++ later)
   pub cut : IsCutOff r.whole
@@ -81,14 +81,14 @@ pub record IsRead (r : Reading) : Type 0 where
       → AreLines (r.behind ++ more) (r.pending ++ later)
   pub opens : Opens (block_after block.Outside r.pending) r.pending
 
--- they are those of a text
+-- The bytes of the reading are those of a text.
 pub record IsScanned (text : List ℕ) (r : Reading) : Type 0 where
   pub lead : List ℕ
   pub is : text ≡ lead ++ (r.whole ++ r.behind)
   pub leads : IsLead lead (r.whole ++ r.behind)
   pub read : IsRead r
 
--- of a text that was scanned no statement is complete
+-- A text was scanned, and no statement in it is complete.
 pub record IsBegun (text : List ℕ) (scan : Scan) : Type 0 where
   pub reading : Reading
   pub nothing : reading.whole ≡ []
@@ -96,7 +96,7 @@ pub record IsBegun (text : List ℕ) (scan : Scan) : Type 0 where
   pub scanned : IsScanned text reading
   pub knows : Knows scan reading
 
--- a text was scanned, in which the last statement that is complete ends before this place; 0 where none does
+-- A text was scanned whose last complete statement ends before index `end`; 0 if no statement is complete.
 pub record IsScannedTo (text : List ℕ) (scan : Scan) (end : ℕ) : Type 0 where
   pub reading : Reading
   pub scanned : IsScanned text reading
@@ -104,18 +104,18 @@ pub record IsScannedTo (text : List ℕ) (scan : Scan) (end : ℕ) : Type 0 wher
   pub none : end ≡ 0 → (reading.whole ≡ []) × (reading.done ≡ [])
   pub some : 0 < end → (reading.whole ≢ []) × (end ≡ length scanned.lead + length reading.whole)
 
--- bytes that are no more than a front of the mark
+-- The bytes are a proper prefix of the byte order mark.
 abbrev pub IsMarkFront : List ℕ → Type 0
 IsMarkFront bytes = (bytes ≡ []) ⊎ (bytes ≡ 0xEF ∷ []) ⊎ (bytes ≡ 0xEF ∷ 0xBB ∷ [])
 
--- all bytes so far are a text that may come to be the mark
+-- All bytes of the script may still become the byte order mark.
 pub record IsWaiting (bytes : List ℕ) (passed : List Record) (text : List ℕ) (scan : Scan) : Type 0 where
   pub is : bytes ≡ text
   pub none : passed ≡ []
   pub front : IsMarkFront text
   pub knows : Knows scan nothing_read
 
--- it scans on, or waits for the third byte of all
+-- The text is being scanned, or waits until a byte order mark is there or ruled out.
 abbrev pub IsReading : Bool → List ℕ → List Record → List ℕ → Scan → Type 0
 IsReading true bytes passed text scan = IsBegun text scan
 IsReading false bytes passed text scan = IsWaiting bytes passed text scan

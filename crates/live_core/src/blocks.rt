@@ -1,14 +1,14 @@
-//! Where a record stands in a statement.
+//! The position of a record in a statement.
 
-/// Where the next record stands.
+/// The position of the next record.
 #[derive(Clone, Copy, Debug, PartialEq, Eq)]
 pub(crate) enum Block {
     /// It begins a statement.
     Outside,
-    /// In a load or a check.
+    /// It is in a load or a check.
     Rows,
-    /// In a block of commands.
+    /// It is in a block of commands.
     Together,
-    /// In a load or a check of a block of commands.
+    /// It is in a load or a check in a block of commands.
     RowsInside,
 }

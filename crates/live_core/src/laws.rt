@@ -1,10 +1,10 @@
-//! Laws of the statements that are complete while a script goes on.
+//! Laws about the statements that are complete while a script is still arriving.
 ghost use Rattle.std.specs.Prelude.{◌≡◌, ◌++◌, List, ℕ};
 ghost use Rattle.script_core.specs.Script.{AreStatementsOf, Done};
 ghost use Rattle.live_core.specs.Portions.{AreDone};
 
-/// However bytes came in portions, the same statements are complete in them, and have the same answers: they are the
-/// first of every script that begins with these bytes.
+/// The same statements are complete, with the same answers, in whatever portions the bytes arrive. They are the first
+/// statements of every script that begins with these bytes.
 pub fn portions_make_no_difference()
     ensures exists { (bytes : List ℕ) → (dones : List Done) × AreDone bytes dones }
     ensures one { (bytes : List ℕ) (one other : List Done) → AreDone bytes one → AreDone bytes other

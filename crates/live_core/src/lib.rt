@@ -1,4 +1,4 @@
-//! A script that comes in portions: each statement is answered as soon as its last record is there.
+//! A script that arrives in portions: each statement is answered as soon as its last record has arrived.
 #![tactic(auto)]
 
 mod blocks;

@@ -1,4 +1,4 @@
-//! A script whose bytes come in portions.
+//! A script whose bytes arrive in portions.
 ghost use Rattle.std.specs.Prelude.{◌≡◌, ◌+◌, ◌-◌, ◌<◌, ◌≤◌, ◌^◌, ◌++◌, [], List, ℕ, drop, take, length, true, false, IfErr, IfNone, IfOk, IfSome, OnErr, OnOk};
 ghost use Rattle.command_core.specs.Records.{AreScriptRecords};
 ghost use Rattle.stream_core.specs.Counted.{failures_of, sink_of};
@@ -21,26 +21,27 @@ use std::thread::Threads;
 use stream_core::{Counted, Patience, RunFault, SCRIPT_LIMIT};
 use work_core::{Crew, OpenGate};
 
-/// The byte order mark, which is passed over at a script's start.
+/// The byte order mark, which is skipped at the start of a script.
 const MARK: &[u8] = b"\xEF\xBB\xBF";
 
-/// A script whose bytes come in portions, and its store. A statement is answered as soon as its last record is whole:
-/// its line end is there, and doesn't stand between quotes. Records are numbered from the script's first one on.
+/// A script whose bytes arrive in portions, and its store. A statement is answered as soon as its last record is whole,
+/// which is when its line end, outside of quotes, has arrived. Records are numbered from the script's first one on.
 ///
-/// Contracts see which bytes were fed and which statements answered (`Fed`).
+/// Contracts see the bytes that were fed and the statements that were answered (`Fed`).
 #[derive(Drop)]
 pub struct Live {
     alloc: Global,
     session: Session,
-    /// The bytes behind the last statement that was answered, and before them the last of its own.
+    /// The bytes after the last answered statement, preceded by that statement's last byte.
     text: Vec<u8>,
-    /// What those bytes tell, if it is known whether the script begins with a byte order mark.
+    /// The state after these bytes. It is used once it is known whether the script begins with a byte order mark, which
+    /// `is_begun` says.
     scan: Scan,
     is_begun: bool,
 }
 
 impl Live {
-    /// An empty store, and no bytes yet.
+    /// Returns a script without bytes, and with an empty store.
     pub fn new(alloc: Global) -> Result<Live, NoMemory>
         ensures { IfOk result (Fed [] []) }
     {
@@ -53,12 +54,16 @@ impl Live {
         })
     }
 
-    /// Takes the bytes that come next, and writes the answer of each statement that they complete.
+    /// Takes the next bytes, and writes the answer to each statement that they complete.
     ///
     /// # Errors
     ///
-    /// `TooLong` where an open statement has more than 67,108,864 bytes, `NoMemory` where a growth is refused,
-    /// `WriteFault` where a write failed: then a front of those answers is written, and no more bytes may come.
+    /// - `TooLong`: an open statement, with the bytes kept before it, has more than 67,108,864 bytes, or the script has
+    /// more than about 2^38 records.
+    /// - `NoMemory`: an allocation failed.
+    /// - `WriteFault`: a write failed.
+    ///
+    /// After an error, a prefix of these answers was written, and the script can't be continued.
     pub fn feed<T: Threads + Wait + Sync, W: Write>(
         &mut self,
         crew: &Crew<'_, T, OpenGate>,
@@ -83,12 +88,16 @@ impl Live {
         }
     }
 
-    /// Ends the script: writes the answers of the statements that are left, of which the last may have no line end, or
-    /// be a block without its `end`. Answers how many commands there were, and how many `error` records were written.
+    /// Ends the script: writes the answers to the statements that are left. The last one may lack its line end, or be a
+    /// block without its `end`. Returns the number of commands, and of `error` records that were written.
     ///
     /// # Errors
     ///
-    /// `NoMemory` where a growth is refused, `WriteFault` where a write failed: then a front of those answers is written.
+    /// - `TooLong`: the script has more than about 2^38 records.
+    /// - `NoMemory`: an allocation failed.
+    /// - `WriteFault`: a write failed.
+    ///
+    /// After an error, a prefix of these answers was written.
     pub fn finish<T: Threads + Wait + Sync, W: Write>(
         self,
         crew: &Crew<'_, T, OpenGate>,
@@ -117,8 +126,8 @@ impl Live {
         Ok(session.outcome())
     }
 
-    /// Puts the bytes behind the text, and scans on. Returns the place behind the last statement that is complete, 0
-    /// where none is.
+    /// Appends the bytes to the text, and scans them. Returns the index after the last complete statement, or 0 if no
+    /// statement is complete.
     fn scan_on(&mut self, bytes: &[u8]) -> Result<usize, NoMemory>
         requires fed { (fed : List ℕ) × (dones : List Done) × Fed fed dones self.old }
         requires few { length bytes.now ≤ script_limit }
@@ -139,7 +148,7 @@ impl Live {
         }
     }
 
-    /// Answers the statements that end before that place of the text.
+    /// Answers the statements that end before index `end` of the text.
     fn answer<T: Threads + Wait + Sync, W: Write>(
         &mut self,
         crew: &Crew<'_, T, OpenGate>,
@@ -164,7 +173,7 @@ impl Live {
         self.check_size()
     }
 
-    /// Whether the text has no more bytes than a statement may have.
+    /// Returns `TooLong` if more bytes are kept than the limit allows.
     fn check_size(&self) -> Result<(), RunFault>
         ensures ok { OnOk result (length self.now.text.items ≤ script_limit) }
         ensures err { IfErr result (λ why. why ≡ RunFault.TooLong) }
@@ -176,8 +185,8 @@ impl Live {
     }
 }
 
-/// The place at which a script's records begin, behind a byte order mark; none where the bytes so far may come to be
-/// one.
+/// Returns the index at which a script's records begin, after a byte order mark. Returns `None` if the bytes may still
+/// become one.
 fn first_place(text: &[u8]) -> Option<usize>
     ensures some { IfSome result (λ place. (place ≤ length text.now)
         × IsLead (take place text.now) (drop place text.now)) }
@@ -192,7 +201,8 @@ fn first_place(text: &[u8]) -> Option<usize>
     Some(0)
 }
 
-/// Scans a text from a place on. Returns the place behind the last statement that ends there, 0 where there is none.
+/// Scans a text from index `from` on. Returns the index after the last statement that ends there, or 0 if no statement
+/// ends.
 fn scan_tail(scan: &mut Scan, text: &[u8], from: usize) -> Result<usize, NoMemory>
     requires { from ≤ length text.now }
     ensures within { IfOk result (λ end. end ≤ length text.now) }
@@ -208,7 +218,7 @@ fn scan_tail(scan: &mut Scan, text: &[u8], from: usize) -> Result<usize, NoMemor
     Ok(from + cut)
 }
 
-/// The records of a text.
+/// Returns the records of a text.
 fn records_of<T: Threads + Sync>(
     crew: &Crew<'_, T, OpenGate>,
     text: &[u8],

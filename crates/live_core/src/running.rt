@@ -1,4 +1,4 @@
-//! Reads a script portion by portion, and answers it meanwhile.
+//! Reads a script in portions, and answers it meanwhile.
 ghost use Rattle.std.specs.Prelude.{◌≡◌, ◌<◌, ◌≤◌, [], IfErr, IfOk, List, Some, ℕ};
 ghost use Rattle.std.specs.Io.KnownBytes.{Appends};
 ghost use Rattle.stream_core.specs.Counted.{failures_of, inner_of};
@@ -17,16 +17,16 @@ use std::thread::Threads;
 use stream_core::{Counted, Patience, RunFault, SCRIPT_LIMIT, read_on};
 use work_core::{Crew, OpenGate};
 
-/// Reads a script to its end, and answers each statement as soon as its last record was read, before more is read.
-/// Writes what `script_core`'s `run` writes of the same bytes, and answers the same numbers.
+/// Reads a script to its end, and answers each statement as soon as its last record was read, before it reads more.
+/// Writes the same bytes and returns the same numbers as `script_core`'s `run`.
 ///
-/// A statement has at most 67,108,864 bytes. A read or a write that was interrupted is tried again, at most 1,000 times
-/// for each read that gives bytes. The writer is not flushed.
+/// When a portion ends, an open statement, with the bytes kept before it, may have at most 67,108,864 bytes.
+/// Interrupted reads and writes are tried again, at most 1,000 times for each portion. The writer isn't flushed.
 ///
 /// # Errors
 ///
-/// `ReadFault` where a read failed, with the answers written of all statements that were complete by then; `TooLong`
-/// with them too; `NoMemory` and `WriteFault` with a front of them.
+/// - `ReadFault`: a read failed. The answers to all statements that were complete until then were written.
+/// - `TooLong`, `NoMemory`, `WriteFault`: a prefix of these answers was written.
 pub fn run<T: Threads + Wait + Sync, R: Read, W: Write>(
     rt: &T,
     alloc: Global,
@@ -38,8 +38,8 @@ pub fn run<T: Threads + Wait + Sync, R: Read, W: Write>(
     requires reads { failures_of reader.old < greatest_count }
     requires writes { failures_of writer.old < greatest_count }
 
-    // Of the script that the reader has, Ok wrote the output, whole and nothing else, and a fault left a
-    // front of it.
+    // If the run is Ok, it wrote the whole output of the reader's script and nothing else. After a fault it wrote a
+    // prefix.
     ensures written { (script output : List ℕ)
         → R.remaining (inner_of reader.old) ≡ Some script → IsOutput script output
         → IfOk result (λ _. Appends (W.contents (inner_of writer.old))
@@ -49,17 +49,17 @@ pub fn run<T: Threads + Wait + Sync, R: Read, W: Write>(
         → IfErr result (λ _.
         AppendsFront (W.contents (inner_of writer.old)) (W.contents (inner_of writer.new)) output) }
 
-    // Ok read a script to its end, wrote its output, and reports how many commands and errors there are in it.
+    // If the run is Ok, it read a script to its end, wrote its output, and reports the numbers of commands and errors.
     ensures ok { IfOk result (RunsAll
         (streams_of R.remaining reader.old W.contents writer.old)
         (streams_of R.remaining reader.new W.contents writer.new)) }
 
-    // What each fault says of its cause, and what it leaves of the answers of the statements that were read.
+    // Each fault has its cause, and says how much of the answers to the statements that were read was written.
     ensures fault { IfErr result (ExplainsRun
         (streams_of R.remaining reader.old W.contents writer.old)
         (streams_of R.remaining reader.new W.contents writer.new)) }
 
-    // Neither count falls.
+    // Neither count of failed calls decreases.
     ensures counts { (failures_of reader.old ≤ failures_of reader.new)
         × (failures_of writer.old ≤ failures_of writer.new) }
 {
@@ -68,7 +68,7 @@ pub fn run<T: Threads + Wait + Sync, R: Read, W: Write>(
     answer_all(&crew, live, reader, writer)
 }
 
-/// Feeds what a reader has to a script of which nothing was fed, and ends it.
+/// Feeds all that a reader has to a new script, and ends the script.
 fn answer_all<T: Threads + Wait + Sync, R: Read, W: Write>(
     crew: &Crew<'_, T, OpenGate>,
     mut live: Live,

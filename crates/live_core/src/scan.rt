@@ -1,4 +1,4 @@
-//! Finds where statements end among the bytes of a script that comes in portions.
+//! Finds where statements end among the bytes of a script that arrives in portions.
 ghost use Rattle.std.specs.Prelude.{◌≡◌, ◌≤◌, [], length, true, IfOk};
 ghost use Rattle.live_core.specs.Scanning.{IsCutAt, Knows, Reading, ends_statement, first_of, is_first, is_outside, line_at_hand, next_block};
 ghost use Rattle.live_core.specs.Scanning.{nothing_read, read_byte, read_bytes};
@@ -8,20 +8,20 @@ use crate::steps::{Move, Spot, step};
 use period_core::NoMemory;
 use std::alloc::Global;
 
-/// What of the bytes so far tells where a statement ends.
+/// The state after some bytes of a script: enough to tell where the next statement ends.
 #[derive(Drop)]
 pub(crate) struct Scan {
     spot: Spot,
-    /// The first field of the record at hand, as far as it was read.
+    /// The part already read of the current record's first field.
     first: Vec<u8>,
-    /// Whether no field of that record is over.
+    /// Whether the current record's first field isn't finished yet.
     is_first: bool,
-    /// Where that record stands in its statement.
+    /// The position of the current record in its statement.
     block: Block,
 }
 
 impl Scan {
-    /// Of no bytes.
+    /// Returns the state before any byte.
     pub(crate) fn new(alloc: Global) -> Scan
         ensures { Knows result nothing_read }
     {
@@ -33,7 +33,7 @@ impl Scan {
         }
     }
 
-    /// Where the record behind the one at hand stands, which is over.
+    /// Returns the position of the next record, if the current record ends here.
     fn next_block(&self) -> Block
         ensures { (r : Reading) → self.now.first.items ≡ first_of r.fields r.field
             → self.now.is_first ≡ is_first r.fields
@@ -56,7 +56,7 @@ impl Scan {
         }
     }
 
-    /// Ends the record at hand; returns whether its statement ends with it.
+    /// Ends the current record. Returns whether its statement ends with it.
     fn end_record(&mut self) -> bool
         ensures spot { self.new.spot ≡ self.old.spot }
         ensures first { (self.new.first.items ≡ []) × (self.new.is_first ≡ true) }
@@ -71,7 +71,7 @@ impl Scan {
         self.block == Block::Outside
     }
 
-    /// Goes on by a byte; returns whether a statement ends with it.
+    /// Reads one byte. Returns whether a statement ends with it.
     fn read(&mut self, byte: u8) -> Result<bool, NoMemory>
         ensures { IfOk result (λ ends. (r : Reading) → Knows self.old r
             → Knows self.new (read_byte r byte) × (ends ≡ ends_statement r byte)) }
@@ -89,8 +89,7 @@ impl Scan {
         Ok(false)
     }
 
-    /// Goes on by some bytes; returns the place behind the last of them with which a statement ends, 0 where there is
-    /// none.
+    /// Reads some bytes. Returns the index after the last byte that ends a statement, or 0 if none does.
     pub(crate) fn read_all(&mut self, bytes: &[u8]) -> Result<usize, NoMemory>
         ensures within { IfOk result (λ cut. cut ≤ length bytes.now) }
         ensures reads { IfOk result (λ cut. (r : Reading) → Knows self.old r

@@ -1,4 +1,4 @@
-//! The store of a script that comes in portions, and what it has answered.
+//! The store of a script that arrives in portions, and the numbers of its answers.
 ghost use Rattle.std.specs.Prelude.{◌≡◌, ◌<◌, ◌≤◌, ◌^◌, [], length, IfErr, IfOk, OnOk};
 ghost use Rattle.stream_core.specs.Counted.{failures_of, sink_of};
 ghost use Rattle.live_core.specs.Standing.{HasAnswered, IsFit, StopsAnswering, IsNew};
@@ -13,10 +13,10 @@ use std::thread::Threads;
 use stream_core::{Counted, Patience, RunFault};
 use work_core::{Crew, OpenGate};
 
-/// Past so many records no more are answered: each may take two of the store's calls.
+/// The number of records after which no more are answered: each may take two of the store's calls.
 const RECORD_LIMIT: u64 = 1 << 38;
 
-/// The store, and what was answered so far.
+/// The store, and the numbers of the answers.
 #[derive(Drop)]
 pub(crate) struct Session {
     ledger: Ledger,
@@ -26,7 +26,7 @@ pub(crate) struct Session {
 }
 
 impl Session {
-    /// An empty store.
+    /// Returns a session with an empty store.
     pub(crate) fn new(alloc: Global) -> Result<Session, NoMemory>
         ensures { IfOk result IsNew }
     {
@@ -40,18 +40,18 @@ impl Session {
         })
     }
 
-    /// How many commands were answered, and how many `error` records.
+    /// Returns the number of commands that were answered, and of their `error` records.
     pub(crate) fn outcome(&self) -> Outcome
         ensures { result ≡ self.now.outcome }
     {
         self.outcome
     }
 
-    /// Answers the statements of the records that come next.
+    /// Answers the statements of the next records.
     ///
     /// # Errors
     ///
-    /// `TooLong` past some 274 thousand million records, with nothing written; else as `answer_each`.
+    /// `TooLong` after about 2^38 records, with nothing written. Otherwise the errors of `answer_each`.
     pub(crate) fn answer<T: Threads + Wait + Sync, W: Write>(
         &mut self,
         crew: &Crew<'_, T, OpenGate>,

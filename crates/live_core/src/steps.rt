@@ -1,24 +1,24 @@
-//! What each byte of a script does, as `csv` reads it.
+//! How each byte of a script is read by `csv`.
 ghost use Rattle.std.specs.Prelude.{◌≡◌};
 ghost use Rattle.csv.specs.Machine.{step};
 ghost use Rattle.csv.specs.Reading.{default_config};
 ghost use Rattle.csv.specs.Machine as machine;
 ghost use Rattle.live_core.specs.Scanning.{action_of, folded, state_of};
 
-/// Where a byte stands.
+/// The position of a byte.
 #[derive(Clone, Copy, Debug, PartialEq, Eq)]
 pub(crate) enum Spot {
     /// Between records.
     Between,
-    /// Behind a comma.
+    /// After a comma.
     FieldStart,
     InField,
     InQuotes,
-    /// Behind a quote that stands between quotes: it ends them, or is the first of two that stand for one.
+    /// After a quote in a quoted field. The quote ends the field, or is the first of two that stand for one.
     BehindQuote,
 }
 
-/// What a byte does.
+/// The effect of a byte.
 #[derive(Clone, Copy, Debug, PartialEq, Eq)]
 pub(crate) enum Move {
     Skip,
@@ -27,7 +27,7 @@ pub(crate) enum Move {
     EndRecord,
 }
 
-/// What a byte does in a field without quotes, or behind them.
+/// Returns the effect of a byte in a field, outside of quotes, and the position of the next byte.
 fn move_in_field(byte: u8) -> (Spot, Move)
     ensures spot { state_of result.0 ≡ folded (machine.in_field default_config byte).0 }
     ensures does { action_of result.1 ≡ (machine.in_field default_config byte).1 }
@@ -39,7 +39,7 @@ fn move_in_field(byte: u8) -> (Spot, Move)
     }
 }
 
-/// What a byte does between records.
+/// Returns the effect of a byte between records, and the position of the next byte.
 fn move_between(byte: u8) -> (Spot, Move)
     ensures spot { state_of result.0 ≡ folded (machine.start_record default_config byte).0 }
     ensures does { action_of result.1 ≡ (machine.start_record default_config byte).1 }
@@ -51,7 +51,7 @@ fn move_between(byte: u8) -> (Spot, Move)
     }
 }
 
-/// What a byte does, and where the next one stands.
+/// Returns the effect of a byte, and the position of the next byte.
 pub(crate) fn step(spot: Spot, byte: u8) -> (Spot, Move)
     ensures spot { state_of result.0 ≡ folded (step default_config (state_of spot) byte).0 }
     ensures does { action_of result.1 ≡ (step default_config (state_of spot) byte).1 }

@@ -1,4 +1,4 @@
--- The order of cells, and which are the same.
+-- The order of sort keys, and their equality.
 use Rattle.std.proofs.Common.{◌≡◌, Bool, true, false, not, ◌&&◌, Option, Some, None, refl, sym, ap, ◌∙◌}
 use Rattle.std.specs.Bool.{Decides}
 use Rattle.std.specs.Cmp.{IsTotalOrder}
@@ -11,7 +11,7 @@ use Rattle.share_core.specs.Ranges.{has, has_begun, has_ended}
 use Rattle.share_core.specs.declared.range.Range.{Range}
 use Rattle.match_core.specs.Cells.{cell_cmp, is_before, same_cell}
 
--- what the tests of an order mean
+-- the boolean tests of an order decide it
 equal-decides : (o : Ordering) → Decides (is_eq o) (o ≡ Equal)
 equal-decides Less = ((λ h. absurd (cc)), (λ h. absurd (cc)))
 equal-decides Equal = ((λ h. refl), (λ h. refl))
@@ -22,16 +22,16 @@ less_from Less e = refl
 less_from Equal e = absurd (cc)
 less_from Greater e = absurd (cc)
 
--- one class so far, and one value
+-- The same current class and the same value.
 abbrev pub SameCell : {V : Type 0} → (V → V → Ordering) → Cell V → Cell V → Type 0
 SameCell cmp a b = cell_cmp cmp a b ≡ Equal
 
--- the test of cells that are the same decides it
+-- the boolean test decides whether sort keys are equal
 pub same_cell-decides : {V : Type 0} (cmp : V → V → Ordering) (a b : Cell V)
     → Decides (same_cell cmp a b) (SameCell cmp a b)
 same_cell-decides cmp a b = equal-decides (cell_cmp cmp a b)
 
--- cells that are not the same are found to differ
+-- the test is false for keys that are not equal
 pub known_apart : {V : Type 0} (cmp : V → V → Ordering) (a b : Cell V) → (SameCell cmp a b → ⊥)
     → same_cell cmp a b ≡ false
 known_apart cmp a b other = by_test (same_cell cmp a b) refl where
@@ -39,37 +39,37 @@ known_apart cmp a b other = by_test (same_cell cmp a b) refl where
   by_test true e = absurd (other ((same_cell-decides cmp a b).0 e))
   by_test false e = e
 
--- what comes before a cell is not the same
+-- a key that comes before another one isn't equal to it
 pub before-differs : {V : Type 0} (cmp : V → V → Ordering) (a b : Cell V) → is_before cmp a b ≡ true
     → same_cell cmp a b ≡ false
 before-differs cmp a b less = ap is_eq (less_from (cell_cmp cmp a b) less)
 
--- the order of cells is a total one
+-- the order of sort keys is total
 pub cell_total : {V : Type 0} (cmp : V → V → Ordering) → IsTotalOrder cmp → IsTotalOrder (cell_cmp cmp)
 cell_total {V} cmp total = then_total (on_total (λ (x : Cell V). x.class) nat_cmp_total)
     (on_total (λ (x : Cell V). x.value) total)
 
 module _ {V : Type 0} (cmp : V → V → Ordering) (total : IsTotalOrder cmp) where
-  -- a cell is the same as itself
+  -- a key is equal to itself
   pub SameCell-itself : (a : Cell V) → SameCell cmp a a
   SameCell-itself a = tied_itself (cell_total cmp total) a
 
-  -- it holds the other way round
+  -- equality is symmetric
   pub SameCell-sym : (a b : Cell V) → SameCell cmp a b → SameCell cmp b a
   SameCell-sym a b s = tied_back (cell_total cmp total) a b s
 
-  -- it goes on from one cell to the next
+  -- equality is transitive
   pub SameCell-trans : (a b c : Cell V) → SameCell cmp a b → SameCell cmp b c → SameCell cmp a c
   SameCell-trans a b c s t = (cell_total cmp total).congr a b c s ∙ t
 
-  -- what comes before a cell comes before those that come after it
+  -- the order is transitive
   pub before-trans : (a b c : Cell V) → is_before cmp a b ≡ true → is_before cmp b c ≡ true
       → is_before cmp a c ≡ true
   before-trans a b c h k =
       ap is_lt
       ((cell_total cmp total).trans a b c (less_from (cell_cmp cmp a b) h) (less_from (cell_cmp cmp b c) k))
 
-  -- of two cells that differ, the second comes first where the first doesn't
+  -- if two keys differ and the first doesn't come first, the second does
   pub after-from : (a b : Cell V) → is_before cmp a b ≡ false → same_cell cmp a b ≡ false → is_before cmp b a ≡ true
   after-from a b h k = by_cmp (cell_cmp cmp a b) refl h k where
     by_cmp : (o : Ordering) → cell_cmp cmp a b ≡ o → is_lt o ≡ false → is_eq o ≡ false → is_before cmp b a ≡ true
@@ -77,36 +77,36 @@ module _ {V : Type 0} (cmp : V → V → Ordering) (total : IsTotalOrder cmp) wh
     by_cmp Equal e t u = absurd (cc)
     by_cmp Greater e t u = ap is_lt ((cell_total cmp total).antisymm b a ∙ ap ordering_reverse e)
 
-  -- what comes after a cell is not the same
+  -- a key that comes after another one isn't equal to it
   pub after-differs : (a b : Cell V) → is_before cmp b a ≡ true → same_cell cmp a b ≡ false
   after-differs a b less =
       known_apart cmp a b
       (λ s. let bad : true ≡ false = sym less ∙ ap is_lt (SameCell-sym a b s) in cc)
 
-  -- of two cells that are the same, a cell comes before both or before neither
+  -- a key comes before both of two equal keys, or before neither
   pub before-same : (a x y : Cell V) → SameCell cmp x y → is_before cmp a x ≡ is_before cmp a y
   before-same a x y s =
       ap is_lt
       ((cell_total cmp total).antisymm a x ∙ ap ordering_reverse ((cell_total cmp total).congr x y a s)
       ∙ sym ((cell_total cmp total).antisymm a y))
 
-  -- and both come before it or neither does
+  -- and both come before it, or neither does
   same-before : (a x y : Cell V) → SameCell cmp x y → is_before cmp x a ≡ is_before cmp y a
   same-before a x y s = ap is_lt ((cell_total cmp total).congr x y a s)
 
-  -- a range has begun at both or at neither
+  -- a range has begun at both of two equal keys, or at neither
   begun_same : (from : Option (Cell V)) (x y : Cell V) → SameCell cmp x y
       → has_begun (cell_cmp cmp) from x ≡ has_begun (cell_cmp cmp) from y
   begun_same None x y s = refl
   begun_same (Some first) x y s = ap not (same-before first x y s)
 
-  -- it is over at both or at neither
+  -- it has ended at both, or at neither
   ended_same : (end : Option (Cell V)) (x y : Cell V) → SameCell cmp x y
       → has_ended (cell_cmp cmp) end x ≡ has_ended (cell_cmp cmp) end y
   ended_same None x y s = refl
   ended_same (Some first) x y s = ap not (same-before first x y s)
 
-  -- a range has both or neither
+  -- a range contains both, or neither
   pub has-same : (range : Range (Cell V)) (x y : Cell V) → SameCell cmp x y
       → has (cell_cmp cmp) range x ≡ has (cell_cmp cmp) range y
   has-same range x y s =

@@ -1,4 +1,4 @@
--- Values, and the cells that are made of them.
+-- Values, and the sort keys made from them.
 use Rattle.std.proofs.Common.{◌≡◌, ℕ, zero, suc, List, [], ◌∷◌, Option, Some, refl, sym, subst, ap, ◌∙◌, arith}
 use Rattle.std.specs.Prelude.{All, slice_get}
 use Rattle.std.specs.Ordering.{nat_cmp, ordering_then}
@@ -14,25 +14,25 @@ use Rattle.match_core.specs.Cells.{IsCell, IsOfKind}
 use Rattle.match_core.specs.Compared.{Compares}
 use Rattle.match_core.proofs.CellOrder.{SameCell}
 
--- at one place stands one value
+-- one index has one value
 pub one_value : (column : List (Option Value)) (i : ℕ) (v w : Value) → slice_get column i ≡ Some (Some v)
     → slice_get column i ≡ Some (Some w) → v ≡ w
 one_value column i v w h k = let e : ◌≡◌ {A = Option (Option Value)} (Some (Some v)) (Some (Some w)) = sym h ∙ k in cc
 
--- classes that are one tie
+-- equal classes compare as equal
 one_class : (c d : ℕ) → c ≡ d → nat_cmp c d ≡ Equal
 one_class c d same = subst (λ n. nat_cmp c n ≡ Equal) same (tied_itself nat_cmp_total c)
 
 module _ {V : Type 0} (kind : Kind) (IsOf : Value → V → Type 0) (cmp : V → V → Ordering)
     (compares : Compares kind IsOf cmp) where
-  -- two cells of one class and value are the same
+  -- two keys of the same class and value are equal
   pub cells_same : (class : ℕ) (v w : Value) (i j : ℕ) (x y : Cell V) → IsCell IsOf class v i x
       → IsCell IsOf class w j y → v ≡ w → SameCell cmp x y
   cells_same class v w i j x y a b same =
       ap (λ o. ordering_then o (cmp x.value y.value)) (one_class x.class y.class (a.class_is ∙ sym b.class_is))
       ∙ compares.ties w x.value y.value (subst (λ u. IsOf u x.value) same a.value_is) b.value_is
 
-  -- cells of values of the kind that are the same are of one class
+  -- equal keys of values of the kind have the same class
   pub class_from_cells : (c d : ℕ) (v w : Value) (i j : ℕ) (x y : Cell V) → IsCell IsOf c v i x
       → IsCell IsOf d w j y → SameCell cmp x y → c ≡ d
   class_from_cells c d v w i j x y a b same =
@@ -40,14 +40,14 @@ module _ {V : Type 0} (kind : Kind) (IsOf : Value → V → Type 0) (cmp : V →
       ∙ ranked x.class y.class Equal (sym (both_tie (nat_cmp x.class y.class) (cmp x.value y.value) same).0)
       ∙ b.class_is
 
-  -- and of one value
+  -- and the same value
   pub value_from_cells : (c d : ℕ) (v w : Value) (i j : ℕ) (x y : Cell V) → kind_of v ≡ kind → kind_of w ≡ kind
       → IsCell IsOf c v i x → IsCell IsOf d w j y → SameCell cmp x y → v ≡ w
   value_from_cells c d v w i j x y k l a b same =
       compares.tells v w x.value y.value k l a.value_is b.value_is
       (both_tie (nat_cmp x.class y.class) (cmp x.value y.value) same).1
 
--- where all values are of a kind, each is
+-- if all values are of a kind, each is
 pub kind_at : (kind : Kind) (column : List (Option Value)) (i : ℕ) (v : Value) → All (IsOfKind kind) column
     → slice_get column i ≡ Some (Some v) → kind_of v ≡ kind
 kind_at kind [] i v all h = cc

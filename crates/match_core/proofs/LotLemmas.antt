@@ -1,4 +1,4 @@
--- Answers to rows that are sent to lots, and the answers to all.
+-- The answers to rows that are partitioned into lots, and the answers to all rows.
 use Rattle.std.proofs.Common.{◌≡◌, ◌↔◌, ℕ, Bool, true, List, refl, sym, ap, ◌∙◌}
 use Rattle.std.specs.Prelude.{filter, Contains}
 use Rattle.list_core.specs.Wanted.{IsListOf}
@@ -9,7 +9,7 @@ use Rattle.row_core.specs.declared.row.Row.{Row}
 use Rattle.match_core.specs.Lots.{AreLotAnswers, IsInSome, answers_sent, has_id, rows_sent}
 use Rattle.match_core.proofs.SentLemmas.{IsListOf-filter, has_id-there, row_of_id, row_once, sent-in, sent-to}
 
--- the list of what is wanted of a lot, where that is what passes a test of what is wanted of all
+-- if the answers to a lot are the answers to all rows that pass a test, the lists agree
 pub lot_of_whole : {X : Type 0} (Before : X → X → Type 0) (Whole Lot : X → Type 0) (test : X → Bool)
     (whole answers : List X) → ((a b : X) → Before a b → Before b a → ⊥)
     → ((x : X) → Lot x → Whole x × (test x ≡ true)) → ((x : X) → Whole x → test x ≡ true → Lot x)
@@ -18,7 +18,7 @@ lot_of_whole Before Whole Lot test whole answers asym from to is is' =
     IsListOf-unique Before Lot answers (filter test whole) asym is'
     (IsListOf-filter Before Whole Lot test whole is from to)
 
--- the list of what is wanted of all, where each of it is wanted of some lot
+-- the answers to all rows, if each is an answer to some lot
 pub whole_of_lots : {X : Type 0} (Before : X → X → Type 0) (Whole : X → Type 0) (Lot : ℕ → X → Type 0)
     (answers_of : ℕ → List X) (whole : List X) → ((lot : ℕ) (x : X) → Lot lot x → Whole x)
     → ((x : X) → Whole x → (lot : ℕ) × Lot lot x) → ((lot : ℕ) → IsListOf Before (Lot lot) (answers_of lot))
@@ -34,25 +34,25 @@ whole_of_lots {X} Before Whole Lot answers_of whole from to each = (
     back : (x : X) → IsInSome answers_of x → Whole x
     back x (lot, h) = from lot x (((each lot).exactly x).0 h)
 
--- ---- answers of which each is of a left row
+-- ---- answers that each belong to a left row
 
 module _ {X : Type 0} (Before : X → X → Type 0) (asym : (a b : X) → Before a b → Before b a → ⊥)
     (Wanted : List Row → List Row → X → Type 0) (left_id : X → ℕ)
     (left_of : (left right : List Row) (x : X) → Wanted left right x
     → (row : Row) × Contains left row × (left_id x ≡ row.id))
     (left right : List Row) (left_lot right_lot : Row → ℕ) where
-  -- it is wanted of what is sent to the lot
+  -- `x` is an answer to the lot's rows
   abbrev IsOfLot : ℕ → X → Type 0
   IsOfLot lot = Wanted (rows_sent left_lot lot left) (rows_sent right_lot lot right)
 
-  -- its left row is sent there
+  -- its left row goes to the lot
   left_sent : (lot : ℕ) (x : X) → IsOfLot lot x
       → (row : Row) × Contains left row × (left_id x ≡ row.id) × (left_lot row ≡ lot)
   left_sent lot x is =
       let (row, h, e) = left_of (rows_sent left_lot lot left) (rows_sent right_lot lot right) x is in
       (row, sent-in left_lot lot left row h, e, sent-to left_lot lot left row h)
 
-  -- so it is of no two lots
+  -- so no answer belongs to two lots
   pub lots_apart : RowsRise left → (one other : ℕ) (answers more : List X) (x : X)
       → AreLotAnswers Before Wanted left_lot right_lot left right one answers
       → AreLotAnswers Before Wanted left_lot right_lot left right other more
@@ -62,7 +62,7 @@ module _ {X : Type 0} (Before : X → X → Type 0) (asym : (a b : X) → Before
       let (b, b_in, b_id, b_lot) = left_sent other x ((are'.exactly x).0 k) in
       sym a_lot ∙ ap left_lot (row_once left rise a b a_in b_in (sym a_id ∙ b_id)) ∙ b_lot
 
-  -- what is wanted of a lot is wanted of all; what is wanted of all is wanted of its left row's lot
+  -- an answer to a lot is an answer to all rows, and an answer to all rows is an answer to the lot of its left row
   module _ (from : (lot : ℕ) (x : X) → IsOfLot lot x → Wanted left right x)
       (to : (lot : ℕ) (x : X) (is : Wanted left right x) → left_lot (left_of left right x is).0 ≡ lot
       → IsOfLot lot x) where

@@ -1,4 +1,4 @@
--- Cells that are made of the rows of one side, and put in order.
+-- Sort keys that are made from one side's rows, and sorted.
 use Rattle.std.proofs.Common.{◌≡◌, ℕ, zero, suc, ◌+◌, ◌-◌, ◌<◌, ◌≤◌, Bool, true, false, not, ◌&&◌, cond, List, [], ◌∷◌, ◌++◌, append_assoc, append-nil, length, get_or, map, filter, take, drop, Option, Some, None, Result, Ok, inl, inr, refl, sym, subst, ap, ◌∙◌, arith}
 use Rattle.std.specs.Cmp.{IsTotalOrder}
 use Rattle.std.specs.declared.cmp.Ordering.{Ordering}
@@ -28,14 +28,14 @@ use Rattle.match_core.specs.ClassedPlaces.{placed_from}
 use Rattle.match_core.proofs.CellOrder.{before-trans, cell_total}
 use Rattle.match_core.proofs.PartLemmas.{none_yet, one_more}
 
--- ---- the cells of some rows
+-- ---- the sort keys of some rows
 
--- there are as many places as classes
+-- the number of indices is the number of classes
 pub length-placed_from : (place : ℕ) (classes : List ℕ) → length (placed_from place classes) ≡ length classes
 length-placed_from place [] = refl
 length-placed_from place (c ∷ classes) = ap suc (length-placed_from (suc place) classes)
 
--- what stands among them
+-- the element at an index
 pub slice_get-placed_from : (place : ℕ) (classes : List ℕ) (i at : ℕ) → i < length classes → at ≡ place + i
     → slice_get (placed_from place classes) i ≡ Some (record { class = get_or classes i 0; place = at })
 slice_get-placed_from place [] i at inside is = absurd (omega (arith, inside))
@@ -46,7 +46,7 @@ slice_get-placed_from place (c ∷ classes) (suc i) at inside is =
     slice_get-placed_from (suc place) classes i at (omega (arith, inside)) (omega (arith, is))
 
 module _ {V : Type 0} (IsOf : Value → V → Type 0) (classes : List ℕ) (column : List (Option Value)) where
-  -- none of no rows
+  -- no rows have no keys
   pub no_cells : (start : ℕ) (cells : List (Cell V)) → start ≤ length classes → cells ≡ []
       → AreCellsAt IsOf classes column (drop start (take start (placed_from 0 classes))) cells
   no_cells start cells within none =
@@ -56,7 +56,7 @@ module _ {V : Type 0} (IsOf : Value → V → Type 0) (classes : List ℕ) (colu
       subst (AreCellsAt IsOf classes column (drop start (take start places))) (sym none)
       (record { own = λ k d lt. absurd (omega (arith, lt)); spots = sym nothing })
 
-  -- one more
+  -- one more key
   pub cells_more : (start i : ℕ) (cell : Cell V) (cells new : List (Cell V)) → start ≤ i → i < length classes
       → IsCellAt IsOf classes column i cell → new ≡ cells ++ cell ∷ []
       → AreCellsAt IsOf classes column (drop start (take i (placed_from 0 classes))) cells
@@ -76,7 +76,7 @@ module _ {V : Type 0} (IsOf : Value → V → Type 0) (classes : List ℕ) (colu
             ∙ sym (one_more start i places (spot_of cell) from there);
       })
 
-  -- those of two pieces
+  -- the keys of two partitions
   cells-append : (low high : List ClassedPlace) (cells more : List (Cell V))
       → AreCellsAt IsOf classes column low cells → AreCellsAt IsOf classes column high more
       → AreCellsAt IsOf classes column (low ++ high) (cells ++ more)
@@ -87,7 +87,7 @@ module _ {V : Type 0} (IsOf : Value → V → Type 0) (classes : List ℕ) (colu
         ∙ ap (λ l. low ++ l) highs.spots;
   }
 
-  -- those of all pieces
+  -- the keys of all partitions
   pub pieces_made : (post : Range ℕ → ℕ → Result (Vec (Cell V)) AllocError → Type 0) (cuts : List (Cut ℕ))
       (lists : List (Vec (Cell V)))
       → ((places : Range ℕ) (n : ℕ) (cells : Vec (Cell V)) → post places n (Ok cells)
@@ -107,29 +107,28 @@ module _ {V : Type 0} (IsOf : Value → V → Type 0) (classes : List ℕ) (colu
       (known (range from (Some at)) one.0 cells one.1) others))
       None cuts lists given
 
--- ---- the cells of a range
+-- ---- the sort keys of a range
 
--- what a range up to a cell has: it has begun there, and that comes before the cell
+-- a key within a range that ends at another key: the range has begun, and the key comes before the end
 low_parts : (b t : Bool) → b && not (not t) ≡ true → (b ≡ true) × (t ≡ true)
 low_parts true true e = (refl, refl)
 low_parts true false e = absurd (cc)
 low_parts false t e = absurd (cc)
 
--- what a range has that has no end
+-- a key within a range that has no end
 high_part : (b : Bool) → b && true ≡ true → b ≡ true
 high_part true e = refl
 high_part false e = absurd (cc)
 
--- what isn't denied
+-- double negation
 from_denied : (t : Bool) → not t ≡ true → t ≡ false
 from_denied true e = absurd (cc)
 from_denied false e = refl
 
--- ---- sorted cells
+-- ---- sorted keys
 
 module _ {V : Type 0} (cmp : V → V → Ordering) (total : IsTotalOrder cmp) where
-  -- lists of which the one has only what comes before a cell, and the other nothing that does, are sorted behind each
-  -- other
+  -- if one sorted list has only keys before some key, and the other has none before it, both together are sorted
   sorted-append : (low high : List (Cell V)) (at : Cell V) → All (λ c. is_before cmp c at ≡ true) low
       → All (λ c. is_before cmp c at ≡ false) high → IsSorted (cell_cmp cmp) low → IsSorted (cell_cmp cmp) high
       → IsSorted (cell_cmp cmp) (low ++ high)
@@ -171,7 +170,7 @@ module _ {V : Type 0} (cmp : V → V → Ordering) (total : IsTotalOrder cmp) wh
         by_test true e = absurd (
             let bad : true ≡ false = sym (before-trans cmp total x y at e less) ∙ behind in cc)
 
--- the first cells that a range has, and a next one
+-- the first keys within a range, and the next key
 module _ {V : Type 0} (cmp : V → V → Ordering) (range : Range (Cell V)) (cells : List (Cell V)) (i : ℕ) (cell : Cell V)
     (inside : i < length cells) (here : cell ≡ get_or cells i cell) (old found new : List (Cell V))
     (was : found ≡ old ++ cells_in cmp range (take i cells)) where
@@ -184,7 +183,7 @@ module _ {V : Type 0} (cmp : V → V → Ordering) (range : Range (Cell V)) (cel
       ∙ ap (λ (x : Cell V). before ++ cond (p x) (x ∷ []) []) (sym here)
       ∙ ap (λ b. before ++ cond b (cell ∷ []) []) test
 
-  -- it has it
+  -- the next key is within the range
   pub kept_more : has (cell_cmp cmp) range cell ≡ true → new ≡ found ++ cell ∷ []
       → new ≡ old ++ cells_in cmp range (take (i + 1) cells)
   kept_more test put =
@@ -192,14 +191,14 @@ module _ {V : Type 0} (cmp : V → V → Ordering) (range : Range (Cell V)) (cel
       ∙ append_assoc old (cells_in cmp range (take i cells)) (cell ∷ [])
       ∙ ap (λ l. old ++ l) (sym (one_kept true test))
 
-  -- it doesn't
+  -- the next key isn't within the range
   pub kept_same : has (cell_cmp cmp) range cell ≡ false → new ≡ found
       → new ≡ old ++ cells_in cmp range (take (i + 1) cells)
   kept_same test same =
       same ∙ was
       ∙ ap (λ l. old ++ l) (sym (one_kept false test ∙ append-nil (cells_in cmp range (take i cells))))
 
--- a list parted by a test: those that it doesn't hold of, and behind them those that it holds of, in some order all
+-- filtering a list by a test and by its negation gives a permutation of the list
 parted_moved : {X : Type 0} (all late : X → Bool) (xs : List X)
     → IsPermutation (filter all xs) (filter (λ x. all x && not (late x)) xs ++ filter (λ x. all x && late x) xs)
 parted_moved all late [] = IsPermutation-refl []
@@ -216,13 +215,13 @@ parted_moved {X} all late (x ∷ xs) =
     by_tests true false rest low high is = IsPermutation-cons x rest (low ++ high) is
     by_tests false l rest low high is = is
 
--- a range without ends has all
+-- a range without ends contains all keys
 whole_kept : {V : Type 0} (cmp : V → V → Ordering) (cells : List (Cell V)) → cells_in cmp (range None None) cells ≡ cells
 whole_kept cmp [] = refl
 whole_kept cmp (c ∷ cells) = ap (λ l. c ∷ l) (whole_kept cmp cells)
 
 module _ {V : Type 0} (cmp : V → V → Ordering) (total : IsTotalOrder cmp) where
-  -- a range without an end has what stands before a cell, and behind it the rest
+  -- a range without an end is split at a key into the keys before it and the rest
   range_moved : (from : Option (Cell V)) (at : Cell V) (cells : List (Cell V)) → has_begun (cell_cmp cmp) from at ≡ true
       → IsPermutation (cells_in cmp (range from None) cells)
       (cells_in cmp (range from (Some at)) cells ++ cells_in cmp (range (Some at) None) cells)
@@ -243,7 +242,7 @@ module _ {V : Type 0} (cmp : V → V → Ordering) (total : IsTotalOrder cmp) wh
       (filter (λ (x : Cell V). all x && not (late x)) cells ++ l)) highs
       (parted_moved all late cells))
 
-  -- and in rising order
+  -- and the result is in ascending order
   sorted_ranges : (from : Option (Cell V)) (at : Cell V) (made low high : List (Cell V))
       → has_begun (cell_cmp cmp) from at ≡ true → AreInOrder cmp (cells_in cmp (range from (Some at)) made) low
       → AreInOrder cmp (cells_in cmp (range (Some at) None) made) high
@@ -272,7 +271,7 @@ module _ {V : Type 0} (cmp : V → V → Ordering) (total : IsTotalOrder cmp) wh
             lows.rise highs.rise;
       }
 
-  -- the lists of all ranges, one behind another, are all cells in rising order
+  -- the lists of all ranges together are all keys in ascending order
   pub ranges_in_order : (made : List (Cell V))
       (post : Range (Cell V) → ℕ → Result (Vec (Cell V)) AllocError → Type 0) (cuts : List (Cut (Cell V)))
       (lists : List (Vec (Cell V)))
@@ -290,9 +289,9 @@ module _ {V : Type 0} (cmp : V → V → Ordering) (total : IsTotalOrder cmp) wh
       (known (range from (Some at)) one.0 cells one.1) others)
       None cuts lists given)
 
--- ---- the cells of all rows
+-- ---- the sort keys of all rows
 
--- the cell of a place
+-- the key of the row at an index
 cell_of_place : {V : Type 0} (cells : List (Cell V)) (places : List ClassedPlace) (i : ℕ) (spot : ClassedPlace)
     → map spot_of cells ≡ places → slice_get places i ≡ Some spot
     → (cell : Cell V) × Contains cells cell × (cell.place ≡ spot.place)
@@ -306,7 +305,7 @@ cell_of_place {V} (c ∷ cells) places (suc i) spot are there =
     let (x, has, place) = cell_of_place cells (map spot_of cells) i spot refl (ap (λ l. slice_get l (suc i)) are ∙ there) in
     (x, Contains-cons c cells x has, place)
 
--- cells of all rows, in rising order
+-- the keys of all rows, in ascending order
 pub all_sorted : {V : Type 0} (cmp : V → V → Ordering) (IsOf : Value → V → Type 0) (classes : List ℕ)
     (column : List (Option Value)) (made cells : List (Cell V)) → length classes ≡ length column
     → AreCellsAt IsOf classes column (placed_from 0 classes) made → AreInOrder cmp made cells

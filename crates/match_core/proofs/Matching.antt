@@ -1,4 +1,4 @@
--- Any two rows match or don't.
+-- It is decidable whether two rows match.
 use Rattle.std.proofs.Common.{◌≡◌, ◌≢◌, ◌⊎◌, inl, inr, Bool, true, false, List, [], ◌∷◌, Option, Some, None, All, refl, ap}
 use Rattle.std.specs.Prelude.{bytes_eq}
 use Rattle.std.specs.Bool.{Decides}
@@ -13,12 +13,12 @@ use Rattle.row_core.specs.declared.value.Value.TheVariants.{Int, Text}
 use Rattle.row_core.specs.Name.{NamePair}
 use Rattle.match_core.specs.Columns.{MatchesOn, value_under}
 
--- what a test decides holds or not
+-- a boolean test decides the fact
 holds_or_not : (P : Type 0) (test : Bool) → Decides test P → P ⊎ (P → ⊥)
 holds_or_not P true decides = inl (decides.0 refl)
 holds_or_not P false decides = inr (not_from_Decides false decides refl)
 
--- two values are one or not
+-- equality of values is decidable
 value_or_not : (a b : Value) → (a ≡ b) ⊎ (a ≢ b)
 value_or_not (Int m) (Int n) = elim (holds_or_not (m ≡ n) (int_eq m n) (Decides-int_eq m n)) [
   | inl same ↦ inl (ap Int same)
@@ -31,7 +31,7 @@ value_or_not (Text s) (Text t) = elim (holds_or_not (s ≡ t) (bytes_eq s t) (by
 value_or_not (Int m) (Text t) = inr (λ e. cc)
 value_or_not (Text s) (Int n) = inr (λ e. cc)
 
--- two values that there may be are one or not
+-- equality of optional values is decidable
 maybe_value_or_not : (a b : Option Value) → (a ≡ b) ⊎ (a ≢ b)
 maybe_value_or_not None None = inl refl
 maybe_value_or_not None (Some v) = inr (λ e. cc)
@@ -41,7 +41,7 @@ maybe_value_or_not (Some v) (Some w) = elim (value_or_not v w) [
   | inr differ ↦ inr (λ e. differ (cc))
 ]
 
--- what of each thing holds or not, holds of all things in a list or not
+-- if a fact is decidable for each element, it is decidable for all elements of a list
 all_or_not : {X : Type 0} (P : X → Type 0) → ((x : X) → P x ⊎ (P x → ⊥)) → (xs : List X) → All P xs ⊎ (All P xs → ⊥)
 all_or_not P each [] = inl (All-nil P)
 all_or_not P each (x ∷ xs) = elim (each x) [
@@ -52,7 +52,7 @@ all_or_not P each (x ∷ xs) = elim (each x) [
   ]
 ]
 
--- two rows match or not
+-- it is decidable whether two rows match
 pub match_or_not : (left_columns right_columns : List Column) (on : List NamePair) (x y : Row)
     → MatchesOn left_columns right_columns on x y ⊎ (MatchesOn left_columns right_columns on x y → ⊥)
 match_or_not left_columns right_columns on x y =

@@ -1,4 +1,4 @@
--- The numbers of right cells, and the classes that both sides' ranks give.
+-- The numbers of right sort keys, and the classes that both sides' ranks give.
 use Rattle.std.proofs.Common.{◌≡◌, ℕ, ◌+◌, ◌<◌, ◌≤◌, true, false, List, [], ◌∷◌, ◌++◌, ap, length, take, get_or, sym, subst, ◌∙◌, inl, inr, arith, get_or-take}
 use Rattle.std.specs.Cmp.{IsTotalOrder}
 use Rattle.std.specs.declared.cmp.Ordering.{Ordering}
@@ -11,11 +11,11 @@ use Rattle.std.proofs.lemmas.Option.{slice_get-get_or}
 use Rattle.match_core.specs.Cells.{AreMatched, AreRising, IsNextTo, IsNumberOf, is_before, same_cell}
 use Rattle.match_core.proofs.CellOrder.{after-differs, after-from, before-differs, before-trans}
 
--- the left cells up to a place come before a right one
+-- The left keys before an index come before a right key.
 abbrev pub AreBefore : {V : Type 0} → (V → V → Ordering) → List (Cell V) → ℕ → Cell V → Type 0
 AreBefore cmp lefts left cell = All (λ x. is_before cmp x cell ≡ true) (take left lefts)
 
--- the first right cells have numbers, and the left cells up to a place come before all others
+-- The first `right` right keys have numbers, and the left keys before index `left` come before all other right keys.
 pub record Numbering {V : Type 0} (cmp : V → V → Ordering) (lefts rights : List (Cell V)) (right left : ℕ)
     (numbers : List ℕ) : Type 0 where
   pub within : left ≤ length lefts
@@ -24,20 +24,20 @@ pub record Numbering {V : Type 0} (cmp : V → V → Ordering) (lefts rights : L
   pub each : (k : ℕ) → k < right → IsNumberOf cmp lefts rights k (get_or numbers k 0)
 
 module _ {V : Type 0} (cmp : V → V → Ordering) (total : IsTotalOrder cmp) where
-  -- one of them does
+  -- each of them comes before the key
   before_at : (lefts : List (Cell V)) (left l : ℕ) (cell d : Cell V) → left ≤ length lefts → l < left
       → AreBefore cmp lefts left cell → is_before cmp (get_or lefts l d) cell ≡ true
   before_at lefts left l cell d within less all =
       let n = length-take-le left lefts within in
       subst (λ x. is_before cmp x cell ≡ true) (get_or-take left lefts l d less) (all l d (omega (arith, n)))
 
-  -- they come before what comes after it, too
+  -- they also come before any key that comes after it
   pub before_later : (lefts : List (Cell V)) (left : ℕ) (cell later : Cell V) → is_before cmp cell later ≡ true
       → AreBefore cmp lefts left cell → AreBefore cmp lefts left later
   before_later lefts left cell later less all k d lt =
       before-trans cmp total (get_or (take left lefts) k d) cell later (all k d lt) less
 
-  -- one more comes before it
+  -- one more left key comes before it
   pub before_more : (lefts : List (Cell V)) (at : ℕ) (cell next : Cell V) → at < length lefts
       → next ≡ get_or lefts at next → AreBefore cmp lefts at cell → is_before cmp next cell ≡ true
       → AreBefore cmp lefts (at + 1) cell
@@ -46,8 +46,8 @@ module _ {V : Type 0} (cmp : V → V → Ordering) (total : IsTotalOrder cmp) wh
       (All-push (λ x. is_before cmp x cell ≡ true) (take at lefts) (get_or lefts at next) all
       (subst (λ x. is_before cmp x cell ≡ true) here less))
 
-  -- where the left cells up to a place come before a right one, and that at the place neither does nor is the same,
-  -- none is the same
+  -- if the left keys before an index come before a right key, and the one at the index comes neither before it nor
+  -- equals it, no left key equals it
   pub none_same : (lefts : List (Cell V)) (left : ℕ) (cell d : Cell V) → left ≤ length lefts → AreRising cmp lefts
       → AreBefore cmp lefts left cell
       → (left < length lefts → (is_before cmp (get_or lefts left d) cell ≡ false)
@@ -74,7 +74,7 @@ module _ {V : Type 0} (cmp : V → V → Ordering) (total : IsTotalOrder cmp) wh
 
   -- ---- the loop
 
-  -- before the first one none has
+  -- at first no key has a number
   pub none_numbered : (lefts rights : List (Cell V)) (numbers : List ℕ) → numbers ≡ []
       → Numbering cmp lefts rights 0 0 numbers
   none_numbered lefts rights numbers none = record {
@@ -84,13 +84,13 @@ module _ {V : Type 0} (cmp : V → V → Ordering) (total : IsTotalOrder cmp) wh
     each = λ k lt. absurd (omega arith);
   }
 
-  -- behind the last one all have
+  -- at the end all keys have numbers
   pub all_numbered : (lefts rights : List (Cell V)) (right left : ℕ) (numbers : List ℕ) → right ≡ length rights
       → Numbering cmp lefts rights right left numbers → AreMatched cmp lefts rights numbers
   all_numbered lefts rights right left numbers end was =
       record { count = was.count ∙ end; each = λ k lt. was.each k (omega (arith, end, lt)) }
 
-  -- the left cells up to the first that doesn't come before a right one, and that one
+  -- the left keys up to the first one that doesn't come before a right key
   pub next_to : (lefts rights : List (Cell V)) (right left : ℕ) (cell : Cell V) → right < length rights
       → cell ≡ get_or rights right cell → AreBefore cmp lefts left cell
       → IfSome (slice_get lefts left) (λ x. is_before cmp x cell ≡ false) → IsNextTo cmp lefts rights right left
@@ -102,7 +102,7 @@ module _ {V : Type 0} (cmp : V → V → Ordering) (total : IsTotalOrder cmp) wh
         (slice_get-get_or lefts left d less) after);
   }
 
-  -- one more has one
+  -- one more key has a number
   pub one_numbered : (lefts rights : List (Cell V)) (right left next number : ℕ) (numbers new : List ℕ) (cell : Cell V)
       → right < length rights → AreRising cmp rights → cell ≡ get_or rights right cell → next ≤ length lefts
       → AreBefore cmp lefts next cell → IsNumberOf cmp lefts rights right number → new ≡ numbers ++ number ∷ []

@@ -1,4 +1,4 @@
--- Rows as items by way of their places: in the order of these, whatever it is.
+-- Rows as items by their indices, in any order of the indices.
 use Rattle.std.proofs.Common.{◌≡◌, ◌<◌, ◌≤◌, ℕ, zero, suc, ◌+◌, List, [], ◌∷◌, ◌++◌, length, map, take, get_or, Option, Some, None, unwrap_or, option_map, refl, sym, subst, ap, ◌∙◌, arith}
 use Rattle.std.specs.Prelude.{All, IsPermutation, slice_get}
 use Rattle.std.specs.List.Sorted.{IsNonDecreasingBy}
@@ -11,7 +11,7 @@ use Rattle.match_core.specs.declared.row_items.ClassedPlace.{ClassedPlace}
 use Rattle.match_core.specs.ClassedPlaces.{AreByClass, classed_by, item_placed, numbered_by, placed_from}
 use Rattle.match_core.specs.Items.{AreItemsByClass, item_with, items_with}
 
--- one more place
+-- one more index
 pub placed_from-more : (place : ℕ) (classes : List ℕ) (i at : ℕ) → i < length classes → at ≡ place + i
     → placed_from place (take i classes) ++ record { class = get_or classes i 0; place = at } ∷ []
     ≡ placed_from place (take (i + 1) classes)
@@ -24,7 +24,7 @@ placed_from-more place (c ∷ classes) (suc i) at inside is =
     (placed_from-more (suc place) classes i at (omega (arith, inside)) (omega (arith, is)))
     ∙ ap (λ n. placed_from place (take n (c ∷ classes))) e
 
--- each place is one of so many
+-- each index is below `count`
 pub placed_from-within : (place : ℕ) (classes : List ℕ) (count : ℕ) → place + length classes ≤ count
     → All (λ (at : ClassedPlace). at.place < count) (placed_from place classes)
 placed_from-within place [] count within = λ i d h. absurd (omega arith)
@@ -33,7 +33,7 @@ placed_from-within place (c ∷ classes) count within =
     (placed_from (suc place) classes) (omega (arith, within))
     (placed_from-within (suc place) classes count (omega (arith, within)))
 
--- each class is one of so many where those that stand there are
+-- each class is below `count` if the given classes are
 pub placed_from-below : (place : ℕ) (classes : List ℕ) (count : ℕ) → All (λ class. class < count) classes
     → All (λ (at : ClassedPlace). at.class < count) (placed_from place classes)
 placed_from-below place [] count below = λ i d h. absurd (omega arith)
@@ -42,7 +42,7 @@ placed_from-below place (c ∷ classes) count below =
     (placed_from (suc place) classes) (below 0 0 (omega arith))
     (placed_from-below (suc place) classes count (λ i d h. below (suc i) d (omega (arith, h))))
 
--- the same places with other classes
+-- the same indices with other classes
 classed-from : (all : List ℕ) (place : ℕ) (old classes : List ℕ) → length classes ≡ length old
     → ((i at : ℕ) → i < length old → at ≡ place + i → get_or all at 0 ≡ get_or classes i 0)
     → map (classed_by all) (placed_from place old) ≡ placed_from place classes
@@ -62,7 +62,7 @@ placed_from-classed old classes count =
     classed-from classes 0 old classes count
     (λ i at h e. let same : at ≡ i = omega (arith, e) in ap (λ n. get_or classes n 0) same)
 
--- the same places with the numbers of their classes
+-- the same indices with the numbers of their classes
 pub placed_from-numbered : (numbers : List ℕ) (place : ℕ) (old classes : List ℕ) → length classes ≡ length old
     → ((i : ℕ) → i < length old → get_or classes i 0 ≡ get_or numbers (get_or old i 0) 0)
     → map (numbered_by numbers) (placed_from place old) ≡ placed_from place classes
@@ -77,7 +77,7 @@ placed_from-numbered numbers place (o ∷ old) (c ∷ classes) count each =
     (placed_from-numbered numbers (suc place) old classes (omega (arith, count))
     (λ i h. each (suc i) (omega (arith, h))))
 
--- the places behind the first are those of the rows behind it
+-- the indices after the first belong to the rows after the first
 placed_behind : (r : Row) (rows : List Row) (place : ℕ) (classes : List ℕ)
     → map (item_placed (r ∷ rows)) (placed_from (suc place) classes)
     ≡ map (item_placed rows) (placed_from place classes)
@@ -85,7 +85,7 @@ placed_behind r rows place [] = refl
 placed_behind r rows place (c ∷ classes) =
     ap (λ l. item_placed rows (record { class = c; place = place }) ∷ l) (placed_behind r rows (suc place) classes)
 
--- what stands at the places in their order are the rows' items
+-- the items at the indices in order are the rows' items
 pub placed-in_order : (rows : List Row) (classes : List ℕ) → length rows ≤ length classes
     → map (item_placed rows) (placed_from 0 (take (length rows) classes)) ≡ map Some (items_with rows classes)
 placed-in_order [] classes enough = refl
@@ -94,7 +94,7 @@ placed-in_order (r ∷ rows) (c ∷ classes) enough =
     ap (λ l. Some (item_with r c) ∷ l)
     (placed_behind r rows 0 (take (length rows) classes) ∙ placed-in_order rows classes (omega (arith, enough)))
 
--- one more row as an item, at one more place
+-- one more row as an item, at one more index
 pub item_placed-more : (rows : List Row) (places : List ClassedPlace) (i : ℕ) (at : ClassedPlace) (row : Row) (x : Item)
     → i < length places → slice_get rows (get_or places i at).place ≡ Some row
     → x ≡ item_with row (get_or places i at).class
@@ -106,12 +106,12 @@ item_placed-more rows places i at row x inside here is =
     ++ option_map (λ (r : Row). item_with r p.class) o ∷ []) (sym here)
     ∙ sym (map_more (item_placed rows) places i at inside)
 
--- values that are there
+-- unwrapping a list of `Some`
 there : {X : Type 0} (d : X) (xs : List X) → map (λ o. unwrap_or o d) (map Some xs) ≡ xs
 there d [] = refl
 there d (x ∷ xs) = ap (λ l. x ∷ l) (there d xs)
 
--- they are a permutation where they are one as options
+-- two lists are permutations of each other if their lists of `Some` are
 IsPermutation-from_options : {X : Type 0} (xs ys : List X) → IsPermutation (map Some xs) (map Some ys)
     → IsPermutation xs ys
 IsPermutation-from_options [] [] same = IsPermutation-refl []
@@ -122,7 +122,7 @@ IsPermutation-from_options {X} (x ∷ xs) ys same =
     (subst (λ l. IsPermutation l (map (λ o. unwrap_or o x) (map Some ys))) (there x (x ∷ xs))
     (IsPermutation-map (λ (o : Option X). unwrap_or o x) (map Some (x ∷ xs)) (map Some ys) same))
 
--- items by places in any order are the rows' items in any order
+-- items by indices in any order are a permutation of the rows' items
 pub placed-permutation : (rows : List Row) (classes : List ℕ) (places : List ClassedPlace) (items : List Item)
     → length rows ≤ length classes → IsPermutation (placed_from 0 (take (length rows) classes)) places
     → map Some items ≡ map (item_placed rows) places → IsPermutation (items_with rows classes) items
@@ -133,14 +133,14 @@ placed-permutation rows classes places items enough same are =
     (subst (λ l. IsPermutation l (map (item_placed rows) places)) (placed-in_order rows classes enough)
     (IsPermutation-map (item_placed rows) first places same)))
 
--- an item has the class of its place
+-- an item has the class of its index
 class_placed : (rows : List Row) (at : ClassedPlace) (x : Item) → Some x ≡ item_placed rows at → x.class ≡ at.class
 class_placed rows at x is = class_of (slice_get rows at.place) is where
   class_of : (found : Option Row) → Some x ≡ option_map (λ (r : Row). item_with r at.class) found → x.class ≡ at.class
   class_of None e = absurd (cc)
   class_of (Some r) e = let same : x ≡ item_with r at.class = cc in ap (λ (y : Item). y.class) same
 
--- items have the classes of their places
+-- items have the classes of their indices
 classes_placed : (rows : List Row) (places : List ClassedPlace) (items : List Item)
     → map Some items ≡ map (item_placed rows) places
     → map (λ (x : Item). x.class) items ≡ map (λ (at : ClassedPlace). at.class) places
@@ -153,7 +153,7 @@ classes_placed rows (at ∷ places) (x ∷ items) are =
     ap (λ n. n ∷ map (λ (y : Item). y.class) items) (class_placed rows at x first)
     ∙ ap (λ l. at.class ∷ l) (classes_placed rows places items rest)
 
--- items by places whose classes rise have classes that rise
+-- if the classes of the indices are in ascending order, so are the items' classes
 pub placed-rise : (rows : List Row) (places : List ClassedPlace) (items : List Item)
     → map Some items ≡ map (item_placed rows) places → IsNonDecreasingBy (λ (at : ClassedPlace). at.class) places
     → IsNonDecreasingBy (λ (x : Item). x.class) items
@@ -173,17 +173,17 @@ placed-rise rows places items are rise i j d upto inside =
     let less = rise i j at upto (omega (arith, inside, long)) in
     omega (arith, low, high, less)
 
--- ---- the places of a side by class
+-- ---- the indices of a side by class
 
 module _ (rows : List Row) (classes : List ℕ) (places : List ClassedPlace) (count : length classes ≡ length rows)
     (are : AreByClass classes places) where
-  -- they are places of rows
+  -- they are indices of rows
   pub by_class-within : All (λ (at : ClassedPlace). at.place < length rows) places
   by_class-within =
       All-permutation (λ (at : ClassedPlace). at.place < length rows) (placed_from 0 classes) places are.same
       (placed_from-within 0 classes (length rows) (omega (arith, count)))
 
-  -- and what stands there are the rows' items by class
+  -- and the items at them are the rows' items by class
   pub by_class-items : (items : List Item) → map Some items ≡ map (item_placed rows) places
       → AreItemsByClass rows classes items
   by_class-items items made =

@@ -1,4 +1,4 @@
--- The ranks of sorted cells: each different cell has one.
+-- The ranks of sorted keys: equal keys share a rank, different keys have different ranks.
 use Rattle.std.proofs.Common.{◌≡◌, ◌≢◌, ℕ, zero, suc, ◌+◌, ◌-◌, ◌<◌, Bool, true, false, List, [], ◌∷◌, ◌++◌, length, length-append, append-nil, map, take, set, get_or, Some, refl, sym, subst, ap, ◌∙◌, inl, inr, arith, get_or-set_same, get_or-set_other}
 use Rattle.std.specs.Cmp.{IsTotalOrder}
 use Rattle.std.specs.declared.cmp.Ordering.{Ordering}
@@ -20,9 +20,9 @@ use Rattle.match_core.specs.Cells.{AgreeOnPlaces, AreRanked, AreRankedUpto, AreR
 use Rattle.match_core.proofs.PlacedLemmas.{placed_from-classed}
 use Rattle.match_core.proofs.CellOrder.{SameCell, SameCell-sym, SameCell-trans, SameCell-itself, after-from, before-same, before-trans, same_cell-decides, known_apart}
 
--- ---- lists one behind another
+-- ---- lists read one after another
 
--- one list more
+-- one more list
 pub count_before-more : {V : Type 0} (lists : List (Vec (Cell V))) (number : ℕ) (list : Vec (Cell V))
     → number < length lists → list ≡ get_or lists number list
     → count_before (suc number) lists ≡ count_before number lists + length list.items
@@ -40,7 +40,7 @@ count_before-more {V} (l ∷ ls) (suc number) list lt is =
     let more = count_before-more ls number list (omega (arith, lt)) is in
     omega (arith, longer, long, more)
 
--- where a list's cell stands among all
+-- the position of a list's key among all keys
 pub slice_get-all_in : {V : Type 0} (lists : List (Vec (Cell V))) (number i : ℕ) (list : Vec (Cell V)) (cell : Cell V)
     → number < length lists → list ≡ get_or lists number list → slice_get list.items i ≡ Some cell
     → slice_get (all_in lists) (count_before number lists + i) ≡ Some cell
@@ -58,7 +58,7 @@ slice_get-all_in {V} (l ∷ ls) (suc number) i list cell lt is at =
     ∙ slice_get-append_right l.items (all_in ls) (count_before number ls + i)
     ∙ slice_get-all_in ls number i list cell (omega (arith, lt)) is at
 
--- what is so of all cells is so of those of a list
+-- a fact about all keys is a fact about the keys of each list
 pub all_of_list : {V : Type 0} (P : Cell V → Type 0) (lists : List (Vec (Cell V))) (number : ℕ) (list : Vec (Cell V))
     → All P (all_in lists) → number < length lists → list ≡ get_or lists number list → All P list.items
 all_of_list P [] number list all lt is = absurd (omega (arith, lt))
@@ -77,7 +77,7 @@ all_of_list {V} P (l ∷ ls) (suc number) list all lt is =
     (all (length l.items + k) d (omega (arith, h, count))))
     (omega (arith, lt)) is
 
--- the places of sorted cells' rows, with the ranks that these have, are those of all rows
+-- the row indices of sorted keys with the rows' ranks are the indices of all rows
 pub places_ranked : {V : Type 0} (cmp : V → V → Ordering) (IsOf : Value → V → Type 0) (classes : List ℕ)
     (column : List (Option Value)) (cells : List (Cell V)) (lent ranks : List ℕ) (places : List ClassedPlace)
     → AreSorted cmp IsOf classes column cells → lent ≡ ranks → length ranks ≡ length classes
@@ -90,7 +90,7 @@ places_ranked cmp IsOf classes column cells lent ranks places sorted same count 
 
 -- ---- a side's ranks
 
--- the rows of a side by rank
+-- the ranks of a side's rows
 pub ranked_from : {V : Type 0} (cmp : V → V → Ordering) (IsOf : Value → V → Type 0) (classes : List ℕ)
     (column : List (Option Value)) (cells firsts : List (Cell V)) (ranks : List ℕ) → length ranks ≡ length column
     → AreSorted cmp IsOf classes column cells → AreRanksOf cmp cells ranks firsts → AreRising cmp firsts
@@ -114,9 +114,9 @@ ranked_from {V} cmp IsOf classes column cells firsts ranks count sorted known ri
           same = λ d. ap (λ n. same_cell cmp (get_or firsts (get_or ranks n 0) d) cell) (sym place) ∙ rank.same d;
         }
 
--- ---- the last one of cells
+-- ---- the last key
 
--- the test of the last one decides whether it is the same
+-- the test of the last key decides whether it is equal
 pub last_known : {V : Type 0} (cmp : V → V → Ordering) (others : List (Cell V)) (last cell : Cell V) (test : Bool)
     → slice_get others (length others - 1) ≡ Some last → test ≡ same_cell cmp last cell
     → MatchBool test (HasLast cmp others cell) (HasLast cmp others cell → ⊥)
@@ -129,9 +129,9 @@ last_known {V} cmp others last cell false at known =
     cc)
 
 module _ {V : Type 0} (cmp : V → V → Ordering) (total : IsTotalOrder cmp) where
-  -- ---- a cell enters those that differ
+  -- ---- a key is added to the different keys
 
-  -- the last one is the same already
+  -- the last key is equal already
   pub entered_same : (old : List (Cell V)) (cell : Cell V) (rank : ℕ) → AreRising cmp old → HasLast cmp old cell
       → rank + 1 ≡ length old → IsEntered cmp old cell old rank
   entered_same old cell rank rise (last, (at, same)) count =
@@ -146,7 +146,7 @@ module _ {V : Type 0} (cmp : V → V → Ordering) (total : IsTotalOrder cmp) wh
         rise = rise;
       }
 
-  -- it stands behind those that come before it
+  -- the key is appended after the keys that come before it
   pub entered_other : (old new : List (Cell V)) (cell : Cell V) (rank : ℕ) → AreRising cmp old → IsFromLast cmp old cell
       → (HasLast cmp old cell → ⊥) → new ≡ old ++ cell ∷ [] → rank + 1 ≡ length new → IsEntered cmp old cell new rank
   entered_other old new cell rank rise upto other put count =
@@ -167,7 +167,7 @@ module _ {V : Type 0} (cmp : V → V → Ordering) (total : IsTotalOrder cmp) wh
             (all_pairs_push (λ (a b : Cell V). is_before cmp a b ≡ true) old cell rise (λ k d lt. before k d lt));
       }
     where
-      -- the last one does
+      -- the last key comes before it
       last_before : (k : ℕ) (d : Cell V) → k + 1 ≡ length old → is_before cmp (get_or old k d) cell ≡ true
       last_before k d e =
           let last = get_or old k d in
@@ -181,7 +181,7 @@ module _ {V : Type 0} (cmp : V → V → Ordering) (total : IsTotalOrder cmp) wh
             ),
           )))
 
-      -- and so do all before it
+      -- and so do all earlier ones
       before : (k : ℕ) (d : Cell V) → k < length old → is_before cmp (get_or old k d) cell ≡ true
       before k d lt =
           let end : length old - 1 + 1 ≡ length old = omega (arith, lt) in
@@ -195,7 +195,7 @@ module _ {V : Type 0} (cmp : V → V → Ordering) (total : IsTotalOrder cmp) wh
 
   -- ---- the loop
 
-  -- the next cell doesn't come before the last of those that differ
+  -- the next key doesn't come before the last of the different keys
   pub next_from_last : (cells : List (Cell V)) (i : ℕ) (firsts : List (Cell V)) (ranks : List ℕ) (cell : Cell V)
       → IsSorted (cell_cmp cmp) cells → i < length cells
       → cell ≡ get_or cells i cell → AreRankedUpto cmp cells i firsts ranks → IsFromLast cmp firsts cell
@@ -234,7 +234,7 @@ module _ {V : Type 0} (cmp : V → V → Ordering) (total : IsTotalOrder cmp) wh
           (subst (λ c. same_cell cmp (get_or new rank d) c ≡ true) (get_or_read cells i cell inside here d)
           (entered.same d)))
 
-      -- a row of the same place has it
+      -- a key of the same row has this rank
       placed : (y : Cell V) → y.place ≡ cell.place → SameCell cmp cell y → HasRank cmp (set ranks cell.place rank) new y
       placed y e alike =
           let own = entered.last in

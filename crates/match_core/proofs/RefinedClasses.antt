@@ -1,4 +1,4 @@
--- Classes that both sides' ranks give split the classes so far by the values.
+-- The classes that both sides' ranks give split the current classes by the values.
 use Rattle.std.proofs.Common.{◌≡◌, ◌↔◌, ℕ, ◌+◌, ◌-◌, ◌<◌, true, false, List, ◌++◌, length, get_or, Option, Some, refl, sym, subst, ap, ◌∙◌, inl, inr, arith, length-append}
 use Rattle.std.specs.Cmp.{IsTotalOrder}
 use Rattle.std.specs.declared.cmp.Ordering.{Ordering}
@@ -14,10 +14,10 @@ use Rattle.match_core.specs.Compared.{Compares}
 use Rattle.match_core.proofs.CellOrder.{SameCell, SameCell-sym, SameCell-trans, before-differs, same_cell-decides}
 use Rattle.match_core.proofs.CellValues.{cells_same, class_from_cells, kind_at, one_value, value_from_cells}
 
--- ---- numbers of cells
+-- ---- numbers of sort keys
 
--- the number of a cell of either side: the place of the left cell that is the same, or the place of the right one behind
--- all left ones, where no left one is the same
+-- The number of a key of either side: the index of the equal left key, or the index of the equal right key past all
+-- left ones if no left key is equal.
 pub data Numbers {V : Type 0} (cmp : V → V → Ordering) (lefts rights : List (Cell V)) (cell : Cell V) (number : ℕ)
     : Type 0 where
   left : number < length lefts → ((d : Cell V) → SameCell cmp (get_or lefts number d) cell)
@@ -27,12 +27,12 @@ pub data Numbers {V : Type 0} (cmp : V → V → Ordering) (lefts rights : List 
       → ((d : Cell V) (l : ℕ) → l < length lefts → SameCell cmp (get_or lefts l d) cell → ⊥)
       → Numbers cmp lefts rights cell number
 
--- cells that the test finds to be the same are
+-- the test implies that keys are equal
 same_from : {V : Type 0} (cmp : V → V → Ordering) (a b : Cell V) → same_cell cmp a b ≡ true → SameCell cmp a b
 same_from cmp a b = (same_cell-decides cmp a b).0
 
 module _ {V : Type 0} (cmp : V → V → Ordering) (total : IsTotalOrder cmp) where
-  -- cells at two places of rising ones that are the same stand at one place
+  -- equal keys of an ascending list have the same index
   one_place : (cells : List (Cell V)) → AreRising cmp cells → (i j : ℕ) (d : Cell V) → i < length cells
       → j < length cells → SameCell cmp (get_or cells i d) (get_or cells j d) → i ≡ j
   one_place cells rise i j d hi hj same = elim (cases_eq i j) [
@@ -51,7 +51,7 @@ module _ {V : Type 0} (cmp : V → V → Ordering) (total : IsTotalOrder cmp) wh
           sym known ∙ before-differs cmp (get_or cells a d) (get_or cells b d) (rise a b d less inside) in
           cc
 
-  -- two cells have one number exactly where they are the same
+  -- two keys have the same number exactly if they are equal
   numbers_tell : (lefts rights : List (Cell V)) (a b : Cell V) (m n : ℕ) → AreRising cmp lefts → AreRising cmp rights
       → Numbers cmp lefts rights a m → Numbers cmp lefts rights b n → (m ≡ n) ↔ SameCell cmp a b
   numbers_tell lefts rights a b m n up down (left inside is) (left inside' is') = (
@@ -81,7 +81,7 @@ module _ {V : Type 0} (cmp : V → V → Ordering) (total : IsTotalOrder cmp) wh
         e ∙ ap (λ k. length lefts + k) g ∙ sym e'),
   )
 
-  -- the number of a right cell is that of any cell that is the same
+  -- the number of a right key is the number of any equal key
   number_of_right : (lefts rights : List (Cell V)) (r number : ℕ) (cell : Cell V) → r < length rights
       → ((d : Cell V) → SameCell cmp (get_or rights r d) cell) → IsNumberOf cmp lefts rights r number
       → Numbers cmp lefts rights cell number
@@ -100,7 +100,7 @@ module _ {V : Type 0} (cmp : V → V → Ordering) (total : IsTotalOrder cmp) wh
 
 -- ---- the rows of both sides
 
--- a row's class is the number of its cell
+-- A row's class is the number of its sort key.
 record IsKnown {V : Type 0} (cmp : V → V → Ordering) (IsOf : Value → V → Type 0) (classes : List ℕ)
     (column : List (Option Value)) (lefts rights : List (Cell V)) (i class : ℕ) : Type 0 where
   pub cell : Cell V
@@ -109,7 +109,7 @@ record IsKnown {V : Type 0} (cmp : V → V → Ordering) (IsOf : Value → V →
   pub made : (p : ℕ) × IsCell IsOf (get_or classes i 0) value p cell
   pub number : Numbers cmp lefts rights cell class
 
--- both sides' classes so far, their ranks, these matched, and what the right ones become
+-- Both sides' current classes and ranks, the numbers of the right ranks, and the new right classes.
 pub record AreSides {V : Type 0} (cmp : V → V → Ordering) (IsOf : Value → V → Type 0)
     (one other : List ℕ) (xs ys : List (Option Value)) (lefts rights numbers classes : List ℕ)
     (firsts others : List (Cell V)) : Type 0 where
@@ -188,7 +188,7 @@ module _ {V : Type 0} (kind : Kind) (IsOf : Value → V → Type 0) (cmp : V →
         (known_right (i - length xs) (omega (arith, n, m, all, inside))))
   ]
 
-  -- they split the classes so far
+  -- they split the current classes
   pub refined : All (IsOfKind kind) (xs ++ ys) → Refines (one ++ other) (xs ++ ys) (lefts ++ classes)
   refined all i j hi hj =
       let a = known_at i hi in

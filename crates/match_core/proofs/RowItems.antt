@@ -15,7 +15,7 @@ use Rattle.share_core.specs.Pieces.{piece, piece_before, piece_from}
 use Rattle.share_core.specs.Ranges.{has}
 use Rattle.share_core.specs.declared.range.Range.{Range}
 
--- a row and its item at one place
+-- A row and its item at one index.
 pub record IsItemAt (rows : List Row) (classes : List ℕ) (r : Row) (x : Item) : Type 0 where
   pub place : ℕ
   pub row_at : slice_get rows place ≡ Some r
@@ -25,7 +25,7 @@ pub record IsItemAt (rows : List Row) (classes : List ℕ) (r : Row) (x : Item) 
   pub id : x.id ≡ r.id
   pub period : x.period ≡ r.period
 
--- a row and its item behind another row
+-- a row and its item after another row
 later_place : (q : Row) (c : ℕ) (rows : List Row) (classes : List ℕ) (r : Row) (x : Item) → IsItemAt rows classes r x
     → IsItemAt (q ∷ rows) (c ∷ classes) r x
 later_place q c rows classes r x a = record {
@@ -76,7 +76,7 @@ item_of_row (q ∷ rows) (c ∷ classes) r enough h =
       | inr k ↦ (let a = item_of_row rows classes r (omega arith) k in (a.0, later_place q c rows classes r a.0 a.1))
     ]
 
--- rising ids are ids that differ
+-- ascending ids differ
 pub ids_rise : (rows : List Row) → RowsRise rows → AllPairs (λ x y. x.id < y.id) rows
 ids_rise [] rise = λ i j d less h. absurd (omega arith)
 ids_rise (x ∷ []) rise = λ i j d less h. absurd (omega arith)
@@ -94,7 +94,7 @@ ids_rise (x ∷ (y ∷ ys)) rise =
     ])
     rest
 
--- there are as many items as rows
+-- the number of items is the number of rows
 pub length-items_with : (rows : List Row) (classes : List ℕ) → length rows ≤ length classes
     → length (items_with rows classes) ≡ length rows
 length-items_with [] classes enough = refl
@@ -102,7 +102,7 @@ length-items_with (r ∷ rows) [] enough = absurd (omega arith)
 length-items_with (r ∷ rows) (c ∷ classes) enough = let e = length-items_with rows classes (omega arith) in
     omega (arith, e)
 
--- one more row, and its item
+-- one more row and its item
 pub items_with-more : (rows : List Row) (classes : List ℕ) (i : ℕ) (r : Row) → i < length rows → i < length classes
     → items_with (take (i + 1) rows) (take (i + 1) classes) ≡ items_with (take i rows) (take i classes) ++ item_with
     (get_or rows i r) (get_or classes i 0) ∷ []
@@ -123,7 +123,7 @@ items_of-more (q ∷ rows) (suc i) r h =
     let e : suc i + 1 ≡ suc (i + 1) = omega arith in
     ap (λ n. items_of (take n (q ∷ rows))) e ∙ ap (λ l. item_with q 0 ∷ l) (items_of-more rows i r h)
 
--- the first rows, where they are all
+-- a prefix that contains all rows
 pub items_with-front : (rows : List Row) (classes : List ℕ) (n : ℕ) → length rows ≤ n → length rows ≤ length classes
     → items_with (take n rows) (take n classes) ≡ items_with rows classes
 items_with-front [] classes zero h enough = refl
@@ -133,12 +133,12 @@ items_with-front (r ∷ rows) (c ∷ classes) zero h enough = absurd (omega arit
 items_with-front (r ∷ rows) (c ∷ classes) (suc n) h enough =
     ap (λ l. item_with r c ∷ l) (items_with-front rows classes n (omega arith) (omega arith))
 
--- without classes there are none
+-- without classes there are no items
 items_with-unclassed : (rows : List Row) → items_with rows [] ≡ []
 items_with-unclassed [] = refl
 items_with-unclassed (r ∷ rows) = refl
 
--- the items of a piece of the rows
+-- the items of a partition of the rows
 items_with-before : (end : Option ℕ) (rows : List Row) (classes : List ℕ)
     → items_with (piece_before end rows) (piece_before end classes) ≡ piece_before end (items_with rows classes)
 items_with-before None rows classes = refl
@@ -162,11 +162,11 @@ items_with-piece places rows classes =
     items_with-from places.from (piece_before places.before rows) (piece_before places.before classes)
     ∙ ap (piece_from places.from) (items_with-before places.before rows classes)
 
--- whether a range has the class of an item
+-- Whether an item's class is within a range.
 abbrev is_in : Range ℕ → Item → Bool
 is_in range x = has nat_cmp range x.class
 
--- the item of a row stands at its place
+-- the item of a row is at the row's index
 slice_get-items_with : (rows : List Row) (classes : List ℕ) (i : ℕ) (r : Row) → slice_get rows i ≡ Some r
     → i < length classes → slice_get (items_with rows classes) i ≡ Some (item_with r (get_or classes i 0))
 slice_get-items_with [] classes i r here k = absurd (cc)
@@ -176,11 +176,11 @@ slice_get-items_with (q ∷ rows) (c ∷ classes) zero r here k =
 slice_get-items_with (q ∷ rows) (c ∷ classes) (suc i) r here k =
     slice_get-items_with rows classes i r here (omega (arith, k))
 
--- the items so far, from a place on: those that a range has
+-- The items from index `start` up to `i` whose classes are within a range.
 abbrev pub items_from : Range ℕ → List Row → List ℕ → ℕ → ℕ → List Item
 items_from range rows classes start i = filter (is_in range) (drop start (take i (items_with rows classes)))
 
--- one more row, and its item, if the range has that
+-- one more row, and its item if that is within the range
 items_from-one : (range : Range ℕ) (rows : List Row) (classes : List ℕ) (start i : ℕ) (r : Row) → start ≤ i
     → slice_get rows i ≡ Some r → i < length classes
     → items_from range rows classes start (i + 1)
@@ -193,7 +193,7 @@ items_from-one range rows classes start i r from here k =
     ∙ filter-append (is_in range) (drop start (take i (items_with rows classes)))
     (item_with r (get_or classes i 0) ∷ [])
 
--- one whose item it has
+-- a row whose item is within the range
 pub items_from-more : (range : Range ℕ) (rows : List Row) (classes : List ℕ) (start i : ℕ) (r : Row) → start ≤ i
     → slice_get rows i ≡ Some r → i < length classes → has nat_cmp range (get_or classes i 0) ≡ true
     → items_from range rows classes start i ++ item_with r (get_or classes i 0) ∷ []
@@ -202,7 +202,7 @@ items_from-more range rows classes start i r from here k on =
     ap (λ b. items_from range rows classes start i ++ cond b (item_with r (get_or classes i 0) ∷ []) []) (sym on)
     ∙ sym (items_from-one range rows classes start i r from here k)
 
--- one whose item it hasn't
+-- a row whose item isn't within the range
 pub items_from-same : (range : Range ℕ) (rows : List Row) (classes : List ℕ) (start i : ℕ) → start ≤ i
     → i < length rows → i < length classes → has nat_cmp range (get_or classes i 0) ≡ false
     → items_from range rows classes start i ≡ items_from range rows classes start (i + 1)

@@ -11,7 +11,7 @@ use Rattle.match_core.specs.Items.{item_with, items_with}
 use Rattle.match_core.proofs.RowItems.{row_of_item, ids_rise}
 use Rattle.match_core.proofs.Sided.{IsSide}
 
--- the ids of items rise as those of their rows
+-- the items' ids are in ascending order if the rows' ids are
 items-rise : (rows : List Row) (classes : List ℕ) → AllPairs (λ x y. x.id < y.id) rows
     → AllPairs (λ x y. x.id < y.id) (items_with rows classes)
 items-rise [] classes rise = λ i j d less h. absurd (omega arith)

@@ -17,9 +17,9 @@ use Rattle.match_core.specs.Columns.{value_under, kinds_differ, tests_of_names}
 use Rattle.match_core.specs.Classes.{AreClasses, values_under}
 use Rattle.match_core.specs.Cells.{IsOfKind, Refines, values_at}
 
--- ---- one pair more
+-- ---- one more pair
 
--- without columns all are of one class
+-- without columns all rows are in one class
 pub no_columns : (left right : List Column) (lefts rights : List Row)
     → AreClasses left right lefts rights [] (replicate (length lefts) 0 ++ replicate (length rights) 0)
 no_columns left right lefts rights = record {
@@ -65,7 +65,7 @@ one_more left right lefts rights on pair old new are len refines = record {
 
 -- ---- the pair's columns
 
--- the first of three tests that do not apply
+-- none of three tests applies
 three_pass : {E : Type 0} (a b c : Bool) (d e f : E) → first_of ((a, d) ∷ (b, e) ∷ (c, f) ∷ []) ≡ None
     → (a ≡ false) × ((b ≡ false) × (c ≡ false))
 three_pass true b c d e f h = absurd (cc)
@@ -73,32 +73,32 @@ three_pass false true c d e f h = absurd (cc)
 three_pass false false true d e f h = absurd (cc)
 three_pass false false false d e f h = (refl, (refl, refl))
 
--- what is not missing is there
+-- an option that isn't `None` has a value
 some_from : {X : Type 0} (o : Option X) → is_none o ≡ false → (x : X) × (o ≡ Some x)
 some_from None h = absurd (cc)
 some_from (Some x) h = (x, refl)
 
--- kinds that do not differ are one
+-- kinds that don't differ are equal
 same_kinds : (k l : Kind) → not (same_kind k l) ≡ false → k ≡ l
 same_kinds kind.Int kind.Int h = refl
 same_kinds kind.Int kind.Text h = absurd (cc)
 same_kinds kind.Text kind.Int h = absurd (cc)
 same_kinds kind.Text kind.Text h = refl
 
--- kinds that are the same are one
+-- the test implies that kinds are equal
 pub kind_is : (k l : Kind) → same_kind k l ≡ true → k ≡ l
 kind_is kind.Int kind.Int h = refl
 kind_is kind.Int kind.Text h = absurd (cc)
 kind_is kind.Text kind.Int h = absurd (cc)
 kind_is kind.Text kind.Text h = refl
 
--- the kind of both columns of an allowed pair
+-- The kind of both columns of an allowed pair.
 record IsAllowed (left right : List Column) (pair : NamePair) : Type 0 where
   pub kind : Kind
   pub one : kind_in left pair.0 ≡ Some kind
   pub other : kind_in right pair.1 ≡ Some kind
 
--- the columns of a pair that no test refuses have one kind
+-- the columns of a pair that no test refuses are of one kind
 allowed : (left right : List Column) (pair : NamePair) → first_of (tests_of_names left right pair) ≡ None
     → IsAllowed left right pair
 allowed left right pair h =
@@ -111,7 +111,7 @@ allowed left right pair h =
     let same : k.0 ≡ l.0 = same_kinds k.0 l.0 e in
     record { kind = k.0; one = k.1; other = l.1 ∙ ap (λ x. Some x) (sym same) }
 
--- a column that is there
+-- an existing column
 column_there : (columns : List Column) (name : List ℕ) (k : Kind) → kind_in columns name ≡ Some k
     → (place : ℕ) × (c : Column) × (column_of columns name ≡ Some place) × (slice_get columns place ≡ Some c)
     × (c.kind ≡ k)
@@ -144,7 +144,7 @@ value_there (b ∷ columns) (v ∷ values) zero c h e =
 value_there (b ∷ columns) (v ∷ values) (suc place) c h e =
     value_there columns values place c (and_parts (same_kind b.kind (kind_of v)) (fits columns values) h).1 e
 
--- the values of rows that fit are of the kind of their column
+-- the values of rows that fit are of their column's kind
 named_kind : (columns : List Column) (rows : List Row) (name : List ℕ) (k : Kind) → kind_in columns name ≡ Some k
     → All (λ (row : Row). IsTrue (fits columns row.values)) rows
     → All (IsOfKind k) (map (value_under columns name) rows)
@@ -158,7 +158,7 @@ named_kind columns rows name k h fit =
     subst (λ z. IsOfKind z (slice_get row.values there.0)) there.4 v in
     subst (λ o. IsOfKind k (option_and_then (slice_get row.values) o)) (sym there.2) w))
 
--- the columns by their places
+-- the columns by their indices
 pub values_under-places : (left right : List Column) (lefts rights : List Row) (pair : NamePair) (l r : ℕ)
     → column_of left pair.0 ≡ Some l → column_of right pair.1 ≡ Some r
     → values_under left right lefts rights pair ≡ values_at l r lefts rights
@@ -168,7 +168,7 @@ values_under-places left right lefts rights pair l r e f =
     ∙ ap (λ o. map (λ (row : Row). slice_get row.values l) lefts ++ map
     (λ (row : Row). option_and_then (slice_get row.values) o) rights) f
 
--- the values of both columns of an allowed pair are of the kind of the left one
+-- the values of both columns of an allowed pair are of the left column's kind
 pub columns_one_kind : (left right : List Column) (lefts rights : List Row) (pair : NamePair) (l r : ℕ) (kind : Kind)
     → first_of (tests_of_names left right pair) ≡ None
     → All (λ (row : Row). IsTrue (fits left row.values)) lefts

@@ -1,4 +1,4 @@
--- Rows that stand for others match as these do, and are ordered as they are.
+-- Rows that stand for others match and are ordered in the same way.
 use Rattle.std.proofs.Common.{◌≡◌, ◌⊎◌, ◌<◌, ℕ, List, map, inl, inr, sym, ap, subst, ◌∙◌, arith}
 use Rattle.std.specs.Prelude.{Contains}
 use Rattle.std.specs.Ordering.{nat_cmp}
@@ -14,18 +14,18 @@ use Rattle.match_core.specs.Lots.{left_values, right_values}
 use Rattle.match_core.specs.StandIns.{AnswersAreOfCodes, AnswersAreOfStandIns, KeepValues, MatchAlike, StandFor}
 use Rattle.match_core.proofs.SentLemmas.{rows_match_by_values}
 
--- numbers as they are compared
+-- the comparison of a smaller number with a larger one
 nat_less : (m n : ℕ) → m < n → nat_cmp m n ≡ Less
 nat_less m n h = grind (arith, nat_tests)
 
 nat_more : (m n : ℕ) → n < m → nat_cmp m n ≡ Greater
 nat_more m n h = grind (arith, nat_tests)
 
--- of two numbers one is less, or both are one
+-- of two numbers one is less, or they are equal
 nat_order : (m n : ℕ) → (m < n) ⊎ ((m ≡ n) ⊎ (n < m))
 nat_order m n = grind arith
 
--- ids of rows that stand for others are ordered as those of these
+-- the ids of rows that stand for others are ordered in the same way
 pub ids_alike : (row_of : Row → Row) (f : ℕ → ℕ) (rows : List Row) → StandFor row_of f rows → (m n : ℕ)
     → nat_cmp (f m) (f n) ≡ nat_cmp m n
 ids_alike row_of f rows stand m n = elim (nat_order m n) [
@@ -43,8 +43,8 @@ ids_alike row_of f rows stand m n = elim (nat_order m n) [
     same_cmp k l e =
         ap (λ v. nat_cmp (f k) (f v)) (sym e) ∙ tied (f k) ∙ sym (tied k) ∙ ap (λ v. nat_cmp k v) e
 
--- the list of what is wanted here gives that of what is wanted there, where each wanted thing gives one of there, each of
--- there comes of one, and what it gives is ordered alike
+-- the answers here, mapped by `f`, are the answers there: `f` maps each answer here to one there, reaches each of
+-- them, and keeps the order
 pub answers_there : {X : Type 0} (Before : X → X → Type 0) (Here There : X → Type 0) (f : X → X) (xs : List X)
     → ((a b : X) → Before a b → Before (f a) (f b)) → ((x : X) → Here x → There (f x))
     → ((y : X) → There y → (x : X) × Here x × (f x ≡ y)) → IsListOf Before Here xs → IsListOf Before There (map f xs)
@@ -57,7 +57,7 @@ answers_there Before Here There f xs alike there here is = record {
   );
 }
 
--- rows with the compared values of those that they stand for match as these do
+-- rows with the compared values of the rows they stand for match in the same way
 match_alike : (left_here right_here left_there right_there : List Column) (on_here on_there : List NamePair)
     (left right : List Row) (left_of right_of : Row → Row)
     → KeepValues (left_values left_here on_here) (left_values left_there on_there) left_of left
@@ -76,7 +76,7 @@ match_alike left_here right_here left_there right_there on_here on_there left ri
           ∙ rights y y_in)),
     )
 
--- so what holds of rows that match as those do that they stand for holds of rows with the compared values of these
+-- so the law on rows that match in the same way gives the law on rows with the same compared values
 pub stand_ins_of_codes : {X : Type 0} (Before : X → X → Type 0)
     (Wanted : (Row → Row → Type 0) → List Row → List Row → X → Type 0) (with_ids : (ℕ → ℕ) → (ℕ → ℕ) → X → X)
     → AnswersAreOfCodes Before Wanted with_ids → AnswersAreOfStandIns Before Wanted with_ids

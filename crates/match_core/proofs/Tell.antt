@@ -1,4 +1,4 @@
--- What classes say of a left and a right row.
+-- What classes say about a left and a right row.
 use Rattle.std.proofs.Common.{◌≡◌, ◌↔◌, ℕ, zero, suc, ◌+◌, ◌-◌, ◌<◌, List, [], ◌∷◌, ◌++◌, length, map, get_or, Some, refl, sym, ap, ◌∙◌, arith}
 use Rattle.std.proofs.lemmas.List.{get_or-append_right, get_or_append_left, length-map}
 use Rattle.std.proofs.lemmas.Option.{same_Some, slice_get_within}
@@ -10,7 +10,7 @@ use Rattle.row_core.specs.Name.{NamePair}
 use Rattle.match_core.specs.Columns.{value_under, MatchesOn}
 use Rattle.match_core.specs.Classes.{AreClasses, AreSameOn, values_under}
 
--- what is mapped stands at its old place
+-- a mapped element keeps its index
 pub slice_get-map : {X Y : Type 0} (f : X → Y) (xs : List X) (i : ℕ) (x : X) → slice_get xs i ≡ Some x
     → slice_get (map f xs) i ≡ Some (f x)
 slice_get-map f [] i x h = cc
@@ -26,7 +26,7 @@ values_under-left left right lefts rights pair i x h =
     (value_under left pair.0 x)
     (slice_get-map (value_under left pair.0) lefts i x h)
 
--- the value of a right row, behind those of the left ones
+-- the value of a right row, after all left ones
 values_under-right : (left right : List Column) (lefts rights : List Row) (pair : NamePair) (j : ℕ) (y : Row)
     → slice_get rights j ≡ Some y
     → slice_get (values_under left right lefts rights pair) (length lefts + j) ≡ Some (value_under right pair.1 y)
@@ -37,7 +37,7 @@ values_under-right left right lefts rights pair j y h =
     ∙ slice_get-append_right (map (value_under left pair.0) lefts) (map (value_under right pair.1) rights) j
     ∙ slice_get-map (value_under right pair.1) rights j y h
 
--- a left row and a right one are the same where they match
+-- a left and a right row are equal in the named columns exactly if they match
 same_matches : (left right : List Column) (lefts rights : List Row) (on : List NamePair) (i j : ℕ) (x y : Row)
     → slice_get lefts i ≡ Some x → slice_get rights j ≡ Some y
     → AreSameOn left right lefts rights on i (length lefts + j) ↔ MatchesOn left right on x y
@@ -50,13 +50,13 @@ same_matches left right lefts rights on i j x y h k = (
       ∙ sym (values_under-right left right lefts rights pair j y k)),
 )
 
--- the left classes and the right ones show which rows match
+-- A left and a right row match exactly if their classes are equal.
 abbrev pub ClassesTell : (Row → Row → Type 0) → List Row → List ℕ → List Row → List ℕ → Type 0
 ClassesTell Matches left lefts right rights =
     (i j : ℕ) (x y : Row) → slice_get left i ≡ Some x → slice_get right j ≡ Some y
     → Matches x y ↔ (get_or lefts i 0 ≡ get_or rights j 0)
 
--- the classes of both sides show which rows match
+-- the classes of both sides say which rows match
 pub classes_tell : (left right : List Column) (lefts rights : List Row) (on : List NamePair) (one other : List ℕ)
     → length one ≡ length lefts → AreClasses left right lefts rights on (one ++ other)
     → ClassesTell (MatchesOn left right on) lefts one rights other

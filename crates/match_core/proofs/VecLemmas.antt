@@ -2,7 +2,7 @@
 use Rattle.std.proofs.Common.{◌≡◌, ◌∙◌, ℕ, List, ◌++◌, length, take, drop, ap, arith}
 use Rattle.std.proofs.lemmas.List.{append-nil, take_all, drop_all}
 
--- a vector's items, after they were written through a slice
+-- a vector's items after they were written through a slice
 pub written_back : (old new : List ℕ) (n : ℕ) → length new ≡ length old → length old ≡ n
     → take n (new ++ drop (length new) old) ≡ new
 written_back old new n e f =

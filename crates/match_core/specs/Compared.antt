@@ -1,4 +1,4 @@
--- What the values of a column are compared by: numbers by themselves, texts by a hash first.
+-- How the values of a column are compared: numbers as they are, texts by a hash first.
 use Rattle.std.specs.Prelude.{◌≡◌, ℕ, ℤ, pos, List, [], refl}
 use Rattle.std.specs.Cmp.Lexicographic.{slice_cmp, bytes_decides, texts_ties}
 use Rattle.std.specs.Hash.FoldHasher.{initial, write, finish}
@@ -14,7 +14,8 @@ use Rattle.row_core.specs.declared.value.Value.{Value}
 use Rattle.row_core.specs.declared.value.Value.TheVariants.{Int, Text}
 use Rattle.match_core.specs.declared.comparable.HashedText.{HashedText}
 
--- of each value something is made; what is made of one value ties, and values of the kind of which it ties are one
+-- Something is made from each value. Things made from one value compare as equal, and if things made from two values
+-- of the kind compare as equal, the values are equal.
 pub record Compares {V : Type 0} (kind : Kind) (IsOf : Value → V → Type 0) (cmp : V → V → Ordering) : Type 0 where
   pub made : (value : Value) → (v : V) × IsOf value v
   pub ties : (value : Value) (v w : V) → IsOf value v → IsOf value w → cmp v w ≡ Equal
@@ -23,26 +24,26 @@ pub record Compares {V : Type 0} (kind : Kind) (IsOf : Value → V → Type 0) (
 
 -- ---- numbers
 
--- a number, and none for a text
+-- The number in a value; 0 for a text.
 abbrev pub number_in : Value → ℤ
 number_in (Int number) = number
 number_in (Text text) = pos 0
 
--- the number of a value
+-- `number` is the number in the value.
 abbrev pub IsNumberIn : Value → ℤ → Type 0
 IsNumberIn value number = number ≡ number_in value
 
--- numbers that are one tie
+-- Equal numbers compare as equal.
 same_numbers : (m n : ℤ) → m ≡ n → int_cmp m n ≡ Equal
 same_numbers m n same = subst (λ k. int_cmp m k ≡ Equal) same (tied_itself int_cmp_total m)
 
--- values of the kind of numbers that have one number are one
+-- Two values of the number kind with the same number are equal.
 one_number : (a b : Value) → kind_of a ≡ kind.Int → kind_of b ≡ kind.Int → number_in a ≡ number_in b → a ≡ b
 one_number (Int m) (Int n) k l same = ap Int same
 one_number (Int m) (Text t) k l same = absurd (cc)
 one_number (Text s) b k l same = absurd (cc)
 
--- numbers are compared by themselves
+-- Numbers are compared as they are.
 pub numbers_compare : Compares kind.Int IsNumberIn int_cmp
 numbers_compare = record {
   made = λ value. (number_in value, refl);
@@ -52,48 +53,48 @@ numbers_compare = record {
 
 -- ---- texts
 
--- a hash of a text
+-- A hash of a text.
 abbrev pub hash_of : List ℕ → ℕ
 hash_of text = finish (write initial text)
 
--- a text, and the empty one for a number
+-- The text in a value; empty for a number.
 abbrev pub text_in : Value → List ℕ
 text_in (Int number) = []
 text_in (Text text) = text
 
--- the text of a value, with its hash
+-- The text in the value, with its hash.
 pub record IsTextIn (value : Value) (hashed : HashedText) : Type 0 where
   pub hash_is : hashed.hash ≡ hash_of (text_in value)
   pub text_is : hashed.text.now ≡ text_in value
 
--- the order of texts: by hash, and then by themselves
+-- The order of texts: by hash, then by text.
 abbrev pub hashed_cmp : HashedText → HashedText → Ordering
 hashed_cmp a b = ordering_then (nat_cmp a.hash b.hash) (slice_cmp nat_cmp a.text.now b.text.now)
 
--- texts of one hash that are one tie
+-- Equal texts with equal hashes compare as equal.
 same_texts : (g h : ℕ) (s t : List ℕ) → g ≡ h → s ≡ t → ordering_then (nat_cmp g h) (slice_cmp nat_cmp s t) ≡ Equal
 same_texts g h s t one same =
     subst (λ k. ordering_then (nat_cmp g k) (slice_cmp nat_cmp s t) ≡ Equal) one
     (ap (λ o. ordering_then o (slice_cmp nat_cmp s t)) (tied_itself nat_cmp_total g)
     ∙ subst (λ l. slice_cmp nat_cmp s l ≡ Equal) same (tied_itself nat_list_cmp_total s))
 
--- where one order behind another ties, it ties
+-- If two orders in sequence compare as equal, so does the second.
 second_ties : (r s : Ordering) → ordering_then r s ≡ Equal → s ≡ Equal
 second_ties Less s tied = absurd (cc)
 second_ties Greater s tied = absurd (cc)
 second_ties Equal s tied = tied
 
--- texts that tie are one
+-- Texts that compare as equal are equal.
 one_text : (s t : List ℕ) → slice_cmp nat_cmp s t ≡ Equal → s ≡ t
 one_text s t tied = (bytes_decides s t).0 (texts_ties s t ∙ ap is_eq tied)
 
--- values of the kind of texts that have one text are one
+-- Two values of the text kind with the same text are equal.
 one_value : (a b : Value) → kind_of a ≡ kind.Text → kind_of b ≡ kind.Text → text_in a ≡ text_in b → a ≡ b
 one_value (Text s) (Text t) k l same = ap Text same
 one_value (Text s) (Int n) k l same = absurd (cc)
 one_value (Int m) b k l same = absurd (cc)
 
--- texts are compared by a hash, and where that doesn't tell them apart by themselves
+-- Texts are compared by hash, and then by text if the hashes are equal.
 pub texts_compare : Compares kind.Text IsTextIn hashed_cmp
 texts_compare = record {
   made = λ value. (

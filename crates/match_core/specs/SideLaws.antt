@@ -1,4 +1,4 @@
--- Laws of the columns of one side.
+-- Laws on the columns of one side.
 use Rattle.std.specs.Prelude.{◌≡◌, ℕ, zero, suc, ◌<◌, List, [], ◌∷◌, length, All, Option, Some, None, refl, slice_get}
 use Rattle.std.specs.Borrow.{Bor}
 use Rattle.std.specs.Option.{ForSome}
@@ -8,7 +8,7 @@ use Rattle.row_core.specs.declared.row.Row.{Row}
 use Rattle.row_core.specs.declared.value.Value.{Value}
 use Rattle.match_core.specs.Cells.{column_at, so_far}
 
--- a value at a place that there is
+-- a value at an existing index
 value_from : (values : List Value) (place : ℕ) → place < length values
     → (v : Value) × (slice_get values place ≡ Some v)
 value_from [] place lt = absurd (omega (arith, lt))
@@ -24,7 +24,7 @@ value_there place (row ∷ rows) wide zero lt =
 value_there place (row ∷ rows) wide (suc i) lt =
     value_there place rows (λ k d inside. wide (suc k) d (omega (arith, inside))) i (omega (arith, lt))
 
--- and a class so far
+-- and a current class
 pub class_there : (place : ℕ) (classes : Option (Bor (List ℕ))) (rows : List Row)
     → ForSome classes (λ (c : Bor (List ℕ)). length c.now ≡ length rows)
     → length (so_far classes rows) ≡ length (column_at place rows)

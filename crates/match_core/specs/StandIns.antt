@@ -8,26 +8,26 @@ use Rattle.row_core.specs.declared.value.Value.{Value}
 use Rattle.match_core.specs.Columns.{MatchesOn}
 use Rattle.match_core.specs.Lots.{left_values, right_values}
 
--- each of some rows stands for the row that a function gives: it has that row's period, and an id of its own, for which
--- a function that rises gives that row's
+-- Each row stands for `row_of row`: it has the same period, and its own id, which the increasing function `id_of` maps
+-- to that row's id.
 pub record StandFor (row_of : Row → Row) (id_of : ℕ → ℕ) (rows : List Row) : Type 0 where
   pub period_is : (row : Row) → Contains rows row → (row_of row).period ≡ row.period
   pub id_is : (row : Row) → Contains rows row → (row_of row).id ≡ id_of row.id
   pub rises : (m n : ℕ) → m < n → id_of m < id_of n
 
--- each has the values of the row that it stands for in the columns that are compared
+-- Each row has the same values in the compared columns as the row it stands for.
 abbrev pub KeepValues : (Row → List (Option Value)) → (Row → List (Option Value)) → (Row → Row) → List Row → Type 0
 KeepValues values_here values_there row_of rows =
     (row : Row) → Contains rows row → values_there (row_of row) ≡ values_here row
 
--- a left and a right row match exactly where those do that they stand for
+-- A left and a right row match exactly if the rows they stand for match.
 abbrev pub MatchAlike : (Row → Row → Type 0) → (Row → Row → Type 0) → (Row → Row) → (Row → Row)
     → List Row → List Row → Type 0
 MatchAlike here there left_of right_of left right =
     (x y : Row) → Contains left x → Contains right y → here x y ↔ there (left_of x) (right_of y)
 
--- the answers to rows that match as those do that they stand for, what is wanted of them in an order, are, with the ids
--- of these, the answers to these; a function gives an answer the ids that a left and a right row stand for
+-- If rows match exactly if the rows they stand for match, then the answers to them are the answers to those rows, with
+-- these rows' ids; `with_ids` replaces the ids in an answer.
 abbrev pub AnswersAreOfCodes : {X : Type 0} → (X → X → Type 0)
     → ((Row → Row → Type 0) → List Row → List Row → X → Type 0) → ((ℕ → ℕ) → (ℕ → ℕ) → X → X) → Type 0
 AnswersAreOfCodes {X} Before Wanted with_ids =
@@ -40,7 +40,7 @@ AnswersAreOfCodes {X} Before Wanted with_ids =
     → IsListOf Before (Wanted (MatchesOn left_there right_there on_there) (map left_of left) (map right_of right))
     (map (with_ids left_id right_id) answers)
 
--- so are those to rows that have the compared values of the rows that they stand for
+-- The same for rows that have the compared values of the rows they stand for.
 abbrev pub AnswersAreOfStandIns : {X : Type 0} → (X → X → Type 0)
     → ((Row → Row → Type 0) → List Row → List Row → X → Type 0) → ((ℕ → ℕ) → (ℕ → ℕ) → X → X) → Type 0
 AnswersAreOfStandIns {X} Before Wanted with_ids =

@@ -1,4 +1,4 @@
-//! The rows of one side with their values in the column that they are compared by, sorted by these.
+//! The sort keys ("cells") of one side's rows: a row's class and its value in the compared column.
 
 ghost use Rattle.std.specs.Prelude.{◌≡◌, ◌<◌, ◌++◌, IfOk, OnOk, length};
 ghost use Rattle.std.specs.Thread.{IsSync};
@@ -23,8 +23,8 @@ use sort_core::sort_unstable;
 use std::alloc::Global;
 use std::thread::Threads;
 
-/// What is made of a row's value in a column, with the class of the row so far, so that no value is looked up while
-/// they are sorted, and none is copied. The places of the rows aren't compared: cells that are equal need no order.
+/// A row's sort key: its current class, and a value made from its value in the column. So sorting looks up and copies
+/// no values. The row's index isn't compared, because equal keys need no order.
 #[derive(Clone, Copy)]
 #[derive_where(PartialEq, Eq, PartialOrd, Ord; V)]
 pub(crate) struct Cell<V> {
@@ -34,9 +34,9 @@ pub(crate) struct Cell<V> {
     pub(crate) place: usize,
 }
 
-/// A cell for each row of a side, in rising order: lists that stand one behind another. Where rows are many, each worker
-/// makes the cells of a piece of them, so that each value is read once. Then workers share the cells out by their ranges,
-/// and each range is sorted by itself.
+/// Returns a sort key for each row of a side, as lists that are in ascending order if they are read one after another.
+/// With many rows, each worker first makes the keys of a part of the rows, so each value is read once. Then the values
+/// are cut into ranges, and each range is sorted by some of the workers.
 pub(crate) fn sorted_cells<R: Threads + Sync, V: Ord + Copy + Send + Sync, S: Comparable<V>>(
     rt: &R,
     alloc: Global,
@@ -63,8 +63,7 @@ pub(crate) fn sorted_cells<R: Threads + Sync, V: Ord + Copy + Send + Sync, S: Co
     }
 }
 
-/// A cell for each row of a side, in the order of the rows: lists that stand one behind another, of a piece of the rows
-/// each.
+/// Returns a sort key for each row of a side, in the order of the rows, as one list for each partition of the rows.
 fn made_cells<R: Threads + Sync, V: Ord + Copy + Send + Sync, S: Comparable<V>>(
     rt: &R,
     alloc: Global,
@@ -87,7 +86,7 @@ fn made_cells<R: Threads + Sync, V: Ord + Copy + Send + Sync, S: Comparable<V>>(
     )
 }
 
-/// The cells of the rows at some places, in their order.
+/// Returns the sort keys of the rows at the given indices, in order.
 fn cells_of<V: Ord + Copy, S: Comparable<V>>(
     alloc: Global,
     side: S,
@@ -104,7 +103,7 @@ fn cells_of<V: Ord + Copy, S: Comparable<V>>(
     Ok(cells)
 }
 
-/// The cells of some lists in rising order, as one list.
+/// Returns the sort keys of some lists as one list in ascending order.
 fn sorted_as_one<R: Threads + Sync, V: Ord + Copy + Send>(
     rt: &R,
     alloc: Global,
@@ -120,7 +119,8 @@ fn sorted_as_one<R: Threads + Sync, V: Ord + Copy + Send>(
     Ok(lists)
 }
 
-/// The cells of some lists in rising order, a list for each range.
+/// Returns the sort keys of some lists as one list per range. The lists are in ascending order if they are read one
+/// after another.
 fn sorted_by_range<R: Threads + Sync, V: Ord + Copy + Send + Sync>(
     rt: &R,
     alloc: Global,
@@ -141,7 +141,7 @@ fn sorted_by_range<R: Threads + Sync, V: Ord + Copy + Send + Sync>(
     )
 }
 
-/// The cells that a range has of some lists, in rising order.
+/// Returns the sort keys of some lists that are within a range, in ascending order.
 fn sorted_in<R: Threads + Sync, V: Ord + Copy + Send>(
     rt: &R,
     alloc: Global,
@@ -159,7 +159,7 @@ fn sorted_in<R: Threads + Sync, V: Ord + Copy + Send>(
     Ok(in_order(rt, cells, workers))
 }
 
-/// The same cells in rising order.
+/// Returns the same sort keys in ascending order.
 fn in_order<R: Threads + Sync, V: Ord + Copy + Send>(
     rt: &R,
     mut cells: Vec<Cell<V>>,
@@ -171,7 +171,8 @@ fn in_order<R: Threads + Sync, V: Ord + Copy + Send>(
     cells
 }
 
-/// Room for the cells of one of as many ranges as there are lists: somewhat more than are in one of these.
+/// Returns a capacity for the sort keys of one range if there is one range per list: a quarter more than the first
+/// list has.
 fn room_for_cells<V>(made: &[Vec<Cell<V>>]) -> usize {
     match made.first() {
         Some(list) => list.len().saturating_add(list.len() / 4),
@@ -179,7 +180,7 @@ fn room_for_cells<V>(made: &[Vec<Cell<V>>]) -> usize {
     }
 }
 
-/// Adds those of some cells that a range has.
+/// Adds the sort keys that are within a range.
 fn add_cells_in<V: Ord + Copy>(
     range: &Range<Cell<V>>,
     cells: &[Cell<V>],
@@ -196,14 +197,14 @@ fn add_cells_in<V: Ord + Copy>(
     Ok(())
 }
 
-/// Whether a range has the cell.
+/// Returns whether the sort key is within a range.
 fn has_cell<V: Ord>(range: &Range<Cell<V>>, cell: &Cell<V>) -> bool
     ensures { result ≡ has (cell_cmp V.cmp) range.now cell.now }
 {
     range.has(cell)
 }
 
-/// Whether the one cell comes before the other.
+/// Returns whether one sort key comes before the other.
 pub(crate) fn is_before<V: Ord>(a: &Cell<V>, b: &Cell<V>) -> bool
     ensures { result ≡ is_before V.cmp a.now b.now }
 {

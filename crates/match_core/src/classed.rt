@@ -1,4 +1,4 @@
-//! What is known of each row of a side before its values are compared.
+//! A side's rows before their values in a column are compared.
 
 ghost use Rattle.std.specs.Prelude.{◌≡◌, ◌<◌, ℕ, List, Option, Some, length, slice_get};
 ghost use Rattle.row_core.specs.declared.value.Value.{Value};
@@ -7,19 +7,19 @@ ghost use Rattle.match_core.specs.SideLaws.{class_there, value_there};
 
 use crate::side_column::SideColumn;
 
-/// The rows of one side, each with its class so far and its value in the column that the rows are compared by.
+/// The rows of one side, each with its current class and its value in the compared column.
 pub(crate) trait Classed: Copy + Send + Sync {
-    // The class of each row so far.
+    // The current class of each row.
     ghost classes: { Self → List ℕ };
 
     // The value of each row.
     ghost column: { Self → List (Option Value) };
 
-    /// How many rows there are.
+    /// Returns the number of rows.
     fn len(&self) -> usize
         ensures { result ≡ length (column self.now) };
 
-    // Each row has a class so far.
+    // Each row has a current class.
     ghost counted: { (side : Self) → length (classes side) ≡ length (column side) };
 
     // Each row has a value.

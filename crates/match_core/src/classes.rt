@@ -1,4 +1,4 @@
-//! Gives rows classes by the columns that they are compared by.
+//! Assigns classes to rows by the columns that they are compared by.
 
 ghost use Rattle.std.specs.Prelude.{◌≡◌, ◌++◌, None, IfOk, length, replicate};
 ghost use Rattle.std.specs.Option.{ForSome};
@@ -22,32 +22,32 @@ use work_core::Crew;
 /// A class for each row of two sides.
 #[derive(Debug, Drop)]
 pub struct Classes {
-    /// Those of the left rows, in their order.
+    /// The classes of the left rows, in order.
     pub left: Vec<u64>,
-    /// Those of the right rows, in theirs.
+    /// The classes of the right rows, in order.
     pub right: Vec<u64>,
-    /// The places of the left rows with their classes, those of lower classes first: in the order that sorting gave.
+    /// The indices of the left rows with their classes, lower classes first. Within a class the order is unspecified.
     pub left_places: Vec<ClassedPlace>,
-    /// The places of the right rows so.
+    /// The same for the right rows.
     pub right_places: Vec<ClassedPlace>,
 }
 
-/// The rows of a side, and the class of each so far; None where all are of one.
+/// The rows of a side, and the current class of each; `None` if all are in one class.
 #[derive(Clone, Copy)]
 struct ClassedSide<'a, 'c> {
     side: Side<'a>,
     classes: Option<&'c [u64]>,
 }
 
-/// A class for each left row, and one for each right row: two rows, of whichever sides, have one class
-/// exactly where they are equal in each named pair of columns. Without names all rows have one. It takes
-/// time of the order n log n in the rows for each pair of names, whatever their values are. Where rows are many,
-/// half of the workers sort the values of the left side and the others those of the right one: each reads those of a
-/// piece of the rows, and then sorts a range of all of them.
+/// Returns a class for each left row and each right row. Two rows, of the same side or not, have the same class
+/// exactly if they are equal in each named pair of columns. Without names all rows have the same class. The time is
+/// O(n log n) in the number of rows for each pair of names, whatever the values. With many rows, half of the workers
+/// sort the left side's values and the others the right side's: each reads the values of a part of the rows, and then
+/// they sort ranges of all values.
 ///
 /// # Errors
 ///
-/// `NoMemory` where a growth is refused.
+/// `NoMemory` if an allocation is refused.
 pub fn classes_of<R: Threads + Sync, G>(
     crew: &Crew<'_, R, G>,
     left: Side<'_>,
@@ -92,7 +92,7 @@ pub fn classes_of<R: Threads + Sync, G>(
     Ok(classes)
 }
 
-/// One class for so many left rows, and so many right ones.
+/// Returns classes for `lefts` left rows and `rights` right rows, all in one class.
 fn one_class<R: Threads + Sync>(
     rt: &R,
     alloc: Global,
@@ -118,7 +118,7 @@ fn one_class<R: Threads + Sync>(
     })
 }
 
-/// The classes so far of both sides, split by one pair of columns.
+/// Returns the current classes of both sides, split by one pair of columns.
 fn split_by<R: Threads + Sync, G>(
     crew: &Crew<'_, R, G>,
     left: ClassedSide<'_, '_>,

@@ -1,4 +1,4 @@
-//! Why columns can't be compared.
+//! Refusals of compared columns.
 
 ghost use Rattle.std.specs.Prelude.{◌≡◌};
 ghost use Rattle.row_core.specs.Refusals.{first_of};
@@ -8,18 +8,18 @@ ghost use Rattle.match_core.specs.Columns.{columns_refusal, tests_of_names};
 
 use row_core::{Kind, Name, Schema};
 
-/// Why a query's columns can't be compared, in the order of the tests; of pairs of names, each is tested for
-/// all before the next one.
+/// Why a query's columns can't be compared. The tests run in this order; with several pairs of names, all tests of one
+/// pair run before the next pair's.
 #[derive(Clone, Copy, Debug, PartialEq, Eq)]
 pub enum QueryRefused {
-    /// The left side has no column of the one name, or the right side none of the other.
+    /// The left side has no column with the first name, or the right side has no column with the second.
     NoColumn,
-    /// The two columns are of two kinds.
+    /// The two columns are of different kinds.
     WrongKind,
 }
 
-/// Why the rows of the left side can't be compared with those of the right one by these pairs of a left
-/// column's name and a right one's: the first pair that is refused decides. None where they can.
+/// Returns why the left side's rows can't be compared with the right side's by these pairs of a left and a right
+/// column name, or `None` if they can. The first refused pair decides.
 pub fn refusal_of_pairs(left: &Schema, right: &Schema, on: &[(Name, Name)]) -> Option<QueryRefused>
     ensures { result ≡ columns_refusal left.now right.now on.now }
 {
@@ -32,7 +32,7 @@ pub fn refusal_of_pairs(left: &Schema, right: &Schema, on: &[(Name, Name)]) -> O
     None
 }
 
-/// What refuses a pair of names: a column is missing, or they are of two kinds.
+/// Returns why a pair of names is refused: a column is missing, or the kinds differ.
 fn refusal_of_pair(left: &Schema, right: &Schema, pair: &(Name, Name)) -> Option<QueryRefused>
     ensures { result ≡ first_of (tests_of_names left.now right.now pair.now) }
 {

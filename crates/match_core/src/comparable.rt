@@ -1,4 +1,4 @@
-//! What the values of a column are compared by.
+//! How the values of a column are compared.
 
 ghost use Rattle.std.specs.Prelude.{◌≡◌, ◌<◌, ℤ, length};
 ghost use Rattle.row_core.specs.Lent.{lent_value};
@@ -24,25 +24,25 @@ use crate::side_values::{class_at, value_at};
 use row_core::ValueRef;
 use std::hash::{FoldHasher, Hasher};
 
-/// A column of one side, whose values are compared by something that is made of them: smaller than any value, and sooner
-/// compared. The kind of the values is known; what is made of a value of the other kind says nothing.
+/// A column of one side. Its values are compared by something that is made from them, which is smaller and faster to
+/// compare. All values must be of one kind; a value of the other kind gets a meaningless result.
 pub(crate) trait Comparable<V: Ord>: Classed {
     // The kind of values that are compared.
     ghost kind: { Kind };
 
-    // This is made of the value.
+    // The second argument is made from the value.
     ghost IsOf: { Value → V → Type 0 };
 
-    /// The cell of the row at that place.
+    /// Returns the sort key of row `i`.
     fn cell_at(&self, i: usize) -> Cell<V>
         requires { i < length (Self.column self.now) }
         ensures { IsCellAt IsOf (Self.classes self.now) (Self.column self.now) i result };
 
-    // Values of the kind are one exactly where what is made of them ties.
+    // Two values of the kind are equal exactly if the things made from them compare as equal.
     ghost compares: { Compares kind IsOf V.cmp };
 }
 
-/// Numbers are compared by themselves.
+/// Numbers are compared as they are.
 impl Comparable<i64> for SideColumn<'_, '_> {
     ghost kind = { kinds.Int };
 
@@ -59,7 +59,8 @@ impl Comparable<i64> for SideColumn<'_, '_> {
     }
 }
 
-/// A text with its hash, which mostly tells two texts apart; where it doesn't, they are compared.
+/// A text with its hash. Different texts mostly have different hashes; if the hashes are equal, the texts are
+/// compared.
 #[derive(Clone, Copy, PartialEq, Eq, PartialOrd, Ord)]
 pub(crate) struct HashedText<'a> {
     hash: u64,
@@ -82,7 +83,7 @@ impl<'a> Comparable<HashedText<'a>> for SideColumn<'a, '_> {
     }
 }
 
-/// The number that a value is, and none for a text.
+/// Returns the number in a value; 0 for a text.
 fn number_in(value: ValueRef<'_>) -> i64
     ensures { result ≡ number_in (lent_value value.entry) }
 {
@@ -92,7 +93,7 @@ fn number_in(value: ValueRef<'_>) -> i64
     }
 }
 
-/// The text that a value is, and the empty one for a number.
+/// Returns the text in a value; empty for a number.
 fn text_in<'a>(value: ValueRef<'a>) -> &'a str
     ensures { result.now ≡ text_in (lent_value value.entry) }
 {
@@ -102,7 +103,7 @@ fn text_in<'a>(value: ValueRef<'a>) -> &'a str
     }
 }
 
-/// A text with its hash.
+/// Returns a text with its hash.
 fn hashed<'a>(text: &'a str) -> HashedText<'a>
     ensures hash { result.hash ≡ hash_of text.now }
     ensures text { result.text.now ≡ text.now }
@@ -113,7 +114,7 @@ fn hashed<'a>(text: &'a str) -> HashedText<'a>
     }
 }
 
-/// A hash of the text.
+/// Returns a hash of the text.
 fn hash_of(text: &str) -> u64
     ensures { result ≡ hash_of text.now }
 {

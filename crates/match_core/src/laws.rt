@@ -1,10 +1,10 @@
-//! Laws of rows that match.
+//! Laws on matching rows.
 
 ghost use Rattle.match_core.specs.Lots.{RowsMatchByValues, ValuesSendTogether};
 
-/// Two rows match exactly where their values in the columns that are compared are one list. So whoever sends rows of
-/// both sides to many runs by a function of these values alone, such as a hash of them, sends rows that match to one
-/// run, which is what the laws of joins and anti-joins of lots ask for. How a program makes that number it doesn't say.
+/// Two rows match exactly if their lists of values in the compared columns are equal. So if rows of both sides are
+/// partitioned into lots by a function of these values, such as a hash, matching rows go to the same lot. Laws such as
+/// `join_is_that_of_its_lots` require that. The law doesn't say how a program computes the function.
 pub fn matching_rows_have_equal_values()
     ensures values { RowsMatchByValues }
     ensures sent { ValuesSendTogether }

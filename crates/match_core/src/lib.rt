@@ -1,7 +1,7 @@
 #![tactic(auto)]
 
-//! Which rows of two tables match: the columns that they are compared by, and a class for each row, so that
-//! two rows match exactly where they have one class.
+//! Finds which rows of two tables match: tests the compared columns, and assigns a class to each row so that two rows
+//! match exactly if their classes are equal.
 
 mod cells;
 mod classed;

@@ -1,4 +1,4 @@
-//! Numbers the classes of both sides by the ranks of each.
+//! Numbers the classes of both sides by their ranks.
 
 ghost use Rattle.std.specs.Prelude.{◌≡◌, ◌+◌, ◌<◌, ◌≤◌, All, IfOk, IfSome, length, map, slice_get, take, true, false};
 ghost use Rattle.match_core.specs.ClassedPlaces.{numbered_by};
@@ -10,7 +10,8 @@ use crate::ranks::is_same_cell;
 use crate::row_items::ClassedPlace;
 use std::alloc::Global;
 
-/// A number for each right cell: the place of the left cell that is the same, or one behind those of all left cells.
+/// Returns a number for each right sort key: the index of the equal left key, or a number past all left indices if no
+/// left key is equal.
 pub(crate) fn numbers_of<V: Ord>(
     alloc: Global,
     lefts: &[Cell<V>],
@@ -29,7 +30,7 @@ pub(crate) fn numbers_of<V: Ord>(
     Ok(numbers)
 }
 
-/// The first place from there on at which the left cell doesn't come before the other.
+/// Returns the first index, from `from` on, whose left sort key doesn't come before `cell`.
 fn first_from<V: Ord>(lefts: &[Cell<V>], from: usize, cell: &Cell<V>) -> usize
     requires from { from ≤ length lefts.now }
     requires before { All (λ x. is_before V.cmp x cell.now ≡ true) (take from lefts.now) }
@@ -45,7 +46,8 @@ fn first_from<V: Ord>(lefts: &[Cell<V>], from: usize, cell: &Cell<V>) -> usize
     lefts.len()
 }
 
-/// The number of the right cell at its place, where that left one is the first that doesn't come before it.
+/// Returns the number of the right sort key at index `right`. `left` must be the first left index whose key doesn't
+/// come before it.
 fn number_of<V: Ord>(lefts: &[Cell<V>], left: usize, rights: &[Cell<V>], right: usize) -> u64
     requires right { right < length rights.now }
     requires within { left ≤ length lefts.now }
@@ -60,7 +62,7 @@ fn number_of<V: Ord>(lefts: &[Cell<V>], left: usize, rights: &[Cell<V>], right: 
     }
 }
 
-/// Gives each right row the number of its rank as its class.
+/// Replaces each right row's rank by that rank's number, which is the row's class.
 pub(crate) fn number_rows(ranks: &mut [u64], numbers: &[u64])
     requires { All (λ rank. rank < length numbers.now) ranks.old }
     ensures { AreNumbered ranks.old numbers.now ranks.new }
@@ -70,7 +72,7 @@ pub(crate) fn number_rows(ranks: &mut [u64], numbers: &[u64])
     }
 }
 
-/// The places with the numbers of their ranks as their classes.
+/// Returns the indices with each rank replaced by its number.
 pub(crate) fn number_places(
     alloc: Global,
     places: &[ClassedPlace],

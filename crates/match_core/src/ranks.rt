@@ -1,4 +1,4 @@
-//! Numbers the rows of one side by their values: rows of one class so far and one value have one rank.
+//! Ranks the rows of one side: rows with the same current class and the same value have the same rank.
 
 ghost use Rattle.std.specs.Prelude.{◌≡◌, ◌+◌, ◌++◌, ◌<◌, All, IfOk, IsSorted, MatchBool, OnOk, length, map};
 ghost use Rattle.list_core.specs.Chunks.{all_in};
@@ -26,18 +26,18 @@ use crate::row_items::ClassedPlace;
 use std::alloc::Global;
 use std::thread::Threads;
 
-/// The rows of a side by rank.
+/// The ranks of a side's rows.
 #[derive(Drop)]
 pub(crate) struct Ranked<V> {
     /// The rank of each row.
     pub ranks: Vec<u64>,
-    /// By rank, a cell that is the same as those of the rank's rows: each comes before the next one.
+    /// For each rank the sort key of its rows, in strictly ascending order.
     pub firsts: Vec<Cell<V>>,
-    /// The places of the rows with their ranks, in the order of their cells.
+    /// The indices of the rows with their ranks, in the order of the sort keys.
     pub places: Vec<ClassedPlace>,
 }
 
-/// The rows of a side by rank.
+/// Returns the ranks of a side's rows.
 pub(crate) fn rank_side<R: Threads + Sync, V: Ord + Copy + Send + Sync, S: Comparable<V>>(
     rt: &R,
     alloc: Global,
@@ -58,7 +58,7 @@ pub(crate) fn rank_side<R: Threads + Sync, V: Ord + Copy + Send + Sync, S: Compa
     })
 }
 
-/// The places of the cells' rows with the ranks that these have, in the order of the cells.
+/// Returns the row indices of the sort keys with the rows' ranks, in the order of the keys.
 fn places_of<V>(
     alloc: Global,
     lists: &[Vec<Cell<V>>],
@@ -75,7 +75,7 @@ fn places_of<V>(
     Ok(places)
 }
 
-/// Adds the places of some cells' rows with their ranks.
+/// Adds the row indices of some sort keys with the rows' ranks.
 fn add_places<V>(
     cells: &[Cell<V>],
     ranks: &[u64],
@@ -94,7 +94,7 @@ fn add_places<V>(
     Ok(())
 }
 
-/// Gives each cell's row the number of different cells before it, and lists those that differ.
+/// Writes each row's rank: the number of different sort keys before its own. Returns the different keys.
 fn rank_cells<V: Ord + Copy>(
     alloc: Global,
     lists: &[Vec<Cell<V>>],
@@ -114,7 +114,7 @@ fn rank_cells<V: Ord + Copy>(
     Ok(firsts)
 }
 
-/// The same for the cells of the list of that number alone, where those of the lists before it have their ranks.
+/// Writes the ranks of one list's rows, and adds its different keys. The lists before it must be ranked already.
 fn rank_list<V: Ord + Copy>(
     lists: &[Vec<Cell<V>>],
     number: usize,
@@ -139,7 +139,7 @@ fn rank_list<V: Ord + Copy>(
     Ok(())
 }
 
-/// The number of the last cell where that is the same, else of a new one behind it.
+/// Returns the rank of the sort key: the last rank if the last key is equal, or a new one with the key appended.
 fn enter_cell<V: Ord + Copy>(firsts: &mut Vec<Cell<V>>, cell: &Cell<V>) -> Result<u64, NoMemory>
     requires rise { AreRising V.cmp firsts.old.items }
     requires upto { IsFromLast V.cmp firsts.old.items cell.now }
@@ -151,7 +151,7 @@ fn enter_cell<V: Ord + Copy>(firsts: &mut Vec<Cell<V>>, cell: &Cell<V>) -> Resul
     Ok(firsts.len() as u64 - 1)
 }
 
-/// Whether the last cell is the same.
+/// Returns whether the last sort key equals this one.
 fn is_last<V: Ord>(firsts: &[Cell<V>], cell: &Cell<V>) -> bool
     ensures { MatchBool result (HasLast V.cmp firsts.now cell.now)
         (HasLast V.cmp firsts.now cell.now → ⊥) }
@@ -162,7 +162,7 @@ fn is_last<V: Ord>(firsts: &[Cell<V>], cell: &Cell<V>) -> bool
     }
 }
 
-/// Whether the rows of both cells have one class so far and one value.
+/// Returns whether two sort keys have the same current class and the same value.
 pub(crate) fn is_same_cell<V: Ord>(a: &Cell<V>, b: &Cell<V>) -> bool
     ensures { result ≡ same_cell V.cmp a.now b.now }
 {

@@ -1,4 +1,4 @@
-//! Rows as items, which are divided and merged.
+//! Rows as items, for dividing and merging.
 
 ghost use Rattle.std.specs.Prelude.{◌≡◌, ◌<◌, ◌≤◌, All, IfOk, IsPermutation, Some, length, map};
 ghost use Rattle.std.specs.List.Sorted.{IsNonDecreasingBy};
@@ -18,23 +18,23 @@ use std::thread::{Threads, join};
 use table_core::{RowRef, SharedRows};
 use work_core::Crew;
 
-/// Of fewer rows one side's items would be there before the other side's thread has started.
+/// With fewer rows, one side's items would be complete before the other side's thread has started.
 const ROWS_FOR_THREAD: usize = 4_096;
 
-/// A row's place and its class: what is sorted instead of its item, which is more than twice as long.
+/// A row's index and its class. Sorting moves these instead of the row's item, which is more than twice as large.
 #[derive(Clone, Copy, Debug)]
 pub struct ClassedPlace {
     /// The class of the row.
     pub class: u64,
-    /// Where it stands among the rows, from 0 on.
+    /// The index of the row, from 0.
     pub place: usize,
 }
 
-/// The rows as items of one class, in their order.
+/// Returns the rows as items of one class, in order.
 ///
 /// # Errors
 ///
-/// `NoMemory` where a growth is refused.
+/// `NoMemory` if an allocation is refused.
 pub fn items(alloc: Global, rows: &SharedRows) -> Result<Vec<Item>, NoMemory>
     ensures { IfOk result (λ items. items.items ≡ items_of rows.now) }
 {
@@ -45,12 +45,12 @@ pub fn items(alloc: Global, rows: &SharedRows) -> Result<Vec<Item>, NoMemory>
     Ok(items)
 }
 
-/// The rows of both sides as items, each of its class: those of lower classes first. Where rows are many, one thread
-/// makes the left ones and another the right ones, if there are two workers.
+/// Returns the rows of both sides as items with their classes, lower classes first. With many rows and at least two
+/// workers, one thread makes the left items and another the right ones.
 ///
 /// # Errors
 ///
-/// `NoMemory` where a growth is refused.
+/// `NoMemory` if an allocation is refused.
 pub fn items_of_sides<R: Threads + Sync, G>(
     crew: &Crew<'_, R, G>,
     left: &SharedRows,
@@ -72,7 +72,7 @@ pub fn items_of_sides<R: Threads + Sync, G>(
         workers,
         ..
     } = *crew;
-    // The classes by row are given back before memory is taken for items.
+    // Frees the classes by row before it allocates items.
     let Classes {
         left_places,
         right_places,
@@ -103,7 +103,7 @@ pub fn items_of_sides<R: Threads + Sync, G>(
     Ok((lefts, rights))
 }
 
-/// The places by class.
+/// Sorts the indices by class.
 pub(crate) fn by_class<R: Threads + Sync>(
     rt: &R,
     mut places: Vec<ClassedPlace>,
@@ -116,7 +116,7 @@ pub(crate) fn by_class<R: Threads + Sync>(
     places
 }
 
-/// The places of rows in their order, each with the class that stands there.
+/// Returns the indices of the rows in order, each with its class.
 pub(crate) fn classed_places(alloc: Global, classes: &[u64]) -> Result<Vec<ClassedPlace>, NoMemory>
     ensures { IfOk result (λ places. places.items ≡ placed_from 0 classes.now) }
 {
@@ -130,7 +130,7 @@ pub(crate) fn classed_places(alloc: Global, classes: &[u64]) -> Result<Vec<Class
     Ok(places)
 }
 
-/// The rows at these places as items, in the order of the places.
+/// Returns the rows at these indices as items, in the order of the indices.
 fn items_at(
     alloc: Global,
     rows: &SharedRows,
@@ -147,11 +147,11 @@ fn items_at(
     Ok(items)
 }
 
-/// The rows as items in their order, each of the class that stands at its place: those whose classes a range has.
+/// Returns the rows as items with their classes, in order, but only rows whose class is within a range.
 ///
 /// # Errors
 ///
-/// `NoMemory` where a growth is refused.
+/// `NoMemory` if an allocation is refused.
 pub fn items_in_range(
     alloc: Global,
     rows: &SharedRows,
@@ -168,11 +168,12 @@ pub fn items_in_range(
     items_in_piece(alloc, rows, classes, range, whole)
 }
 
-/// The same of the rows at some places.
+/// Returns the rows at the given indices as items with their classes, in order, but only rows whose class is within a
+/// range.
 ///
 /// # Errors
 ///
-/// `NoMemory` where a growth is refused.
+/// `NoMemory` if an allocation is refused.
 pub fn items_in_piece(
     alloc: Global,
     rows: &SharedRows,
@@ -195,7 +196,7 @@ pub fn items_in_piece(
     Ok(items)
 }
 
-/// How many of the classes a range has.
+/// Returns how many of the classes are within a range.
 fn count_in(range: Range<u64>, classes: &[u64]) -> usize {
     if range.from.is_none() && range.before.is_none() {
         return classes.len();
@@ -203,7 +204,7 @@ fn count_in(range: Range<u64>, classes: &[u64]) -> usize {
     classes.iter().filter(|class| range.has(*class)).count()
 }
 
-/// The row as an item of that class.
+/// Returns the row as an item of the class.
 fn item_with(row: RowRef<'_>, class: u64) -> Item
     ensures { result ≡ item_with (lent_row row.entry) class }
 {

@@ -1,4 +1,4 @@
-//! The values of the rows of one side in a column, and their classes so far.
+//! The values of one side's rows in a column, and their current classes.
 
 ghost use Rattle.std.specs.Prelude.{◌≡◌, ◌<◌, All, Some, length, slice_get, slice_index};
 ghost use Rattle.row_core.specs.Lent.{lent_value};
@@ -9,7 +9,7 @@ use crate::side_column::SideColumn;
 use row_core::ValueRef;
 use table_core::{RowRef, SharedRows};
 
-/// The class so far of the row at that place.
+/// Returns the current class of row `i`.
 pub(crate) fn class_at(side: SideColumn<'_, '_>, i: usize) -> u64
     requires { i < length side.rows.now }
     ensures { result ≡ slice_index (classes_in side.entry) i }
@@ -20,7 +20,7 @@ pub(crate) fn class_at(side: SideColumn<'_, '_>, i: usize) -> u64
     }
 }
 
-/// The value of row i at that place.
+/// Returns the value of row `i` in the column at index `place`.
 pub(crate) fn value_at(rows: &SharedRows, place: usize, i: usize) -> ValueRef<'_>
     requires within { i < length rows.now }
     requires wide { All (λ row. place < length row.values) rows.now }
@@ -29,7 +29,7 @@ pub(crate) fn value_at(rows: &SharedRows, place: usize, i: usize) -> ValueRef<'_
     value_in(rows.at(i), place)
 }
 
-/// The row's value at that place.
+/// Returns the row's value in the column at index `place`.
 fn value_in<'a>(row: RowRef<'a>, place: usize) -> ValueRef<'a>
     requires { place < length (lent_row row).values }
     ensures { slice_get (lent_row row.entry).values place ≡ Some (lent_value result) }

@@ -1,5 +1,4 @@
-//! Splits classes of rows by the values of a column: the rows of each side are ranked, and the ranks of both put
-//! together.
+//! Splits the classes of rows by the values of a column: ranks each side's rows, and combines the ranks of both.
 
 ghost use Rattle.std.specs.Prelude.{◌≡◌, ◌++◌, All, IfOk, length};
 ghost use Rattle.std.specs.Thread.{IsSync};
@@ -19,11 +18,12 @@ use crate::row_items::by_class;
 use std::alloc::Global;
 use std::thread::{Threads, join_mut};
 
-/// Of fewer rows one side's cells would be sorted before the other side's thread has started.
+/// With fewer rows, one side's keys would be sorted before the other side's thread has started.
 const ROWS_FOR_THREAD: usize = 4_096;
 
-/// Splits the classes of the rows so far: two rows, of whichever sides, have one class exactly where they had, and their
-/// values in their side's column are equal. What is made of these is compared: both columns are of its kind.
+/// Splits the current classes of the rows. Two rows, of the same side or not, get the same class exactly if they had
+/// the same class, and their values in their side's column are equal. Both columns must be of the kind that `S`
+/// compares.
 pub(crate) fn refine<R: Threads + Sync, V: Ord + Copy + Send + Sync, S: Comparable<V>>(
     rt: &R,
     alloc: Global,
@@ -49,8 +49,8 @@ pub(crate) fn refine<R: Threads + Sync, V: Ord + Copy + Send + Sync, S: Comparab
     let right_places = number_places(alloc, &rights.places, &numbers)?;
     let mut right = rights.ranks;
     number_rows(&mut right, &numbers);
-    // Left places rise already, and so do right ones but where a left row has no such value: what is in order a sort
-    // only passes over.
+    // Left indices are already in ascending order of class. So are the right ones, except those of values without an
+    // equal left value. Sorting a list that is in order takes one pass.
     Ok(Classes {
         left: lefts.ranks,
         right,
@@ -59,7 +59,7 @@ pub(crate) fn refine<R: Threads + Sync, V: Ord + Copy + Send + Sync, S: Comparab
     })
 }
 
-/// The rows of both sides by rank: each side by half of the workers, where rows are many.
+/// Returns the ranks of both sides' rows. With many rows, half of the workers rank each side.
 fn ranked_sides<R: Threads + Sync, V: Ord + Copy + Send + Sync, S: Comparable<V>>(
     rt: &R,
     alloc: Global,
@@ -79,7 +79,8 @@ fn ranked_sides<R: Threads + Sync, V: Ord + Copy + Send + Sync, S: Comparable<V>
     }
     let few = workers / 2;
     let others = workers - few;
-    // The closures are lent, since `join` promises its caller nothing of closures that hold types with lifetimes.
+    // The closures are borrowed, because `join` promises its caller nothing about closures that capture types with
+    // lifetimes.
     let (lefts, rights) = join_mut(
         rt,
         &mut move || -> Result<Ranked<V>, NoMemory>

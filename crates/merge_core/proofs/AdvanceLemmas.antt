@@ -1,4 +1,4 @@
--- How often a cursor advances, step by step.
+-- The number of cursor advances, step by step.
 use Rattle.std.proofs.Common.{◌≡◌, ◌⊎◌, ℕ, ◌+◌, Bool, true, false, cond, ◌||◌, int_lt, List, [], ◌∷◌, ◌++◌, inl, inr, length, drop, count_by, refl, sym, subst, ap, ◌∙◌, arith}
 use Rattle.std.specs.Prelude.{◌≤ℤ◌, ◌<ℤ◌, AllPairs, Contains}
 use Rattle.std.specs.List.{list_any}
@@ -29,7 +29,7 @@ before_yes x y h = grind (arith, ints)
 before_no : (x y : Item) → y.period.to ≤ℤ x.period.to → ends_before x y ≡ false
 before_no x y h = grind (arith, ints)
 
--- ---- how many of some items pass a test with some other
+-- ---- the number of items that pass a test with some other item
 
 module _ (test : Item → Item → Bool) where
   abbrev counted : List Item → List Item → ℕ
@@ -39,19 +39,19 @@ module _ (test : Item → Item → Bool) where
       → counted others (x ∷ xs) ≡ cond (list_any (test x) others) 1 0 + counted others xs
   counted-cons others x xs = sum_by-cons (λ (z : Item). cond (list_any (test z) others) 1 0) x xs
 
-  -- none does where there is no other
+  -- without other items the count is 0
   counted-none : (xs : List Item) → counted [] xs ≡ 0
   counted-none [] = refl
   counted-none (x ∷ xs) = counted-cons [] x xs ∙ ap (λ n. 0 + n) (counted-none xs)
 
-  -- an item that does with the first other counts
+  -- an item that passes the test with the first other item counts
   counted-yes : (y : Item) (others : List Item) (x : Item) (xs : List Item) → test x y ≡ true
       → counted (y ∷ others) (x ∷ xs) ≡ 1 + counted (y ∷ others) xs
   counted-yes y others x xs e =
       counted-cons (y ∷ others) x xs
       ∙ ap (λ b. cond (b || list_any (test x) others) 1 0 + counted (y ∷ others) xs) e
 
-  -- so do some of them
+  -- so do several such items
   counted-all : (y : Item) (others xs more : List Item) → ((x : Item) → Contains xs x → test x y ≡ true)
       → counted (y ∷ others) (xs ++ more) ≡ length xs + counted (y ∷ others) more
   counted-all y others [] more all = omega arith
@@ -59,7 +59,7 @@ module _ (test : Item → Item → Bool) where
       let rest = counted-all y others xs more (λ z h. all z (Contains-cons x xs z h)) in
       counted-yes y others x (xs ++ more) (all x (Contains-head x xs)) ∙ ap (λ n. 1 + n) rest ∙ omega arith
 
-  -- another with which none does makes no difference
+  -- an other item with which no item passes makes no difference
   counted-no : (y : Item) (others xs : List Item) → ((x : Item) → Contains xs x → test x y ≡ false)
       → counted (y ∷ others) xs ≡ counted others xs
   counted-no y others [] out = refl
@@ -76,7 +76,7 @@ module _ (test : Item → Item → Bool) where
 abbrev AreApart : List Item → Type 0
 AreApart items = AllPairs (λ (x y : Item). x.period.to ≤ℤ y.period.from) items
 
--- the first one ends no later than any
+-- the first item ends no later than any
 first_ends : (y : Item) (q : List Item) → AreApart (y ∷ q) → (z : Item) → Contains (y ∷ q) z → y.period.to ≤ℤ z.period.to
 first_ends y q apart z h =
     elim (Contains-cons_cases y q z h) [
@@ -88,7 +88,7 @@ first_ends y q apart z h =
           omega (arith, ints))
     ]
 
--- the left item that is next ends no later than the right one, and is passed
+-- the next left item ends no later than the right one, and is passed
 left_step : (x : Item) (p : List Item) (y : Item) (q : List Item) → AreApart (y ∷ q) → x.period.to ≤ℤ y.period.to
     → advances_of (x ∷ p) (y ∷ q) ≡ 1 + advances_of p (y ∷ q)
 left_step x p y q apart first =
@@ -99,7 +99,7 @@ left_step x p y q apart first =
     before_no z x (omega (arith, ints))) in
     omega (arith, one, same)
 
--- the right one ends earlier, and is passed
+-- the right item ends earlier, and is passed
 right_step : (x : Item) (p : List Item) (y : Item) (q : List Item) → AreApart (x ∷ p) → y.period.to <ℤ x.period.to
     → advances_of (x ∷ p) (y ∷ q) ≡ 1 + advances_of (x ∷ p) q
 right_step x p y q apart first =
@@ -111,7 +111,7 @@ right_step x p y q apart first =
     by_no z y (omega (arith, ints))) in
     omega (arith, one, same)
 
--- the same two steps, where both lists are known by their first items
+-- the same two steps for lists given by their first items
 pub advances_left : (x : Item) (p : List Item) (y : Item) (q : List Item) → p ≡ x ∷ drop 1 p → q ≡ y ∷ drop 1 q
     → AreApart q → x.period.to ≤ℤ y.period.to → advances_of p q ≡ 1 + advances_of (drop 1 p) q
 advances_left x p y q e f apart first =
@@ -126,14 +126,14 @@ advances_right x p y q e f apart first =
     (ap (advances_of (x ∷ drop 1 p)) f
     ∙ right_step x (drop 1 p) y (drop 1 q) (subst AreApart e apart) first)
 
--- where one side is passed, there are no more
+-- no advances remain once one side is passed
 pub advances_end : (p q : List Item) → (p ≡ []) ⊎ (q ≡ []) → advances_of p q ≡ 0
 advances_end p q (inl e) = ap (λ z. advances_of z q) e ∙ ap (λ n. 0 + n) (counted-none ends_before q)
 advances_end p q (inr e) = ap (advances_of p) e ∙ ap (λ n. n + 0) (counted-none ends_by p)
 
 -- ---- gaps
 
--- the first left item is passed, and the right ones that end no later
+-- the first left item is passed, and the right items that end no later
 pub gap_advances_past : (x : Item) (p q q' : List Item) (m : ℕ) → PassesUpto x.period.to q q' m → EndLater x.period.to q'
     → gap_advances_of (x ∷ p) q ≡ 1 + m + gap_advances_of p q'
 gap_advances_past x p q q' m w later =

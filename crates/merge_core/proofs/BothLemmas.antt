@@ -1,4 +1,4 @@
--- The gaps against two right lists laid together are what the gaps against each share.
+-- The gaps against two right lists together are what the gaps against each of them share.
 use Rattle.std.proofs.Common.{◌≡◌, List, [], ◌∷◌, ◌++◌, ◌⊎◌, inl, inr, refl, sym, subst, ap, ◌∙◌, arith}
 use Rattle.std.specs.Prelude.{ℤ, pos, ◌-ℤ◌, ◌<ℤ◌, Contains}
 use Rattle.std.proofs.lemmas.Int.{ints}
@@ -17,7 +17,7 @@ use Rattle.merge_core.specs.Meets.{IsMeet, IdsTell}
 use Rattle.merge_core.proofs.MaximalAround.{maximal_around}
 use Rattle.merge_core.proofs.SharedLemmas.{by_order, first_held}
 
--- ---- whether an instant is covered can be tested
+-- ---- it is decidable whether an instant is covered
 
 holds_test : (p : Period) (t : ℤ) → Holds p t ⊎ (Holds p t → ⊥)
 holds_test p t =
@@ -64,7 +64,7 @@ uncovered_test q x t =
       | inr n ↦ inr (λ f. n f.held)
     ]
 
--- ---- uncovered by both is uncovered by each
+-- ---- an instant is uncovered by both lists if it is uncovered by each
 
 uncovered_by_both : (q r : List Item) (x : Item) (t : ℤ) → IsUncovered q x t → IsUncovered r x t
     → IsUncovered (q ++ r) x t
@@ -101,11 +101,11 @@ uncovered_by_right q r x t a =
       });
     }
 
--- ---- maximal periods of two sets and of what both have
+-- ---- maximal periods of two sets and of their intersection
 
 module _ (S R B : ℤ → Type 0) (join : (t : ℤ) → S t → R t → B t) (one : (t : ℤ) → B t → S t)
     (other : (t : ℤ) → B t → R t) where
-  -- what maximal periods of both share is a maximal period of what both have
+  -- the period that two maximal periods share is a maximal period of the intersection
   maximal_shared : (a b p : Period) → IsMaximal S a → IsMaximal R b → IsShared a b p → IsMaximal B p
   maximal_shared a b p m n shared =
       let proper : p.from <ℤ p.to = p.ordered in
@@ -144,7 +144,7 @@ module _ (S R B : ℤ → Type 0) (join : (t : ℤ) → S t → R t → B t) (on
         ];
       }
 
-  -- a maximal period of what both have lies within that of the one that holds its start
+  -- a maximal period of the intersection is within the maximal period of `S` that holds its start
   in_left : (a p : Period) → IsMaximal S a → IsMaximal B p → Holds a p.from → (t : ℤ) → Holds p t → Holds a t
   in_left a p m o fa t h = (
     elim (by_order a.from t) [
@@ -171,7 +171,7 @@ module _ (S R B : ℤ → Type 0) (join : (t : ℤ) → S t → R t → B t) (on
     ],
   )
 
-  -- and those of both around its start share just it
+  -- the maximal periods of both sets around its start share exactly this period
   shared_maximal : (a b p : Period) → IsMaximal S a → IsMaximal R b → IsMaximal B p → Holds a p.from → Holds b p.from
       → IsShared a b p
   shared_maximal a b p m n o fa fb t =
@@ -197,7 +197,7 @@ module _ (S R B : ℤ → Type 0) (join : (t : ℤ) → S t → R t → B t) (on
         ),
       )
 
--- the gap of x around an uncovered instant
+-- the gap of `x` around an uncovered instant
 gap_around : (p q : List Item) (x : Item) (a : List Gap) → ListsGaps p q a → Contains p x → (t : ℤ) → IsUncovered q x t
     → (g : Gap) × Contains a g × Holds g.period t × IsMaximal (IsUncovered q x) g.period × (g.left ≡ x)
 gap_around p q x a lists h t f =

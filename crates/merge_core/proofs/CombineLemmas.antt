@@ -1,4 +1,4 @@
--- Two lists of steps taken together, step by step.
+-- Adding two lists of steps, step by step.
 use Rattle.std.proofs.Common.{◌≡◌, ℕ, List, [], ◌∷◌, ◌++◌, Option, Some, None, drop, inl, inr, refl, sym, subst, ap, ◌∙◌, arith, append-nil, append_assoc}
 use Rattle.std.specs.Prelude.{ℤ, ◌≤ℤ◌, ◌<ℤ◌, Contains}
 use Rattle.std.specs.Int.{int_min}
@@ -16,7 +16,7 @@ pub both_none : (a : Option Tally) → both a None ≡ a
 both_none None = refl
 both_none (Some a) = refl
 
--- two steps of one tally say the same where both hold, and where both start later
+-- two steps with one tally agree if both hold the instant or both start later
 same_at : (s x : Step) (t : ℤ) → s.tally ≡ x.tally → t <ℤ s.period.to → t <ℤ x.period.to
     → (s.period.from ≤ℤ t → x.period.from ≤ℤ t) → (x.period.from ≤ℤ t → s.period.from ≤ℤ t)
     → tally_at (s ∷ []) t ≡ tally_at (x ∷ []) t
@@ -83,7 +83,7 @@ next_both at xs ys x y s h k f =
           ∙ ap (λ (o : Option Tally). both (tally_at xs t) o) (k.tallies t on ey);
     }
 
--- two heads can be added where the lists can
+-- two heads can be added if the lists can
 pub heads_add : (at : ℤ) (xs ys : List Step) (x y : Step) → CanAdd xs ys → IsHeadFrom at xs x → IsHeadFrom at ys y
     → CanAddTallies x.tally y.tally
 heads_add at xs ys x y can h k =
@@ -122,7 +122,7 @@ beyond_drop at steps x e r ends h =
       within = λ s k. subst (λ v. Contains v s) (sym e) (Contains-cons x (drop 1 steps) s k);
     }
 
--- ---- where the lists start
+-- ---- the starts of the lists
 
 pub starts_none : (at : ℤ) (steps : List Step) → steps ≡ [] → StartsFrom at steps
 starts_none at steps e = subst (StartsFrom at) (sym e) (λ s h. absurd (Contains-none s h))
@@ -139,7 +139,7 @@ starts_head at steps x e r h =
 
 -- ---- the loop
 
--- what the steps made so far lack are the steps of what is left from `at` on
+-- The steps made until now, followed by the sum of the remaining steps from `at` on, are the whole sum.
 pub record IsCombining (one other lefts rights : List Step) (at : ℤ) (now : List Step) : Type 0 where
   pub goes_on : (rest : List Step) → IsBothFrom at lefts rights rest → IsBothSteps one other (now ++ rest)
   pub left_apart : AreStepsApart lefts

@@ -1,4 +1,4 @@
--- What is so is so of each error.
+-- What holds anyway holds for each error.
 use Rattle.std.proofs.Common.{Result, Ok, Err}
 use Rattle.std.specs.Prelude.{OnErr}
 

@@ -1,4 +1,4 @@
--- Two parts have a list of gaps, and one only.
+-- Two parts have exactly one list of gaps.
 use Rattle.std.proofs.Common.{◌≡◌, List, [], ◌∷◌, ◌++◌, inl, inr, refl, sym, subst, arith}
 use Rattle.std.specs.Prelude.{ℤ, ◌≤ℤ◌, ◌<ℤ◌, Contains}
 use Rattle.std.proofs.lemmas.Int.{ints}
@@ -85,7 +85,7 @@ one_list_of_gaps p q one other a b =
 Gaps-set : IsSet (List Gap)
 Gaps-set = hlevel props
 
--- so the bare fact that a list is theirs gives all of it
+-- so the truncated fact that a list is theirs gives the whole fact
 pub ListsGaps-opened : (p q : List Item) (gaps : List Gap) → IsChain p → IsChain q → ∥ ListsGaps p q gaps ∥₁
     → ListsGaps p q gaps
 ListsGaps-opened p q gaps rp rq bare =

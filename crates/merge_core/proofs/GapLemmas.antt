@@ -19,7 +19,7 @@ use Rattle.merge_core.proofs.PartLemmas.{chain_head}
 use Rattle.merge_core.proofs.AdvanceLemmas.{gap_advances_past, gap_advances_end}
 use Rattle.merge_core.proofs.SweepLemmas.{clear, clear_gap, gap_of_whole, gaps_of_whole, IsMaximal-same}
 
--- what is there of the gaps of x when q is left of the right items Q, and x is swept up to `at`
+-- The state after sweeping `x` up to `at`: the gaps found, with `q` left of the right items `Q`.
 pub record IsSwept (x : Item) (Q q : List Item) (at : ℤ) (old now : List Gap) (n : ℕ) : Type 0 where
   pub added : List Gap
   pub split : now ≡ old ++ added
@@ -31,7 +31,7 @@ pub nothing_passed : (x : Item) (q : List Item) → PassesUpto x.period.to q q 0
 nothing_passed x q =
     record { passed = []; split = refl; over = λ y h. absurd (Contains-none y h); count = omega arith }
 
--- y is passed
+-- `y` is passed
 swept_past : (x : Item) (Q : List Item) (y : Item) (q : List Item) (at next : ℤ) (old mid now : List Gap) (n : ℕ)
     → IsChain (y ∷ q) → y.period.to ≤ℤ x.period.to → Covers x y at mid now next
     → IsSwept x Q (y ∷ q) at old mid n → IsSwept x Q q next old now (n + 1)
@@ -64,7 +64,7 @@ swept_next x Q y q at at' next next' old mid now n e f first part over c s =
     (subst (λ z. Covers x y at mid now z) f (subst (λ z. Covers x y z mid now next') e c))
     (subst (λ z. IsSwept x Q z at old mid n) first s)
 
--- no item that is left starts before the end of x
+-- no remaining item starts before the end of `x`
 swept_end : (x : Item) (Q q : List Item) (at : ℤ) (old now final : List Gap) (n : ℕ)
     → ((z : Item) → Contains q z → x.period.to ≤ℤ z.period.from) → IsSwept x Q q at old now n
     → AddsAll GapStartsBefore (IsBetween x at x.period.to) now final
@@ -90,21 +90,21 @@ all_later x y q e part late z h =
           omega (arith, ints))
     ]
 
--- behind an item that ends no earlier than x none starts before the end of x
+-- after an item that ends no earlier than `x`, no item starts before the end of `x`
 last_later : (x y : Item) (q : List Item) → q ≡ y ∷ drop 1 q → IsChain q → x.period.to ≤ℤ y.period.to
     → (z : Item) → Contains (drop 1 q) z → x.period.to ≤ℤ z.period.from
 last_later x y q e part beyond z h =
     let after : y.period.to ≤ℤ z.period.from = chain_head y (drop 1 q) (subst IsChain e part) z h in
     omega (arith, ints)
 
--- what starts no earlier than `end` ends later
+-- an item that starts no earlier than `end` ends later
 pub start_later : (end : ℤ) (q : List Item) → ((z : Item) → Contains q z → end ≤ℤ z.period.from) → EndLater end q
 start_later end q out z h =
     let late : end ≤ℤ z.period.from = out z h in
     let proper : z.period.from <ℤ z.period.to = z.period.ordered in
     omega (arith, ints)
 
--- so does y with what is behind it, where it ends later than x
+-- if `y` ends after `x`, so does every item after `y`
 pub last_ends_later : (x y : Item) (q : List Item) → q ≡ y ∷ drop 1 q → IsChain q → x.period.to <ℤ y.period.to
     → EndLater x.period.to q
 last_ends_later x y q e part beyond z h =
@@ -115,7 +115,7 @@ last_ends_later x y q e part beyond z h =
           start_later x.period.to (drop 1 q) (last_later x y q e part upto) z k)
     ]
 
--- y ends no earlier than x, and is not passed
+-- `y` ends no earlier than `x`, and isn't passed
 swept_last : (x : Item) (Q : List Item) (y : Item) (q : List Item) (at next : ℤ) (old mid now final : List Gap) (n : ℕ)
     → q ≡ y ∷ drop 1 q → IsChain q → x.period.to ≤ℤ y.period.to → Covers x y at mid now next
     → IsSwept x Q q at old mid n → AddsAll GapStartsBefore (IsBetween x next x.period.to) now final
@@ -141,7 +141,7 @@ pub Extends-swept : (x : Item) (Q q : List Item) (at : ℤ) (old now : List Gap)
     → IsSwept x Q q at old now n → Extends old now
 Extends-swept x Q q at old now n s = record { more = s.added; split = s.split }
 
--- of the gaps of x, only that from `at` up to its end is not there yet
+-- Only the gap of `x` from `at` to its end is still missing.
 pub record IsStopped (x : Item) (Q : List Item) (at : ℤ) (old now : List Gap) : Type 0 where
   pub keeps : Extends old now
   pub gap : (g : Gap) → IsBetween x at x.period.to g → IsGapOf Q x g
@@ -183,7 +183,7 @@ stopped_final x Q at at' to' old now final e f s a =
     (subst (λ z. AddsAll GapStartsBefore (IsBetween x at z) now final) f
     (subst (λ z. AddsAll GapStartsBefore (IsBetween x z to') now final) e a))
 
--- the gap before the next item is one of x
+-- the gap before the next item is a gap of `x`
 pub swept_gap : (x : Item) (Q : List Item) (y : Item) (q : List Item) (at at' : ℤ) (old now : List Gap) (n : ℕ)
     → at' ≡ at → q ≡ y ∷ drop 1 q → IsChain q → (h : HasGapBefore x y at') → IsSwept x Q q at old now n
     → IsGapOf Q x h.gap
@@ -199,7 +199,7 @@ stopped_gap x Q at at' to' old now e f s g b =
 
 -- ---- the gaps of all left items
 
--- a gap lies within its item
+-- a gap is within its item's period
 pub maximal_within : (q : List Item) (x : Item) (p : Period) → IsMaximal (IsUncovered q x) p
     → (x.period.from ≤ℤ p.from) × (p.to ≤ℤ x.period.to)
 maximal_within q x p m =
@@ -209,7 +209,7 @@ maximal_within q x p m =
     (m.inside (p.to -ℤ pos 1) (omega (arith, ints), omega (arith, ints))).held in
     (first.0, omega (arith, ints))
 
--- items that end before z starts cover nothing of it
+-- items that end before `z` starts cover nothing of it
 module _ (end : ℤ) (z : Item) (q q' : List Item) (n : ℕ) (w : PassesUpto end q q' n)
     (after : end ≤ℤ z.period.from) where
   uncovered_to : (t : ℤ) → IsUncovered q z t → IsUncovered q' z t
@@ -242,7 +242,7 @@ module _ (end : ℤ) (z : Item) (q q' : List Item) (n : ℕ) (w : PassesUpto end
   not_passed : (p : Period) → IsMaximal (IsUncovered q' z) p → IsMaximal (IsUncovered q z) p
   not_passed p m = IsMaximal-same (IsUncovered q' z) (IsUncovered q z) p uncovered_back uncovered_to m
 
--- a gap of x against the items that have not ended by its start is one against all
+-- a gap of `x` against the items that haven't ended by its start is a gap against all items
 pub unended_gap : (x : Item) (q q' : List Item) (n : ℕ) → PassesUpto x.period.from q q' n → (g : Gap)
     → IsGapOf q' x g → IsGapOf q x g
 unended_gap x q q' n w g i = record {
@@ -250,7 +250,7 @@ unended_gap x q q' n w g i = record {
   maximal = not_passed x.period.from x q q' n w (omega (arith, ints)) g.period i.maximal;
 }
 
--- and there are no others
+-- and vice versa
 pub unended_gaps : (x : Item) (q q' : List Item) (n : ℕ) (old now : List Gap) → PassesUpto x.period.from q q' n
     → AddsAll GapStartsBefore (IsGapOf q' x) old now → AddsAll GapStartsBefore (IsGapOf q x) old now
 unended_gaps x q q' n old now w a = record {
@@ -264,7 +264,7 @@ unended_gaps x q q' n old now w a = record {
       a.all;
 }
 
--- those that have ended by the start of x are passed, and then more
+-- the items that have ended by the start of `x` are passed, and then more
 pub passed_both : (x : Item) (q mid q' : List Item) (n m : ℕ) → PassesUpto x.period.from q mid n
     → PassesUpto x.period.to mid q' m → PassesUpto x.period.to q q' (n + m)
 passed_both x q mid q' n m one other = record {
@@ -280,7 +280,7 @@ passed_both x q mid q' n m one other = record {
   count = omega (arith, one.count, other.count);
 }
 
--- a gap of a later item against what is left is one
+-- a gap of a later left item against the remaining right items is a gap of the parts
 later_gap : (x : Item) (p q q' : List Item) (n : ℕ) → IsChain (x ∷ p) → PassesUpto x.period.to q q' n → (g : Gap)
     → IsGap p q' g → IsGap (x ∷ p) q g
 later_gap x p q q' n part w g i =
@@ -289,7 +289,7 @@ later_gap x p q q' n part w g i =
       maximal = not_passed x.period.to g.left q q' n w (chain_head x p part g.left i.left_in) g.period i.maximal;
     }
 
--- the gaps of x, and then those of the later items
+-- the gaps of `x`, and then the gaps of the later items
 pub gaps_step : (x : Item) (p q q' : List Item) (n : ℕ) → IsChain (x ∷ p) → PassesUpto x.period.to q q' n
     → (now rest : List Gap) → IsListOf GapStartsBefore (IsGapOf q x) now → ListsGaps p q' rest
     → ListsGaps (x ∷ p) q (now ++ rest)
@@ -318,7 +318,7 @@ gaps_step x p q q' n part w now rest a b =
       })
     ])
 
--- what is there of the gaps of P when p and q are left, after n advances
+-- The state after `n` advances: the gaps of `P` found, with `p` and `q` left.
 pub record IsGapped (P Q p q : List Item) (old now : List Gap) (n : ℕ) : Type 0 where
   pub added : List Gap
   pub split : now ≡ old ++ added
@@ -350,7 +350,7 @@ gapped_more P Q x p q q' old mid now n m e part a w later g =
     gapped_past P Q x (drop 1 p) q q' old mid now n m (subst IsChain e part) a w later
     (subst (λ z. IsGapped P Q z q old mid n) e g)
 
--- a gap of the next left item is one of all
+-- a gap of the next left item is a gap of the parts
 pub gapped_gap : (P Q : List Item) (x : Item) (p q : List Item) (old now : List Gap) (n : ℕ) → p ≡ x ∷ drop 1 p
     → IsGapped P Q p q old now n → (g : Gap) → IsGapOf q x g → IsGap P Q g
 gapped_gap P Q x p q old now n e s g i =

@@ -1,4 +1,4 @@
--- Hits as what a merge of two parts makes.
+-- Hits as the results of a merge of two parts.
 use Rattle.std.proofs.Common.{◌≡◌, ℕ, ◌+◌, ◌≤◌, List, [], ◌∷◌, ◌++◌, ◌⊎◌, length, map, drop, refl, sym, subst, ap, ◌∙◌, arith, append_assoc, append-nil}
 use Rattle.std.specs.Prelude.{◌≤ℤ◌, ◌<ℤ◌, Contains}
 use Rattle.std.proofs.lemmas.Int.{ints}
@@ -17,7 +17,7 @@ use Rattle.merge_core.proofs.PartLemmas.{AllPairs-from_chain}
 use Rattle.merge_core.proofs.AdvanceLemmas.{advances_left, advances_right, advances_end}
 use Rattle.merge_core.proofs.MergeLemmas.{Contains-only, IsMade, IsMerging, merging_start, merging_left, merging_right, merging_end}
 
--- the hit of two items
+-- The hit of two items.
 abbrev pub IsHitOf : Item → Item → Hit → Type 0
 IsHitOf x y hit = IsHit (x ∷ []) (y ∷ []) hit
 
@@ -27,7 +27,7 @@ period_of x = x.period
 abbrev shared_of : Hit → Period
 shared_of hit = hit.period
 
--- the merge of two parts that makes hits
+-- The merge of two parts that finds hits.
 abbrev pub IsMergingHits : (P Q p q : List Item) → (old now : List Hit) → Type 0
 IsMergingHits P Q p q old now =
     IsMerging period_of period_of shared_of IsHitOf P Q p q old now
@@ -71,7 +71,7 @@ Hit-same h k e f g =
     ap (λ l. hit_made l h.right h.period) e ∙ ap (λ r. hit_made k.left r h.period) f
     ∙ ap (λ p. hit_made k.left k.right p) g
 
--- two items have one hit at most
+-- two items have at most one hit
 pub hit_alone : (x y : Item) (h : Hit) → IsHitOf x y h → IsListOf HitStartsBefore (IsHitOf x y) (h ∷ [])
 hit_alone x y h i =
     IsListOf-one HitStartsBefore (IsHitOf x y) h i
@@ -81,10 +81,10 @@ hit_alone x y h i =
     (sym (Contains-only y h.right i.right_in) ∙ Contains-only y k.right j.right_in)
     (shared_once x.period y.period h.period k.period (hit_shares x y h i) (hit_shares x y k j)))
 
--- ---- what is made of hits, as they are found
+-- ---- values made from hits, as they are found
 
 module _ {T : Type 0} (from_hit : Hit → T) where
-  -- what is made of the hits of P and Q that are there when p and q are left, after n advances
+  -- The state after `n` advances: the values for the hits of `P` and `Q` found, with `p` and `q` left.
   pub record IsJoining (P Q p q : List Item) (old now : List T) (n : ℕ) : Type 0 where
     pub hits : List Hit
     pub split : now ≡ old ++ map from_hit hits
@@ -107,7 +107,7 @@ module _ {T : Type 0} (from_hit : Hit → T) where
         exact = omega arith;
       }
 
-  -- what is made of the hits so far and of those of two items more
+  -- the values for the hits until now, and for two more items
   made_more : (hits more : List Hit) (old mid now : List T) → mid ≡ old ++ map from_hit hits
       → now ≡ mid ++ map from_hit more → now ≡ old ++ map from_hit (hits ++ more)
   made_more hits more old mid now e f =
@@ -151,7 +151,7 @@ module _ {T : Type 0} (from_hit : Hit → T) where
         exact = omega (arith, j.exact, advances_right x p y q e f j.merging.left_apart later);
       }
 
-  -- where one part is used up, all hits are there
+  -- once one part is used up, all hits are found
   pub joining_end : (P Q p q : List Item) (old now : List T) (n : ℕ) → (p ≡ []) ⊎ (q ≡ [])
       → IsJoining P Q p q old now n → AddsHits from_hit P Q old now
   joining_end P Q p q old now n over j =
@@ -164,12 +164,12 @@ module _ {T : Type 0} (from_hit : Hit → T) where
             (hit_from_made P Q) (made_from_hit P Q) all.all;
       }
 
-  -- so are all advances
+  -- and all advances are made
   pub joining_exact : (P Q p q : List Item) (old now : List T) (n : ℕ) → (p ≡ []) ⊎ (q ≡ [])
       → IsJoining P Q p q old now n → n ≡ advances_of P Q
   joining_exact P Q p q old now n over j = omega (arith, j.exact, advances_end p q over)
 
-  -- the hit of two items that are next is one of all
+  -- the hit of the two next items is a hit of the parts
   pub joining_hit : (P Q p q : List Item) (x y : Item) (old now : List T) (n : ℕ) (h : Hit) → p ≡ x ∷ drop 1 p
       → q ≡ y ∷ drop 1 q → IsHitOf x y h → IsJoining P Q p q old now n → IsHit P Q h
   joining_hit P Q p q x y old now n h e f i j =

@@ -1,4 +1,4 @@
--- Around an instant of a bounded set that can be tested there is a maximal period, and one alone.
+-- A bounded decidable set has exactly one maximal period around each of its instants.
 use Rattle.std.proofs.Common.{◌≡◌, ℕ, zero, suc, ◌⊎◌, inl, inr, subst, arith}
 use Rattle.std.specs.Prelude.{ℤ, pos, ◌-ℤ◌, ◌+ℤ◌, ◌≤ℤ◌, ◌<ℤ◌, nat_abs}
 use Rattle.std.proofs.lemmas.Int.{ints}
@@ -11,7 +11,7 @@ use Rattle.merge_core.specs.Gaps.{IsMaximal}
 use Rattle.merge_core.proofs.SharedLemmas.{by_order}
 
 module _ (S : ℤ → Type 0) (test : (t : ℤ) → S t ⊎ (S t → ⊥)) where
-  -- from t up, at most n instants on, the set ends
+  -- the set ends at most `n` instants after `t`
   ends_above : (n : ℕ) (t : ℤ) → S t → (S (t +ℤ pos n) → ⊥)
       → (e : ℤ) × (t <ℤ e) × ((u : ℤ) → t ≤ℤ u → u <ℤ e → S u) × (S e → ⊥)
   ends_above zero t s out = absurd (out (subst S (omega (arith, ints)) s))
@@ -37,7 +37,7 @@ module _ (S : ℤ → Type 0) (test : (t : ℤ) → S t ⊎ (S t → ⊥)) where
         )
       ]
 
-  -- from t down, at most n instants on, the set starts
+  -- the set starts at most `n` instants before `t`
   starts_below : (n : ℕ) (t : ℤ) → S t → (S (t -ℤ pos n) → ⊥)
       → (b : ℤ) × (b ≤ℤ t) × ((u : ℤ) → b ≤ℤ u → u ≤ℤ t → S u) × (S (b -ℤ pos 1) → ⊥)
   starts_below zero t s out = absurd (out (subst S (omega (arith, ints)) s))
@@ -86,9 +86,9 @@ module _ (S : ℤ → Type 0) (test : (t : ℤ) → S t ⊎ (S t → ⊥)) where
           let c : lo ≤ℤ (t -ℤ ((t -ℤ lo) +ℤ pos 1)) = subst (λ v. lo ≤ℤ (t -ℤ v)) e b in
           omega (arith, ints)
 
--- ---- of maximal periods one alone holds an instant
+-- ---- only one maximal period holds an instant
 
--- of two that hold an instant, neither starts before the other
+-- of two maximal periods that hold an instant, neither starts before the other
 no-earlier : (Within : ℤ → Type 0) (p q : Period) (t : ℤ) → IsMaximal Within p → IsMaximal Within q → Holds p t
     → Holds q t → q.from ≤ℤ p.from
 no-earlier Within p q t a b hp hq =
@@ -98,7 +98,7 @@ no-earlier Within p q t a b hp hq =
           (let lo = hq.0 in let hi = hp.1 in (omega (arith, ints), omega (arith, ints)))))
     ]
 
--- and neither ends behind it
+-- and neither ends after the other
 no-later : (Within : ℤ → Type 0) (p q : Period) (t : ℤ) → IsMaximal Within p → IsMaximal Within q → Holds p t
     → Holds q t → q.to ≤ℤ p.to
 no-later Within p q t a b hp hq =
@@ -108,7 +108,7 @@ no-later Within p q t a b hp hq =
           (let lo = hq.0 in let hi = hp.1 in (omega (arith, ints), h))))
     ]
 
--- so they are one
+-- so they are equal
 pub maximal-once : (Within : ℤ → Type 0) (p q : Period) (t : ℤ) → IsMaximal Within p → IsMaximal Within q → Holds p t
     → Holds q t → p ≡ q
 maximal-once Within p q t a b hp hq =

@@ -1,4 +1,4 @@
--- Gaps lie apart, and what two lists of them share is what their merge makes.
+-- Gaps don't overlap, and a merge finds what two lists of them share.
 use Rattle.std.proofs.Common.{◌≡◌, ◌⊎◌, List, [], ◌∷◌, ◌++◌, drop, map, inl, inr, refl, sym, subst, ap, ◌∙◌, arith}
 use Rattle.std.specs.Prelude.{pos, ◌-ℤ◌, ◌≤ℤ◌, ◌<ℤ◌, Contains}
 use Rattle.std.proofs.lemmas.Int.{ints}
@@ -19,7 +19,7 @@ use Rattle.merge_core.proofs.GapLemmas.{maximal_within}
 use Rattle.merge_core.proofs.WholeLemmas.{whole_gaps, gaps_whole}
 use Rattle.merge_core.proofs.MergeLemmas.{Contains-only, IsMade, IsMerging, merging_start, merging_left, merging_right, merging_end}
 
--- all gaps of the left items lie apart
+-- the gaps of the left items don't overlap
 AreGapsApart-from_lists : (p q : List Item) (gaps : List Gap) → IsChain p → ListsGaps p q gaps → AreGapsApart gaps
 AreGapsApart-from_lists p q gaps part lists =
     AllPairs-other GapStartsBefore (λ (a b : Gap). a.period.to ≤ℤ b.period.from) gaps lists.ordered apart
@@ -45,11 +45,11 @@ AreGapsApart-from_lists p q gaps part lists =
           ]
         ]
 
--- all that gaps of two lists share
+-- All periods that gaps of two lists share.
 abbrev pub ListsMeets : List Gap → List Gap → List Gap → Type 0
 ListsMeets a b gaps = IsListOf GapStartsBefore (IsMeet a b) gaps
 
--- what gaps that lie apart share lies apart
+-- the periods that two lists of disjoint gaps share are disjoint
 pub AreGapsApart-meets : (a b gaps : List Gap) → AreGapsApart a → AreGapsApart b → ListsMeets a b gaps
     → AreGapsApart gaps
 AreGapsApart-meets a b gaps ra rb lists =
@@ -94,14 +94,14 @@ AreGapsApart-meets a b gaps ra rb lists =
 
 -- ---- the merge of two lists of gaps
 
--- what two gaps of one left id share
+-- The period that two gaps of one left id share.
 abbrev pub IsMeetOf : Gap → Gap → Gap → Type 0
 IsMeetOf x y gap = IsMeet (x ∷ []) (y ∷ []) gap
 
 abbrev gap_period : Gap → Period
 gap_period g = g.period
 
--- the merge of two lists of gaps
+-- The merge of two lists of gaps.
 abbrev pub IsMeeting : (A B a b now : List Gap) → Type 0
 IsMeeting A B a b now = IsMerging gap_period gap_period gap_period IsMeetOf A B a b [] now
 
@@ -141,7 +141,7 @@ made_from_meet a b g m =
       };
     }
 
--- two gaps share one at most
+-- two gaps share at most one period
 pub meet_alone : (x y g : Gap) → IsMeetOf x y g → IsListOf GapStartsBefore (IsMeetOf x y) (g ∷ [])
 meet_alone x y g i =
     IsListOf-one GapStartsBefore (IsMeetOf x y) g i
@@ -173,9 +173,9 @@ meeting_end A B a b now over m =
     (IsListOf-same GapStartsBefore (IsMade IsMeetOf A B) (IsMeet A B) all.added
     (meet_from_made A B) (made_from_meet A B) all.all)
 
--- ---- gaps in a list of their own
+-- ---- gaps in a new list
 
--- what was added to an empty list
+-- the gaps that were added to an empty list
 pub ListsGaps-added : (p q : List Item) (old new : List Gap) → old ≡ []
     → AddsAll GapStartsBefore (IsGap p q) old new → ListsGaps p q new
 ListsGaps-added p q old new e a = subst (ListsGaps p q) (sym (a.split ∙ ap (λ z. z ++ a.added) e)) a.all

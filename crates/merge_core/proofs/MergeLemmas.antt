@@ -1,5 +1,5 @@
--- Two lists of periods merged, in each of which a period ends before the next one starts: in each step one of the
--- two first periods is passed, once all is there that both give together.
+-- The merge of two lists of periods, in each of which a period ends before the next one starts. Each step adds what
+-- the two first periods give together, and passes one of them.
 use Rattle.std.proofs.Common.{◌≡◌, ◌⊎◌, List, [], ◌∷◌, ◌++◌, drop, inl, inr, sym, ap, subst, ◌∙◌, arith, append_assoc, append-nil}
 use Rattle.std.specs.Prelude.{◌≤ℤ◌, ◌<ℤ◌, Contains, AllPairs}
 use Rattle.std.proofs.lemmas.Int.{ints}
@@ -10,19 +10,19 @@ use Rattle.list_core.proofs.WantedLemmas.{IsListOf-append, IsListOf-none}
 use Rattle.merge_core.specs.Hits.{IsShared}
 use Rattle.merge_core.proofs.SharedLemmas.{shared_ends}
 
--- what a list of one contains is that one
+-- a list of one element contains only that element
 pub Contains-only : {X : Type 0} (x z : X) → Contains (x ∷ []) z → x ≡ z
 Contains-only x z h = elim (Contains-cons_cases x [] z h) [ inl e ↦ e | inr k ↦ absurd (Contains-none z k) ]
 
--- the one's period ends at or before the other's start
+-- The first period ends at or before the start of the second.
 abbrev pub Ends : {X : Type 0} → (X → Period) → X → X → Type 0
 Ends px x y = (px x).to ≤ℤ (px y).from
 
--- the one's period starts before the other's
+-- The first period starts before the second.
 abbrev pub Starts : {X : Type 0} → (X → Period) → X → X → Type 0
 Starts px x y = (px x).from <ℤ (px y).from
 
--- made of one of p and one of q
+-- `h` is made from an element of `p` and an element of `q`.
 pub record IsMade {X Y H : Type 0} (Made : X → Y → H → Type 0) (p : List X) (q : List Y) (h : H) : Type 0 where
   pub x : X
   pub y : Y
@@ -30,7 +30,7 @@ pub record IsMade {X Y H : Type 0} (Made : X → Y → H → Type 0) (p : List X
   pub y_in : Contains q y
   pub made : Made x y h
 
--- what the merge of P and Q has added to `old` when p and q are left: what these still give completes it
+-- The state of the merge of `P` and `Q` with `p` and `q` left: what these still give completes the result.
 pub record IsMerging {X Y H : Type 0} (px : X → Period) (py : Y → Period) (ph : H → Period) (Made : X → Y → H → Type 0)
     (P : List X) (Q : List Y) (p : List X) (q : List Y) (old now : List H) : Type 0 where
   pub added : List H
@@ -49,7 +49,7 @@ module _ {X Y H : Type 0} (px : X → Period) (py : Y → Period) (ph : H → Pe
       × ((ph h).to ≤ℤ (px x).to) × ((ph h).to ≤ℤ (py y).to)
   ends x y h m = shared_ends (px x) (py y) (ph h) (shared x y h m)
 
-  -- the left period ends first: what both give, and then all that is left without the left one
+  -- the left period ends first: what both give, and then what is left without the left one
   passed_left : (x : X) (p : List X) (y : Y) (q : List Y) → AllPairs (Ends px) (x ∷ p) → AllPairs (Ends py) (y ∷ q)
       → (px x).to ≤ℤ (py y).to → (now rest : List H) → IsListOf (Starts ph) (Made x y) now
       → IsListOf (Starts ph) (IsMade Made p (y ∷ q)) rest
@@ -150,7 +150,7 @@ module _ {X Y H : Type 0} (px : X → Period) (py : Y → Period) (ph : H → Pe
         right_within = λ z h. j.right_within z (Contains-cons y q z h);
       }
 
-  -- the same two steps, where p and q are known by their first elements
+  -- the same two steps for lists given by their first elements
   pub merging_left : (P : List X) (Q : List Y) (x : X) (p : List X) (y : Y) (q : List Y) (old mid now : List H)
       → p ≡ x ∷ drop 1 p → q ≡ y ∷ drop 1 q → (px x).to ≤ℤ (py y).to → AddsAll (Starts ph) (Made x y) mid now
       → IsMerging px py ph Made P Q p q old mid → IsMerging px py ph Made P Q (drop 1 p) q old now
@@ -169,7 +169,7 @@ module _ {X Y H : Type 0} (px : X → Period) (py : Y → Period) (ph : H → Pe
       (subst (λ z. IsMerging px py ph Made P Q (x ∷ drop 1 p) z old mid) f
       (subst (λ z. IsMerging px py ph Made P Q z q old mid) e j)))
 
-  -- where one list is used up, all is there
+  -- once one list is used up, the result is complete
   pub merging_end : (P : List X) (Q : List Y) (p : List X) (q : List Y) (old now : List H) → (p ≡ []) ⊎ (q ≡ [])
       → IsMerging px py ph Made P Q p q old now → AddsAll (Starts ph) (IsMade Made P Q) old now
   merging_end P Q p q old now over j =

@@ -1,4 +1,4 @@
--- Chains without their first items, and chains as items that end before each later one.
+-- Chains without their first items, and chains as lists whose items end before each later one starts.
 use Rattle.std.proofs.Common.{◌≡◌, ◌⊎◌, ℕ, suc, ◌+◌, ◌-◌, ◌<◌, ◌≤◌, All, true, false, int_lt, List, ◌∷◌, inl, inr, length, min, take, drop, get_or, refl, sym, subst, arith}
 use Rattle.std.specs.Prelude.{ℤ, ◌≤ℤ◌, ◌<ℤ◌, AllPairs, Contains}
 use Rattle.std.specs.List.Sorted.{IsPartitionPoint, IsPartitionedBy}
@@ -21,7 +21,7 @@ IsChain-tail x items chain i d h =
     let e : suc i + 1 ≡ suc (i + 1) = omega arith in
     rw e at (chain (suc i) d (omega arith))
 
--- the first item of a chain ends at or before the start of each other
+-- the first item of a chain ends at or before the start of each other item
 pub chain_head : (x : Item) (items : List Item) → IsChain (x ∷ items) → (z : Item) → Contains items z
     → x.period.to ≤ℤ z.period.from
 chain_head x items chain z h =
@@ -29,14 +29,14 @@ chain_head x items chain z h =
 
 -- ---- the items that have ended by an instant
 
--- the test decides it
+-- the boolean test implies the fact
 ended-from_test : (point : ℤ) (x : Item) → has_ended point x ≡ true → x.period.to ≤ℤ point
 ended-from_test point x e = grind (arith, ints)
 
 test-from_ended : (point : ℤ) (x : Item) → x.period.to ≤ℤ point → has_ended point x ≡ true
 test-from_ended point x h = let e : int_lt point x.period.to ≡ false = grind (arith, ints) in rw e refl
 
--- of a chain, each item before one that has ended has ended too
+-- in a chain, each item before an ended one has ended too
 ended-before : (point : ℤ) (items : List Item) → IsChain items → (i j : ℕ) (d : Item) → i ≤ j → j < length items
     → (get_or items j d).period.to ≤ℤ point → (get_or items i d).period.to ≤ℤ point
 ended-before point items chain i j d upto within ended =
@@ -53,7 +53,7 @@ ended-before point items chain i j d upto within ended =
     equal_or_less : (m n : ℕ) → m ≤ n → (m ≡ n) ⊎ (m < n)
     equal_or_less m n h = grind arith
 
--- so it is among its first items
+-- so the ended items are a prefix
 pub IsPartitionedBy-ended : (point : ℤ) (items : List Item) (m : ℕ) → IsChain items
     → IsPartitionedBy (λ (x : Item). has_ended point x) (take m items)
 IsPartitionedBy-ended point items m chain i j d upto within passes =
@@ -67,7 +67,7 @@ IsPartitionedBy-ended point items m chain i j d upto within passes =
     subst (λ (x : Item). has_ended point x ≡ true) (sym at_i)
     (test-from_ended point (get_or items i d) (ended-before point items chain i j d upto there ended))
 
--- those before the place from which the test fails have ended
+-- the items before the partition point have ended
 pub ended-from_point : (point : ℤ) (items : List Item) (m n : ℕ) → n ≤ length (take m items)
     → IsPartitionPoint (λ y. has_ended point y ≡ true) (λ y. has_ended point y ≡ false) (take m items) n
     → All (λ (x : Item). x.period.to ≤ℤ point) (take n items)
@@ -81,7 +81,7 @@ ended-from_point point items m n inside at k d h =
     (ended-from_test point (get_or items k d)
     (subst (λ (x : Item). has_ended point x ≡ true) here (at.0 k d (omega arith) within)))
 
--- the first n items are passed
+-- the first `n` items are passed
 passes_ended : (point : ℤ) (items : List Item) (n : ℕ) → n ≤ length items
     → All (λ (x : Item). x.period.to ≤ℤ point) (take n items) → PassesUpto point items (drop n items) n
 passes_ended point items n inside ended = record {
@@ -91,7 +91,7 @@ passes_ended point items n inside ended = record {
   count = omega (arith, inside, length-drop n items);
 }
 
--- so it is as a slice of all from there on
+-- the same for a slice from index `n` on
 pub passes_sliced : (point : ℤ) (items : List Item) (n : ℕ) → n ≤ length items
     → All (λ (x : Item). x.period.to ≤ℤ point) (take n items)
     → PassesUpto point items (take (length items - n) (drop n items)) n

@@ -7,7 +7,7 @@ use Rattle.period_core.specs.Period.{Holds}
 use Rattle.period_core.proofs.PeriodLemmas.{Period-same}
 use Rattle.merge_core.specs.Hits.{IsShared}
 
--- one of two instants is not behind the other
+-- two instants are ordered
 pub by_order : (a b : ℤ) → (a ≤ℤ b) ⊎ (b <ℤ a)
 by_order a b = by_lt_z b a (λ h. inr h) (λ h. inl h)
 
@@ -15,7 +15,7 @@ by_order a b = by_lt_z b a (λ h. inr h) (λ h. inl h)
 pub first_held : (p : Period) → Holds p p.from
 first_held p = (omega (arith, ints), p.ordered)
 
--- periods of the same instants are one
+-- periods with the same instants are equal
 pub Period-by_instants : (p q : Period) → ((t : ℤ) → Holds p t → Holds q t) → ((t : ℤ) → Holds q t → Holds p t) → p ≡ q
 Period-by_instants p q to back =
     let a : Holds q p.from = to p.from (first_held p) in
@@ -35,7 +35,7 @@ Period-by_instants p q to back =
     ] in
     Period-same p q from ends
 
--- what is shared starts with neither period earlier, and ends with neither later
+-- the shared period starts no earlier and ends no later than either period
 pub shared_ends : (a b p : Period) → IsShared a b p
     → (a.from ≤ℤ p.from) × (b.from ≤ℤ p.from) × (p.to ≤ℤ a.to) × (p.to ≤ℤ b.to)
 shared_ends a b p shared =
@@ -48,6 +48,6 @@ shared_ends a b p shared =
     let lb : Holds b (p.to -ℤ pos 1) = l.1 in
     (fa.0, fb.0, omega (arith, ints), omega (arith, ints))
 
--- two periods share one period at most
+-- two periods share at most one period
 pub shared_once : (a b p q : Period) → IsShared a b p → IsShared a b q → p ≡ q
 shared_once a b p q s r = Period-by_instants p q (λ t h. (r t).1 ((s t).0 h)) (λ t h. (s t).1 ((r t).0 h))

@@ -1,4 +1,4 @@
--- The tally of a list of steps at an instant, and one step of taking two lists together.
+-- The tally of a list of steps at an instant, and one step of adding two lists.
 use Rattle.std.proofs.Common.{◌≡◌, List, [], ◌∷◌, Bool, true, false, cond, Option, Some, None, inl, inr, sym, subst, ap, ◌∙◌, arith}
 use Rattle.std.specs.Prelude.{ℤ, ◌≤ℤ◌, ◌<ℤ◌, Contains, refl}
 use Rattle.std.proofs.lemmas.Int.{ints}
@@ -52,14 +52,14 @@ at_none [] t before = refl
 at_none (s ∷ ss) t before =
     at_early s ss t (before s (Contains-head s ss)) ∙ at_none ss t (λ r h. before r (Contains-cons s ss r h))
 
--- before the first one ends, the later ones say nothing
+-- before the first step ends, the later ones don't matter
 pub at_first : (x : Step) (xs : List Step) (t : ℤ) → AreStepsApart (x ∷ xs) → t <ℤ x.period.to
     → tally_at (x ∷ xs) t ≡ tally_at (x ∷ []) t
 at_first x xs t r early =
     ap (λ (o : Option Tally). cond (holds_at t x.period) (Some x.tally) o)
     (at_none xs t (λ s h. let after : x.period.to ≤ℤ s.period.from = apart_head x xs s r h in omega (arith, ints)))
 
--- a step that doesn't hold t makes no difference
+-- a step that doesn't hold `t` makes no difference
 held_more : (s : Step) (ss : List Step) (t : ℤ) (o : Option Tally) → (Holds s.period t → ⊥) → IsTallyHeldAt ss t o
     → IsTallyHeldAt (s ∷ ss) t o
 held_more s ss t None out none = λ r h k.
@@ -79,7 +79,7 @@ held_more s ss t (Some a) out i =
       ];
     }
 
--- of steps that are apart one at most holds t, and gives the tally there
+-- among disjoint steps at most one holds `t`, and its tally is the tally there
 pub tally_held : (ss : List Step) (t : ℤ) → AreStepsApart ss → IsTallyHeldAt ss t (tally_at ss t)
 tally_held [] t apart = λ r h k. Contains-none r h
 tally_held (s ∷ ss) t apart =
@@ -105,7 +105,7 @@ tally_held (s ∷ ss) t apart =
       ]
     ]
 
--- s comes first, and then what is left from its end on
+-- `s` comes first, and then the sum from its end on
 pub stepped : (at : ℤ) (xs ys xs' ys' : List Step) (s : Step) (rest : List Step) → at ≤ℤ s.period.from
     → ((t : ℤ) → at ≤ℤ t → t <ℤ s.period.to → tally_at (s ∷ []) t ≡ both (tally_at xs t) (tally_at ys t))
     → ((t : ℤ) → s.period.to ≤ℤ t → tally_at xs t ≡ tally_at xs' t)

@@ -1,4 +1,4 @@
--- The gaps of one left item, as the right items pass by.
+-- The gaps of one left item, while the right items are passed.
 use Rattle.std.proofs.Common.{◌≡◌, ◌⊎◌, List, [], ◌∷◌, ◌++◌, inl, inr, sym, subst, ap, ◌∙◌, arith, append-nil}
 use Rattle.std.specs.Prelude.{ℤ, pos, ◌-ℤ◌, ◌≤ℤ◌, ◌<ℤ◌, Contains}
 use Rattle.std.specs.Int.{int_max}
@@ -25,7 +25,7 @@ pub Gap-same : (h k : Gap) → h.left ≡ k.left → h.period ≡ k.period → h
 unfolding gap_made
 Gap-same h k e g = ap (λ l. gap_made l h.period) e ∙ ap (λ p. gap_made k.left p) g
 
--- two sets of the same instants have the same maximal periods
+-- equal sets have the same maximal periods
 pub IsMaximal-same : (S R : ℤ → Type 0) (p : Period) → ((t : ℤ) → S t → R t) → ((t : ℤ) → R t → S t)
     → IsMaximal S p → IsMaximal R p
 IsMaximal-same S R p to back m =
@@ -35,7 +35,7 @@ IsMaximal-same S R p to back m =
       after = λ r. m.after (back p.to r);
     }
 
--- the gap between two instants, where there is one
+-- the gap between two instants, if there is one
 pub between_one : (x : Item) (from to : ℤ) (g : Gap) → IsBetween x from to g
     → IsListOf GapStartsBefore (IsBetween x from to) (g ∷ [])
 between_one x from to g i =
@@ -94,14 +94,14 @@ module _ (x y : Item) (later : List Item) (at : ℤ) (other : y.class ≡ x.clas
       IsListOf-same GapStartsBefore (IsGapFrom later x at) (IsGapFrom (y ∷ later) x at) gaps
       unmatched_gap gap_unmatched a
 
--- y is of the class of x: first the gap before it, and then those from its end on
+-- `y` has the class of `x`: first the gap before `y`, and then the gaps from its end on
 module _ (x y : Item) (later : List Item) (at next : ℤ) (same : y.class ≡ x.class) (part : IsChain (y ∷ later))
     (early : y.period.from <ℤ x.period.to) (at_next : at ≤ℤ next) (y_next : y.period.to ≤ℤ next)
     (least : (t : ℤ) → at ≤ℤ t → y.period.to ≤ℤ t → next ≤ℤ t) where
   by_y : (t : ℤ) → Holds y.period t → IsCovered (y ∷ later) x t
   by_y t h = record { by = y; by_in = Contains-head y later; matches = same; holds = h }
 
-  -- before y starts nothing of the part holds
+  -- before `y` starts, no right item holds
   before_y : (t : ℤ) → t <ℤ y.period.from → IsCovered (y ∷ later) x t → ⊥
   before_y t h c = elim (Contains-cons_cases y later c.by c.by_in) [
     | inl e ↦ (
@@ -113,7 +113,7 @@ module _ (x y : Item) (later : List Item) (at next : ℤ) (same : y.class ≡ x.
         let m = c.holds in omega (arith, ints))
   ]
 
-  -- from the end of y on, what the later ones leave uncovered is so
+  -- from the end of `y` on, an instant is uncovered if the later items leave it uncovered
   from_later : (t : ℤ) → IsUncoveredFrom later x next t → IsUncoveredFrom (y ∷ later) x at t
   from_later t f =
       let on : next ≤ℤ t = f.from in
@@ -193,7 +193,7 @@ module _ (x y : Item) (later : List Item) (at next : ℤ) (same : y.class ≡ x.
         };
       }
 
-  -- a gap that starts before y ends where y starts
+  -- a gap that starts before `y` ends where `y` starts
   first_gap : (g : Gap) → IsGapFrom (y ∷ later) x at g → g.period.from <ℤ y.period.from → IsBetween x at y.period.from g
   first_gap g b h =
       let first : IsUncoveredFrom (y ∷ later) x at g.period.from =
@@ -226,7 +226,7 @@ module _ (x y : Item) (later : List Item) (at next : ℤ) (same : y.class ≡ x.
       ] in
       record { left = b.left; from = starts; to = stops }
 
-  -- and one that doesn't is a gap of the later ones
+  -- any other gap is a gap of the later items
   later_gap : (g : Gap) → IsGapFrom (y ∷ later) x at g → y.period.from ≤ℤ g.period.from → IsGapFrom later x next g
   later_gap g b h =
       let first : IsUncoveredFrom (y ∷ later) x at g.period.from =
@@ -269,7 +269,7 @@ module _ (x y : Item) (later : List Item) (at next : ℤ) (same : y.class ≡ x.
       omega (arith, ints))
       gap_before gap_later gap_cases
 
--- no right item starts before the end of x: all from `at` on is uncovered
+-- no right item starts before the end of `x`: everything from `at` on is uncovered
 module _ (x : Item) (later : List Item) (at : ℤ)
     (out : (z : Item) → Contains later z → x.period.to ≤ℤ z.period.from) where
   free : (t : ℤ) → t <ℤ x.period.to → IsCovered later x t → ⊥
@@ -326,7 +326,7 @@ module _ (x : Item) (later : List Item) (at : ℤ)
   clear gaps a =
       IsListOf-same GapStartsBefore (IsBetween x at x.period.to) (IsGapFrom later x at) gaps clear_gap gap_clear a
 
--- from the start of x on, these are all its gaps
+-- from the start of `x` on, these are all its gaps
 module _ (x : Item) (right : List Item) where
   held_from : (t : ℤ) → IsUncoveredFrom right x x.period.from t → IsUncovered right x t
   held_from t f = record { held = (f.from, f.to); uncovered = f.uncovered }
@@ -386,7 +386,7 @@ covers_matched x y at at' start next old new e f same early at_next y_next least
       within = λ later part g i. gap_later x y later at next same part early at_next y_next least g i;
     }
 
--- the gap before y is one of x
+-- the gap before `y` is a gap of `x`
 pub gap_found : (x y : Item) (at at' start : ℤ) → at' ≡ at → start ≡ y.period.from → y.class ≡ x.class
     → y.period.from <ℤ x.period.to → (g : Gap) → IsBetween x at' start g → HasGapBefore x y at
 gap_found x y at at' start e f same early g b =

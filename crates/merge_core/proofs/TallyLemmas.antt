@@ -1,4 +1,4 @@
--- Tallies of lists of items laid together.
+-- Tallies of two lists of items together.
 use Rattle.std.proofs.Common.{◌≡◌, ◌+◌, List, [], ◌∷◌, ◌++◌, ◌⊎◌, Option, Some, None, inl, inr, refl, sym, subst, ap, ◌∙◌, arith, length-append, append-nil}
 use Rattle.std.specs.Prelude.{ℤ, ◌+ℤ◌, Contains}
 use Rattle.std.specs.Int.{int_min, int_max}
@@ -19,12 +19,12 @@ total-append : (xs ys : List ℤ) → total (xs ++ ys) ≡ total xs +ℤ total y
 total-append [] ys = omega (arith, ints)
 total-append (x ∷ xs) ys = let e = total-append xs ys in omega (arith, ints)
 
--- the tally of two tallies' items
+-- The tally of two tallies' items.
 abbrev pub tally_both : Tally → Tally → Tally
 tally_both a b =
     record { count = a.count + b.count; sum = a.sum +ℤ b.sum; min = int_min a.min b.min; max = int_max a.max b.max }
 
--- an amount of both is one of either
+-- an amount of both lists together is an amount of one of them
 module _ (xs ys : List Item) where
   in_both : (n : ℤ) → Contains (amounts xs) n ⊎ Contains (amounts ys) n → Contains (amounts (xs ++ ys)) n
   in_both n h =
@@ -73,7 +73,7 @@ module _ (xs ys : List Item) where
 holding-append : (xs ys : List Item) (t : ℤ) → holding (xs ++ ys) t ≡ holding xs t ++ holding ys t
 holding-append xs ys t = filter-append (λ (x : Item). holds_at t x.period) xs ys
 
--- what the items of two lists that hold t come to is both tallies together
+-- the tally of both lists' items that hold `t` is the sum of both tallies
 pub IsTallyAt-append : (xs ys : List Item) (t : ℤ) (a b : Option Tally) → IsTallyAt xs t a → IsTallyAt ys t b
     → IsTallyAt (xs ++ ys) t (both a b)
 IsTallyAt-append xs ys t None None i j = holding-append xs ys t ∙ ap (λ z. z ++ holding ys t) i ∙ j
@@ -86,7 +86,7 @@ IsTallyAt-append xs ys t (Some a) (Some b) i j =
     subst (λ z. IsTally z (tally_both a b)) (sym (holding-append xs ys t))
     (IsTally-append (holding xs t) (holding ys t) a b i j)
 
--- what is both of two lists of steps stands for the items of both
+-- the sum of two lists of steps counts the items of both
 pub IsStepListOf-append : (one other list : StepList) → IsBoth one other list
     → (xs ys : List Item) → IsStepListOf xs one
     → IsStepListOf ys other → IsStepListOf (xs ++ ys) list

@@ -1,4 +1,4 @@
--- The steps of one part, and that counts and sums fit.
+-- The steps of one part, and proofs that counts and sums fit.
 use Rattle.std.proofs.Common.{◌≡◌, ◌+◌, ◌^◌, ◌<◌, ◌≤◌, ℕ, List, [], ◌∷◌, ◌++◌, length, take, get_or, Option, Some, None, inl, inr, refl, sym, subst, ap, ◌∙◌, arith, Bool, true, false, cond}
 use Rattle.std.specs.Prelude.{ℤ, pos, neg_ℤ, ◌≤ℤ◌, ◌<ℤ◌, Contains}
 use Rattle.std.proofs.lemmas.Int.{ints}
@@ -18,7 +18,7 @@ use Rattle.merge_core.proofs.PartLemmas.{chain_head, IsChain-tail}
 use Rattle.merge_core.proofs.MergeLemmas.{Contains-only}
 use Rattle.merge_core.proofs.StepLemmas.{apart_head, apart_tail, apart_none, apart_cons, holds_yes, holds_early, holds_late, at_yes, at_late}
 
--- ---- what is within so many amounts
+-- ---- the bounds of one amount
 
 pub lone_weighed : (tally : Tally) (a : ℤ) → neg_ℤ (pos (2 ^ 63)) ≤ℤ a → a ≤ℤ pos (2 ^ 63) → tally.count ≡ 1
     → tally.sum ≡ a → IsWeighed 1 tally
@@ -57,7 +57,7 @@ weighed_add v w a b small i j =
 pub can_add : (v w : ℕ) (xs ys : List Step) → v + w ≤ item_limit → AreWeighed v xs → AreWeighed w ys → CanAdd xs ys
 can_add v w xs ys small a b x y h k = weighed_add v w x.tally y.tally small (a x h) (b y k)
 
--- ---- both together are within the sum of both weights
+-- ---- the sum of two tallies is within the sum of both weights
 
 at_own : (steps : List Step) (s : Step) → AreStepsApart steps → Contains steps s
     → tally_at steps s.period.from ≡ Some s.tally
@@ -71,7 +71,7 @@ at_own (x ∷ xs) s r h =
       | inr k ↦ at_late x xs s.period.from (apart_head x xs s r k) ∙ at_own xs s (apart_tail x xs r) k
     ]
 
--- a tally, where there is one, is within the weight
+-- A tally, if there is one, is within the weight.
 abbrev WeighedAt : ℕ → Option Tally → Type 0
 WeighedAt w None = Unit {0}
 WeighedAt w (Some a) = IsWeighed w a
@@ -132,7 +132,7 @@ lone_more items i x ss new s small e f l a =
     (sym (take_more items i x small ∙ ap (λ (z : Item). take i items ++ z ∷ []) (sym e)))
     (subst (AreLoneSteps (take i items ++ x ∷ [])) (sym f) (AreLoneSteps-push (take i items) ss x s a l))
 
--- each step is one item's
+-- each step belongs to one item
 item_of : (xs : List Item) (ss : List Step) (s : Step) → AreLoneSteps xs ss → Contains ss s
     → (x : Item) × Contains xs x × IsLoneStep x s
 item_of [] [] s a h = absurd (Contains-none s h)
@@ -171,7 +171,7 @@ pub lone_kept : (w : ℕ) (xs : List Item) (ss : List Step) → w ≡ length xs 
     → IsStepList w ss
 lone_kept w xs ss e r a = record { apart = lone_apart xs ss r a; weighed = lone_each w xs ss (omega arith) a }
 
--- ---- and what they give
+-- ---- and their tallies
 
 none_held : (xs : List Item) (t : ℤ) → ((x : Item) → Contains xs x → t <ℤ x.period.from) → holding xs t ≡ []
 none_held [] t h = refl
@@ -179,7 +179,7 @@ none_held (x ∷ xs) t h =
     ap (λ b. cond b (x ∷ holding xs t) (holding xs t)) (holds_early x.period t (h x (Contains-head x xs)))
     ∙ none_held xs t (λ y k. h y (Contains-cons x xs y k))
 
--- an item that doesn't hold t changes nothing
+-- an item that doesn't hold `t` changes nothing
 module _ (x : Item) (xs : List Item) (s : Step) (ss : List Step) (t : ℤ) where
   same_held : (o : Option Tally) → holding (x ∷ xs) t ≡ holding xs t → IsTallyAt xs t o → IsTallyAt (x ∷ xs) t o
   same_held None e i = e ∙ i
@@ -191,7 +191,7 @@ module _ (x : Item) (xs : List Item) (s : Step) (ss : List Step) (t : ℤ) where
       subst (IsTallyAt (x ∷ xs) t) (sym (ap (λ b. cond b (Some s.tally) (tally_at ss t)) e))
       (same_held (tally_at ss t) (ap (λ b. cond b (x ∷ holding xs t) (holding xs t)) e) rest)
 
-  -- and of a part, one that does is the only one
+  -- and an item of a part that does is the only one
   only_one : IsChain (x ∷ xs) → IsTally (x ∷ []) s.tally → x.period.from ≤ℤ t → t <ℤ x.period.to
       → IsTallyAt (x ∷ xs) t (cond (holds_at t x.period) (Some s.tally) (tally_at ss t))
   only_one r tally on in_time =

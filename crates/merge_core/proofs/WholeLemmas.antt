@@ -1,4 +1,4 @@
--- The gaps of a part where there is no right item: each item's whole period.
+-- The gaps of a part against no right items: each item's whole period.
 use Rattle.std.proofs.Common.{◌≡◌, List, [], ◌∷◌, inl, inr, refl, sym, subst, ap, arith}
 use Rattle.std.specs.Prelude.{ℤ, pos, ◌-ℤ◌, ◌≤ℤ◌, ◌<ℤ◌, Contains}
 use Rattle.std.proofs.lemmas.Int.{ints}
@@ -15,7 +15,7 @@ use Rattle.merge_core.proofs.SharedLemmas.{Period-by_instants, by_order, first_h
 use Rattle.merge_core.proofs.PartLemmas.{chain_head, IsChain-tail}
 use Rattle.merge_core.proofs.SweepLemmas.{Gap-same}
 
--- each item with its whole period
+-- Each item with its whole period.
 abbrev pub whole_gaps : List Item → List Gap
 whole_gaps [] = []
 whole_gaps (x ∷ xs) = record { left = x; period = x.period } ∷ whole_gaps xs

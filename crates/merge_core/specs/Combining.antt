@@ -1,4 +1,4 @@
--- What is known of two lists of steps while their steps are taken together, from the first instant on.
+-- The invariants of adding two lists of steps, from the first instant on.
 use Rattle.std.specs.Prelude.{◌≡◌, ◌+◌, ◌^◌, ◌<◌, FitsSigned, List, [], ◌∷◌, ℤ, ◌+ℤ◌, ◌≤ℤ◌, ◌<ℤ◌, Contains}
 use Rattle.std.specs.Int.{w128}
 use Rattle.dip_core.specs.declared.item.Item.{Item}
@@ -7,52 +7,52 @@ use Rattle.merge_core.specs.declared.step.Step.{Step}
 use Rattle.merge_core.specs.Tallies.{IsTally, both}
 use Rattle.merge_core.specs.Steps.{tally_at, AreStepsApart, IsWeighed}
 
--- the step of one item
+-- `s` is the step of the item `x`.
 pub record IsLoneStep (x : Item) (s : Step) : Type 0 where
   pub period : s.period ≡ x.period
   pub tally : IsTally (x ∷ []) s.tally
   pub weighed : IsWeighed 1 s.tally
 
--- the step of each item, in their order
+-- The steps are the steps of the items, in the same order.
 abbrev pub AreLoneSteps : List Item → List Step → Type 0
 AreLoneSteps [] [] = Unit {0}
 AreLoneSteps [] (s ∷ ss) = ⊥
 AreLoneSteps (x ∷ xs) [] = ⊥
 AreLoneSteps (x ∷ xs) (s ∷ ss) = IsLoneStep x s × AreLoneSteps xs ss
 
--- the count and the sum of two tallies fit
+-- The count and the sum of two tallies fit their types.
 pub record CanAddTallies (a b : Tally) : Type 0 where
   pub count : a.count + b.count < 2 ^ 64
   pub sum : FitsSigned w128 (a.sum +ℤ b.sum)
 
--- those of any two steps' tallies fit
+-- The tallies of any two steps, one of each list, can be added.
 abbrev pub CanAdd : List Step → List Step → Type 0
 CanAdd xs ys = (x y : Step) → Contains xs x → Contains ys y → CanAddTallies x.tally y.tally
 
--- the steps give at each instant both tallies together
+-- At each instant the tally of `steps` is the sum of both lists' tallies.
 pub record IsBothSteps (one other steps : List Step) : Type 0 where
   pub apart : AreStepsApart steps
   pub tallies : (t : ℤ) → tally_at steps t ≡ both (tally_at one t) (tally_at other t)
 
--- they do so from `at` on, and start no earlier
+-- From `at` on, the tally of `steps` is the sum of both lists' tallies; no step starts before `at`.
 pub record IsBothFrom (at : ℤ) (xs ys steps : List Step) : Type 0 where
   pub apart : AreStepsApart steps
   pub starts : (s : Step) → Contains steps s → at ≤ℤ s.period.from
   pub tallies : (t : ℤ) → at ≤ℤ t → tally_at steps t ≡ both (tally_at xs t) (tally_at ys t)
 
--- each step starts at `at` or later
+-- Each step starts at `at` or later.
 abbrev pub StartsFrom : ℤ → List Step → Type 0
 StartsFrom at steps = (s : Step) → Contains steps s → at ≤ℤ s.period.from
 
--- each step ends at `at` or later
+-- Each step ends at `at` or later.
 abbrev pub EndsFrom : ℤ → List Step → Type 0
 EndsFrom at steps = (s : Step) → Contains steps s → at ≤ℤ s.period.to
 
--- each step ends later than `at`
+-- Each step ends after `at`.
 abbrev pub EndsBeyond : ℤ → List Step → Type 0
 EndsBeyond at steps = (s : Step) → Contains steps s → at <ℤ s.period.to
 
--- s is what is left of the first step from `at` on
+-- `s` is the rest of the first step from `at` on.
 pub record IsHeadFrom (at : ℤ) (steps : List Step) (s : Step) : Type 0 where
   pub from : at ≤ℤ s.period.from
   pub ends : EndsFrom s.period.to steps
@@ -61,7 +61,7 @@ pub record IsHeadFrom (at : ℤ) (steps : List Step) (s : Step) : Type 0 where
   pub origin_in : Contains steps origin
   pub tally : s.tally ≡ origin.tally
 
--- before its end s gives what both steps give together, and it ends no later than either
+-- Before its end, `s` has the tally of both steps together, and it ends no later than either.
 pub record IsFirstOfBoth (x y s : Step) : Type 0 where
   pub from : (at : ℤ) → at ≤ℤ x.period.from → at ≤ℤ y.period.from → at ≤ℤ s.period.from
   pub to_left : s.period.to ≤ℤ x.period.to
@@ -69,7 +69,7 @@ pub record IsFirstOfBoth (x y s : Step) : Type 0 where
   pub tallies : (t : ℤ) → t <ℤ s.period.to
       → tally_at (s ∷ []) t ≡ both (tally_at (x ∷ []) t) (tally_at (y ∷ []) t)
 
--- from `at` on and before its end s gives what both lists give together, and none of their steps ends earlier
+-- From `at` until its end, `s` has the tally of both lists together, and none of their steps ends earlier.
 pub record IsNextStep (at : ℤ) (xs ys : List Step) (s : Step) : Type 0 where
   pub from : at ≤ℤ s.period.from
   pub left_ends : EndsFrom s.period.to xs
@@ -77,7 +77,7 @@ pub record IsNextStep (at : ℤ) (xs ys : List Step) (s : Step) : Type 0 where
   pub tallies : (t : ℤ) → at ≤ℤ t → t <ℤ s.period.to
       → tally_at (s ∷ []) t ≡ both (tally_at xs t) (tally_at ys t)
 
--- the steps that are left, once those that end by `at` are passed
+-- `new` are the steps of `old` after those that end by `at` are passed.
 pub record IsBeyond (at : ℤ) (old new : List Step) : Type 0 where
   pub same : (t : ℤ) → at ≤ℤ t → tally_at old t ≡ tally_at new t
   pub beyond : EndsBeyond at new

@@ -1,10 +1,10 @@
--- What gaps of two lists share.
+-- The periods that gaps of two lists share.
 use Rattle.std.specs.Prelude.{◌≡◌, List, ◌≤ℤ◌, AllPairs, Contains}
 use Rattle.dip_core.specs.declared.item.Item.{Item}
 use Rattle.merge_core.specs.declared.gap.Gap.{Gap}
 use Rattle.merge_core.specs.Hits.{IsShared}
 
--- what a gap of the one list and a gap of the other with the same left id share
+-- The period that a gap of one list and a gap of the other with the same left id share.
 pub record IsMeet (one other : List Gap) (gap : Gap) : Type 0 where
   pub first : Gap
   pub second : Gap
@@ -14,10 +14,10 @@ pub record IsMeet (one other : List Gap) (gap : Gap) : Type 0 where
   pub left : gap.left ≡ first.left
   pub shared : IsShared first.period second.period gap.period
 
--- each gap ends at or before the start of each later one
+-- Each gap ends at or before the start of each later one.
 abbrev pub AreGapsApart : List Gap → Type 0
 AreGapsApart gaps = AllPairs (λ (a b : Gap). a.period.to ≤ℤ b.period.from) gaps
 
--- items of one id are one item
+-- Items with the same id are the same item.
 abbrev pub IdsTell : List Item → Type 0
 IdsTell items = (x y : Item) → Contains items x → Contains items y → x.id ≡ y.id → x ≡ y

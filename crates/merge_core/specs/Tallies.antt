@@ -1,4 +1,4 @@
--- What items come to: how many they are, and the sum, the least and the greatest of their amounts.
+-- Tallies: the number of items, and the sum, minimum and maximum of their amounts.
 use Rattle.std.specs.Prelude.{◌≡◌, ◌+◌, Option, Some, None, List, [], ◌∷◌, length, map, ℤ, pos, ◌+ℤ◌, ◌≤ℤ◌, Contains}
 use Rattle.std.specs.List.{filter}
 use Rattle.std.specs.Int.{int_min, int_max}
@@ -6,20 +6,20 @@ use Rattle.period_core.specs.Period.{holds_at}
 use Rattle.dip_core.specs.declared.item.Item.{Item}
 use Rattle.merge_core.specs.declared.tally.Tally.{Tally}
 
--- the items that hold t
+-- The items that hold `t`.
 abbrev pub holding : List Item → ℤ → List Item
 holding items t = filter (λ (x : Item). holds_at t x.period) items
 
--- their amounts, in their order
+-- The amounts of the items, in order.
 abbrev pub amounts : List Item → List ℤ
 amounts items = map (λ (x : Item). x.amount) items
 
--- the sum of some numbers
+-- The sum of some numbers.
 abbrev pub total : List ℤ → ℤ
 total [] = pos 0
 total (a ∷ rest) = a +ℤ total rest
 
--- what some items come to, of which there is one at least
+-- The tally of one or more items.
 pub record IsTally (items : List Item) (tally : Tally) : Type 0 where
   pub count : tally.count ≡ length items
   pub sum : tally.sum ≡ total (amounts items)
@@ -28,12 +28,12 @@ pub record IsTally (items : List Item) (tally : Tally) : Type 0 where
   pub max_in : Contains (amounts items) tally.max
   pub max_greatest : (a : ℤ) → Contains (amounts items) a → a ≤ℤ tally.max
 
--- what the items that hold t come to; None where none does
+-- The tally of the items that hold `t`, or `None` if no item does.
 abbrev pub IsTallyAt : List Item → ℤ → Option Tally → Type 0
 IsTallyAt items t None = holding items t ≡ []
 IsTallyAt items t (Some tally) = IsTally (holding items t) tally
 
--- what the items of two tallies come to together
+-- The tally of two tallies' items together.
 abbrev pub both : Option Tally → Option Tally → Option Tally
 both None b = b
 both (Some a) None = Some a

@@ -1,4 +1,4 @@
-//! Two lists of steps taken together.
+//! Adding two lists of steps.
 
 ghost use Rattle.std.specs.Prelude.{◌≡◌, ◌<ℤ◌, Some, [], ◌∷◌, drop, MatchOption, IfOk};
 ghost use Rattle.std.specs.Int.{int_max};
@@ -11,7 +11,7 @@ use crate::{Step, Tally};
 use period_core::{NoMemory, Period, Point};
 use std::alloc::Global;
 
-/// What the items of two tallies come to together.
+/// Returns the tally of both tallies' items together.
 fn add_tallies(x: &Tally, y: &Tally) -> Tally
     requires { CanAddTallies x.now y.now }
     ensures { Some result ≡ both (Some x.now) (Some y.now) }
@@ -24,28 +24,28 @@ fn add_tallies(x: &Tally, y: &Tally) -> Tally
     }
 }
 
-/// The first step of a list.
+/// Returns the first step of a list.
 fn first_step(steps: &[Step]) -> Option<Step>
     ensures { MatchOption result (steps.now ≡ []) (λ x. steps.now ≡ x ∷ drop 1 steps.now) }
 {
     steps.first().copied()
 }
 
-/// A list without its first step.
+/// Returns a list without its first step.
 fn later_steps(steps: &[Step]) -> &[Step]
     ensures { result.now ≡ drop 1 steps.now }
 {
     if steps.is_empty() { steps } else { &steps[1..] }
 }
 
-/// Where a step ends.
+/// Returns the end of a step.
 fn end_of(step: &Step) -> Point
     ensures { result ≡ step.now.period.to }
 {
     step.period.to
 }
 
-/// What is left of a step from `at` on.
+/// Returns the rest of a step from `at` on.
 fn rest_from(at: Point, step: &Step) -> Step
     requires { at <ℤ step.now.period.to }
     ensures from { result.period.from ≡ int_max at step.now.period.from }
@@ -60,7 +60,7 @@ fn rest_from(at: Point, step: &Step) -> Step
     }
 }
 
-/// What is left of the first step from `at` on.
+/// Returns the rest of the first step from `at` on.
 fn head_from(at: Point, steps: &[Step]) -> Option<Step>
     requires apart { AreStepsApart steps.now }
     requires beyond { EndsBeyond at steps.now }
@@ -70,8 +70,7 @@ fn head_from(at: Point, steps: &[Step]) -> Option<Step>
     Some(rest_from(at, &first))
 }
 
-/// The first step of what two steps give together: it ends where one of them ends, or where the one that
-/// starts later does.
+/// Returns the first step of the sum of two steps. It ends where one of them ends, or where the later one starts.
 fn first_of_both(x: &Step, y: &Step) -> Step
     requires { CanAddTallies x.now.tally y.now.tally }
     ensures { IsFirstOfBoth x.now y.now result }
@@ -100,7 +99,7 @@ fn first_of_both(x: &Step, y: &Step) -> Step
     }
 }
 
-/// The first step, from `at` on, of what two lists give together.
+/// Returns the first step, from `at` on, of the sum of two lists.
 fn next_step(at: Point, lefts: &[Step], rights: &[Step]) -> Option<Step>
     requires left_apart { AreStepsApart lefts.now }
     requires right_apart { AreStepsApart rights.now }
@@ -119,7 +118,7 @@ fn next_step(at: Point, lefts: &[Step], rights: &[Step]) -> Option<Step>
     Some(first_of_both(&x, &y))
 }
 
-/// The steps that end later than `at`.
+/// Returns the steps that end after `at`.
 fn steps_beyond(at: Point, steps: &[Step]) -> &[Step]
     requires apart { AreStepsApart steps.now }
     requires ends { EndsFrom at steps.now }
@@ -135,7 +134,7 @@ fn steps_beyond(at: Point, steps: &[Step]) -> &[Step]
     }
 }
 
-/// An instant before which neither list has a step.
+/// Returns an instant before which neither list has a step, or `None` if both lists are empty.
 fn start_of(lefts: &[Step], rights: &[Step]) -> Option<Point>
     requires left_apart { AreStepsApart lefts.now }
     requires right_apart { AreStepsApart rights.now }
@@ -152,13 +151,14 @@ fn start_of(lefts: &[Step], rights: &[Step]) -> Option<Point>
     Some(earlier(x.period.from, y.period.from))
 }
 
-/// Room for what two lists of so many steps come to. Each start of a step begins at most one, and so does each end that
-/// no step of its list touches: that of the list that ends first, and those before gaps, for which an eighth is left.
+/// Returns a capacity for the sum of two lists with `steps` steps together. A new step begins at most at each start of
+/// a step, and at each end that no step of its list touches: the end of the list that ends first, and ends before
+/// gaps, for which an eighth is added.
 fn room_for_both(steps: usize) -> usize {
     steps.saturating_add(steps / 8).saturating_add(1)
 }
 
-/// The steps that give at each instant both tallies together.
+/// Returns steps whose tally at each instant is the sum of both lists' tallies.
 pub(crate) fn combine_steps(
     alloc: Global,
     one: &[Step],

@@ -1,4 +1,4 @@
-//! Readers of parts that only go forward.
+//! Forward-only readers of parts.
 
 ghost use Rattle.std.specs.Prelude.{◌≡◌, ◌<◌, ◌≤◌, ◌≤ℤ◌, ◌^◌, [], ◌∷◌, length, drop, take, All, MatchOption, IsTrue, ◌↔◌};
 ghost use Rattle.dip_core.specs.Item.{IsChain};
@@ -9,8 +9,8 @@ use dip_core::{Item, Part};
 use period_core::Point;
 use std::marker::Model;
 
-/// Gives each item of a part once, in their order, and never goes back: it can't be copied or cloned.
-/// Contracts see the list of the items that it has still to give.
+/// Reads each item of a part once, in order, and never goes back: a cursor can't be copied or cloned. Contracts see
+/// the list of items that are still to be read.
 #[derive(Drop)]
 pub struct Cursor<'a> {
     rest: &'a [Item],
@@ -29,14 +29,14 @@ impl<'a> Model for Cursor<'a> {
 }
 
 impl<'a> Cursor<'a> {
-    /// A cursor before the part's first item.
+    /// Returns a cursor at the part's first item.
     pub fn new(part: Part<'a>) -> Self
         ensures { result ≡ part.entry.items.now }
     {
         Cursor { rest: part.items }
     }
 
-    /// The next item, which stays the next one; None exactly behind the last.
+    /// Returns the next item without passing it, or `None` after the last item.
     pub fn peek(&self) -> Option<Item>
         ensures next { MatchOption result (self.now ≡ []) (λ x. self.now ≡ x ∷ drop 1 self.now) }
         ensures chain { IsChain self.now }
@@ -44,7 +44,7 @@ impl<'a> Cursor<'a> {
         self.rest.first().copied()
     }
 
-    /// How many items it has still to give.
+    /// Returns the number of items still to be read.
     pub fn len(&self) -> usize
         ensures len { result ≡ length self.now }
         ensures chain { IsChain self.now }
@@ -53,14 +53,14 @@ impl<'a> Cursor<'a> {
         self.rest.len()
     }
 
-    /// Whether it has given every item.
+    /// Returns whether every item was passed.
     pub fn is_empty(&self) -> bool
         ensures { IsTrue result ↔ (self.now ≡ []) }
     {
         self.rest.is_empty()
     }
 
-    /// Passes the next item; behind the last one it stays there.
+    /// Passes the next item. After the last item it does nothing.
     pub fn advance(&mut self)
         ensures { self.new ≡ drop 1 self.old }
     {
@@ -69,8 +69,8 @@ impl<'a> Cursor<'a> {
         }
     }
 
-    /// Passes the items that end at or before the start of `x`, and answers how many. They are looked for in steps of
-    /// double length, so that a few items go through a long part with few looks.
+    /// Passes the items that end at or before the start of `x`, and returns their number. The search doubles its step,
+    /// so a few items get through a long part with few comparisons.
     pub(crate) fn pass_ended(&mut self, x: &Item) -> u64
         ensures { PassesUpto x.now.period.from self.old self.new result }
     {
@@ -80,8 +80,8 @@ impl<'a> Cursor<'a> {
     }
 }
 
-/// How many items of a part end at or before the point: it is looked for among those up to one that ends later, which
-/// is looked for twice as far on each time.
+/// Returns how many items of a part end at or before the point. It doubles the search range until the item after the
+/// range ends later, and then searches the range by halves.
 fn count_ended(items: &[Item], point: Point) -> usize
     requires { IsChain items.now }
     ensures inside { result ≤ length items.now }

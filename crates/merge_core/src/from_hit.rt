@@ -1,16 +1,16 @@
-//! What is made of hits.
+//! Results made from hits.
 
 ghost use Rattle.std.specs.Prelude.{◌≡◌};
 ghost use Rattle.merge_core.specs.declared.hit.Hit.{Hit};
 
 use crate::Hit;
 
-/// What a merge can make of each hit, as it is found: only that is kept.
+/// A value that a merge makes from each hit as soon as it is found. The hit itself isn't kept.
 pub trait FromHit: Drop {
-    // What is made of a hit.
+    // The value for a hit.
     ghost from_hit: { Hit → Self };
 
-    /// What is made of a hit.
+    /// Returns the value for a hit.
     fn from_hit(hit: Hit) -> Self
         ensures { result ≡ from_hit hit };
 }

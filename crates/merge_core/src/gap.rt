@@ -3,11 +3,11 @@
 use dip_core::Item;
 use period_core::Period;
 
-/// A left item, and a period of it on which no right item of its class holds, as long as can be.
+/// A left item, and a maximal period of it in which no right item of its class holds.
 #[derive(Clone, Copy, Debug, PartialEq, Eq)]
 pub struct Gap {
-    /// The left side's item.
+    /// The left item.
     pub left: Item,
-    /// What no right item of its class holds of it.
+    /// The part of its period that no right item of its class holds.
     pub period: Period,
 }

@@ -12,7 +12,7 @@ use crate::{Cursor, Gap};
 use dip_core::Item;
 use period_core::{NoMemory, Period, Point};
 
-/// Adds the gap of `x` from one point on and before another, where there is an instant between.
+/// Adds the gap of `x` between two points, unless it would be empty.
 fn push_gap(x: &Item, from: Point, to: Point, gaps: &mut Vec<Gap>) -> Result<(), NoMemory>
     ensures ok { OnOk result
         (AddsAll GapStartsBefore (IsBetween x.now from to) gaps.old.items gaps.new.items) }
@@ -25,7 +25,7 @@ fn push_gap(x: &Item, from: Point, to: Point, gaps: &mut Vec<Gap>) -> Result<(),
     Ok(())
 }
 
-/// Takes `y` from what is uncovered of `x` from `at` on, and answers where the rest starts.
+/// Removes the period of `y` from the uncovered rest of `x`, which starts at `at`. Returns the start of the new rest.
 fn cover(x: &Item, y: &Item, at: Point, gaps: &mut Vec<Gap>) -> Result<Point, NoMemory>
     requires { y.now.period.from <ℤ x.now.period.to }
     ensures ok { IfOk result (Covers x.now y.now at gaps.old.items gaps.new.items) }
@@ -39,8 +39,8 @@ fn cover(x: &Item, y: &Item, at: Point, gaps: &mut Vec<Gap>) -> Result<Point, No
     Ok(later(at, y.period.to))
 }
 
-/// Adds the gaps of one left item, and answers how many right items it passed. An item that ends later
-/// than `x` stays, for the next one.
+/// Adds the gaps of one left item, and returns how many right items it passed. An item that ends after `x` stays for
+/// the next left item.
 fn gaps_of(x: &Item, right: &mut Cursor, gaps: &mut Vec<Gap>) -> Result<u64, NoMemory>
     ensures gaps { OnOk result
         (AddsAll GapStartsBefore (IsGapOf right.old x.now) gaps.old.items gaps.new.items) }
@@ -68,12 +68,12 @@ fn gaps_of(x: &Item, right: &mut Cursor, gaps: &mut Vec<Gap>) -> Result<u64, NoM
     Ok(passed)
 }
 
-/// Adds the gaps of the left part against the right one by rising start, and answers how many items were passed:
-/// each left item, and each right item that ends at or before the end of some left one.
+/// Adds the gaps of the left part against the right part, in ascending order of start. Returns how many items were
+/// passed: each left item, and each right item that ends at or before the end of some left item.
 ///
 /// # Errors
 ///
-/// `NoMemory` where the list can't grow; it is then as before. Parts without a gap need no memory.
+/// `NoMemory` if the list can't grow; then it is unchanged. Parts without a gap need no memory.
 pub fn merge_gaps(mut left: Cursor, mut right: Cursor, gaps: &mut Vec<Gap>) -> Result<u64, NoMemory>
     ensures gaps { OnOk result
         (AddsAll GapStartsBefore (IsGap left.entry right.entry) gaps.old.items gaps.new.items) }

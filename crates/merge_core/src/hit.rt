@@ -3,13 +3,13 @@
 use dip_core::Item;
 use period_core::Period;
 
-/// Two items of equal class, one of each side, and the period of the instants that both hold.
+/// A left and a right item of equal class, and the period of the instants that both hold.
 #[derive(Clone, Copy, Debug, PartialEq, Eq)]
 pub struct Hit {
-    /// The left side's item.
+    /// The left item.
     pub left: Item,
-    /// The right side's item.
+    /// The right item.
     pub right: Item,
-    /// What they share.
+    /// The period that both share.
     pub period: Period,
 }

@@ -12,7 +12,7 @@ use crate::{Cursor, FromHit, Hit};
 use dip_core::Item;
 use period_core::NoMemory;
 
-/// The hit of two items, where they have one.
+/// Returns the hit of two items, or `None` if they have none.
 fn hit_of(x: &Item, y: &Item) -> Option<Hit>
     ensures { IsListOf HitStartsBefore (IsHit (x.now ∷ []) (y.now ∷ [])) (option_to_list result) }
 {
@@ -27,7 +27,8 @@ fn hit_of(x: &Item, y: &Item) -> Option<Hit>
     })
 }
 
-/// Adds what was made of a hit. The first takes room for itself alone, since most pairs of parts have one hit, if any.
+/// Appends a value made from a hit. The first value reserves capacity only for itself, since most pairs of parts have
+/// at most one hit.
 fn add_made<T: Drop>(made: T, found: &mut Vec<T>) -> Result<(), NoMemory>
     ensures ok { OnOk result (found.new.items ≡ found.old.items ++ made ∷ []) }
     ensures err { OnErr result (found.new.items ≡ found.old.items) }
@@ -39,7 +40,7 @@ fn add_made<T: Drop>(made: T, found: &mut Vec<T>) -> Result<(), NoMemory>
     Ok(())
 }
 
-/// Adds what is made of the hit of two items, where they have one; where they have none it asks for no memory.
+/// Appends the value for the hit of two items, if they have one. Without a hit it allocates nothing.
 fn push_hit<T: FromHit>(x: &Item, y: &Item, found: &mut Vec<T>) -> Result<(), NoMemory>
     ensures ok { OnOk result
         (AddsHits T.from_hit (x.now ∷ []) (y.now ∷ []) found.old.items found.new.items) }
@@ -52,8 +53,8 @@ fn push_hit<T: FromHit>(x: &Item, y: &Item, found: &mut Vec<T>) -> Result<(), No
     Ok(())
 }
 
-/// Passes the item of the two that ends first, the left one where both end together. A branch is better here than a
-/// step by a number: what it guesses wrong costs less than items that are only asked for when it is known.
+/// Passes the item that ends first, or the left one if both end together. A branch is faster here than advancing by a
+/// computed number: a wrong guess costs less than loading the next item only after the comparison.
 fn pass_first(x: &Item, y: &Item, left: &mut Cursor, right: &mut Cursor)
     ensures { PassesFirst x.now y.now left.old right.old left.new right.new }
 {
@@ -64,13 +65,13 @@ fn pass_first(x: &Item, y: &Item, left: &mut Cursor, right: &mut Cursor)
     }
 }
 
-/// Adds the hits of two parts by rising start, and answers how often a cursor advanced: once for each left item
-/// that ends at or before the end of some right one, and once for each right item that ends before the end of
-/// some left one.
+/// Adds the hits of two parts in ascending order of start. Returns how often a cursor advanced: once for each left
+/// item that ends at or before the end of some right item, and once for each right item that ends before the end of
+/// some left item.
 ///
 /// # Errors
 ///
-/// `NoMemory` where the list can't grow; it is then as before. Parts without a hit need no memory.
+/// `NoMemory` if the list can't grow; then it is unchanged. Parts without a hit need no memory.
 pub fn merge_join(left: Cursor, right: Cursor, hits: &mut Vec<Hit>) -> Result<u64, NoMemory>
     ensures hits { OnOk result
         (AddsAll HitStartsBefore (IsHit left.entry right.entry) hits.old.items hits.new.items) }
@@ -82,11 +83,11 @@ pub fn merge_join(left: Cursor, right: Cursor, hits: &mut Vec<Hit>) -> Result<u6
     merge_join_into(left, right, hits)
 }
 
-/// Adds what is made of each hit of two parts, as `merge_join` adds the hits.
+/// Adds the value for each hit of two parts. Order, result and errors are the same as for `merge_join`.
 ///
 /// # Errors
 ///
-/// As of `merge_join`.
+/// See `merge_join`.
 pub fn merge_join_into<T: FromHit>(
     mut left: Cursor,
     mut right: Cursor,

@@ -1,4 +1,4 @@
-//! Laws of gaps.
+//! Laws on gaps.
 
 ghost use Rattle.std.specs.Prelude.{◌≡◌, List};
 ghost use Rattle.dip_core.specs.declared.item.Item.{Item};

@@ -1,8 +1,7 @@
 #![tactic(auto)]
 
-//! Parts merged, each read once and in its order: what items of equal class of two parts share, what is left
-//! of each item of the one where no item of its class of the other holds, and what items come to at each
-//! instant.
+//! Merges two parts, reading each once and in order. It finds the periods that items of equal class share, the periods
+//! of left items in which no right item of their class holds, and the tallies of the items at each instant.
 
 mod combining;
 mod cursor;

@@ -15,8 +15,7 @@ use period_core::NoMemory;
 use std::alloc::Global;
 use std::marker::Model;
 
-/// Gaps by rising start, each of which ends at or before the start of the next. Contracts see the list of
-/// them.
+/// Gaps in ascending order of start, each of which ends at or before the start of the next. Contracts see their list.
 #[derive(Drop)]
 pub struct Gaps {
     gaps: Vec<Gap>,
@@ -35,7 +34,7 @@ impl Model for Gaps {
 }
 
 impl Gaps {
-    /// The gaps of the left part against the right one. Parts without a gap need no memory.
+    /// Returns the gaps of the left part against the right part. Parts without a gap need no memory.
     pub fn of(alloc: Global, left: Cursor, right: Cursor) -> Result<Gaps, NoMemory>
         ensures gaps { IfOk result (ListsGaps left.entry right.entry) }
         ensures no_gap { ((gap : Gap) → IsGap left.entry right.entry gap → ⊥) → IsOk result }
@@ -46,7 +45,7 @@ impl Gaps {
         Ok(Gaps { gaps })
     }
 
-    /// The gaps where there is no right item: each item with its whole period.
+    /// Returns the gaps against no right items: each item with its whole period.
     pub fn whole(alloc: Global, part: Part<'_>) -> Result<Gaps, NoMemory>
         ensures { IfOk result (ListsGaps part.entry.items.now []) }
     {
@@ -54,28 +53,28 @@ impl Gaps {
         Ok(Gaps { gaps })
     }
 
-    /// How many there are.
+    /// Returns the number of gaps.
     pub fn len(&self) -> usize
         ensures { result ≡ length self.now }
     {
         self.gaps.len()
     }
 
-    /// Whether there are none.
+    /// Returns whether the list is empty.
     pub fn is_empty(&self) -> bool
         ensures { result ≡ (length self.now == 0) }
     {
         self.gaps.is_empty()
     }
 
-    /// The gap at that place, from 0 on; None exactly past the last.
+    /// Returns the gap at index `i`, or `None` past the last one.
     pub fn get(&self, i: usize) -> Option<Gap>
         ensures { result ≡ slice_get self.now i }
     {
         self.gaps.get(i).copied()
     }
 
-    /// All gaps, by rising start.
+    /// Returns all gaps, in ascending order of start.
     pub fn as_slice(&self) -> &[Gap]
         ensures { result.now ≡ self.now }
     {
@@ -83,7 +82,7 @@ impl Gaps {
     }
 }
 
-/// Each item with its whole period.
+/// Returns each item with its whole period.
 fn whole_periods(alloc: Global, items: &[Item]) -> Result<Vec<Gap>, NoMemory>
     ensures { IfOk result (λ v. v.items
         ≡ map (λ x. record { left = x; period = x.period }) items.now) }
@@ -97,21 +96,21 @@ fn whole_periods(alloc: Global, items: &[Item]) -> Result<Vec<Gap>, NoMemory>
         .collect(alloc)
 }
 
-/// The first gap of a list.
+/// Returns the first gap of a list.
 fn first_gap(gaps: &[Gap]) -> Option<Gap>
     ensures { MatchOption result (gaps.now ≡ []) (λ x. gaps.now ≡ x ∷ drop 1 gaps.now) }
 {
     gaps.first().copied()
 }
 
-/// A list without its first gap.
+/// Returns a list without its first gap.
 fn later_gaps(gaps: &[Gap]) -> &[Gap]
     ensures { result.now ≡ drop 1 gaps.now }
 {
     if gaps.is_empty() { gaps } else { &gaps[1..] }
 }
 
-/// What two gaps of one left id share, where they share an instant.
+/// Returns the period that two gaps share, as a gap, or `None` if they share no instant, or if their left ids differ.
 fn meet_of(x: &Gap, y: &Gap) -> Option<Gap>
     ensures { IsListOf GapStartsBefore (IsMeet (x.now ∷ []) (y.now ∷ [])) (option_to_list result) }
 {
@@ -125,7 +124,7 @@ fn meet_of(x: &Gap, y: &Gap) -> Option<Gap>
     })
 }
 
-/// Adds what two gaps of one left id share, where they share an instant.
+/// Adds the gap that two gaps of one left id share, if they share an instant.
 fn push_meet(x: &Gap, y: &Gap, gaps: &mut Vec<Gap>) -> Result<(), NoMemory>
     ensures { OnOk result
         (AddsAll GapStartsBefore (IsMeet (x.now ∷ []) (y.now ∷ [])) gaps.old.items gaps.new.items) }
@@ -136,7 +135,7 @@ fn push_meet(x: &Gap, y: &Gap, gaps: &mut Vec<Gap>) -> Result<(), NoMemory>
     Ok(())
 }
 
-/// What gaps of both lists share that have one left id.
+/// Returns what gaps of both lists share if they have the same left id.
 fn meets_of(alloc: Global, one: &[Gap], other: &[Gap]) -> Result<Vec<Gap>, NoMemory>
     requires one { AreGapsApart one.now }
     requires other { AreGapsApart other.now }
@@ -159,8 +158,8 @@ fn meets_of(alloc: Global, one: &[Gap], other: &[Gap]) -> Result<Vec<Gap>, NoMem
     Ok(gaps)
 }
 
-/// What a gap of the one list and a gap of the other with the same left id share, by rising start. The
-/// gaps of a part against each of two lists of items become those against both.
+/// Returns what gaps of both lists share if they have the same left id, in ascending order of start. If the lists are
+/// the gaps of one part against two lists of items, the result is its gaps against both lists together.
 pub fn meet_gaps(alloc: Global, one: &Gaps, other: &Gaps) -> Result<Gaps, NoMemory>
     ensures meets { IfOk result (IsListOf GapStartsBefore (IsMeet one.now other.now)) }
     ensures both { IfOk result (λ gaps. (left right more : List Item) → IdsTell left

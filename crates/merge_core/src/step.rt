@@ -3,11 +3,11 @@
 use crate::Tally;
 use period_core::Period;
 
-/// A period at each instant of which the tally is this one.
+/// A period with the same tally at each instant.
 #[derive(Clone, Copy, PartialEq, Eq)]
 pub struct Step {
-    /// When it is.
+    /// The period.
     pub period: Period,
-    /// What the items that hold an instant of the period come to.
+    /// The tally of the items that hold an instant of the period.
     pub tally: Tally,
 }

@@ -1,4 +1,4 @@
-//! What items come to, instant by instant.
+//! Tallies of items, instant by instant.
 
 ghost use Rattle.std.specs.Prelude.{◌≡◌, ◌==◌, ◌+◌, ◌++◌, ◌≤◌, List, IfOk, length, slice_get};
 ghost use Rattle.dip_core.specs.declared.item.Item.{Item};
@@ -14,8 +14,8 @@ use period_core::{NoMemory, Point};
 use std::alloc::Global;
 use std::marker::Model;
 
-/// What some items come to at each instant: steps by rising start, each of which ends at or before the
-/// start of the next, and the number of the items. Contracts see both.
+/// The tally of some items at each instant: steps in ascending order of start, each of which ends at or before the
+/// start of the next, and the number of items. Contracts see both.
 #[derive(Drop)]
 pub struct Steps {
     steps: Vec<Step>,
@@ -32,7 +32,7 @@ impl Model for Steps {
     ghost invariant = { λ s. IsStepList s.weight s.steps.items };
 }
 
-/// The step of one item.
+/// Returns the step of one item.
 fn step_of(item: &Item) -> Step
     ensures { IsLoneStep item.now result }
 {
@@ -47,7 +47,7 @@ fn step_of(item: &Item) -> Step
     }
 }
 
-/// The step of each item.
+/// Returns the step of each item.
 fn steps_of(alloc: Global, items: &[Item]) -> Result<Vec<Step>, NoMemory>
     ensures { IfOk result (λ v. AreLoneSteps items.now v.items) }
 {
@@ -58,7 +58,7 @@ fn steps_of(alloc: Global, items: &[Item]) -> Result<Vec<Step>, NoMemory>
     Ok(steps)
 }
 
-/// The tally of the first step that holds the instant.
+/// Returns the tally of the first step that holds the instant.
 fn find_tally(steps: &[Step], at: Point) -> Option<Tally>
     ensures { result ≡ tally_at steps.now at }
 {
@@ -71,7 +71,7 @@ fn find_tally(steps: &[Step], at: Point) -> Option<Tally>
 }
 
 impl Steps {
-    /// The steps of a part: at each instant the tally of the item that holds it.
+    /// Returns the steps of a part: at each instant the tally of the item that holds it.
     pub fn of_part(alloc: Global, part: Part<'_>) -> Result<Steps, NoMemory>
         ensures { IfOk result (IsStepListOf part.entry.items.now) }
     {
@@ -81,35 +81,35 @@ impl Steps {
         Ok(Steps { steps, weight })
     }
 
-    /// The number of the items.
+    /// Returns the number of items.
     pub fn weight(&self) -> u64
         ensures { result ≡ self.now.weight }
     {
         self.weight
     }
 
-    /// How many steps there are.
+    /// Returns the number of steps.
     pub fn len(&self) -> usize
         ensures { result ≡ length self.now.steps }
     {
         self.steps.len()
     }
 
-    /// Whether there are none.
+    /// Returns whether the list has no step.
     pub fn is_empty(&self) -> bool
         ensures { result ≡ (length self.now.steps == 0) }
     {
         self.steps.is_empty()
     }
 
-    /// The step at that place, from 0 on; None exactly past the last.
+    /// Returns the step at index `place`, or `None` past the last one.
     pub fn get(&self, place: usize) -> Option<Step>
         ensures { result ≡ slice_get self.now.steps place }
     {
         self.steps.get(place).copied()
     }
 
-    /// The steps, by rising start.
+    /// Returns the steps, in ascending order of start.
     pub fn steps(&self) -> &[Step]
         ensures value { result.now ≡ self.now.steps }
         ensures kept { IsStepList self.now.weight self.now.steps }
@@ -117,7 +117,7 @@ impl Steps {
         &self.steps
     }
 
-    /// What the items that hold the instant come to; None where none does.
+    /// Returns the tally of the items that hold the instant, or `None` if no item does.
     pub fn tally_at(&self, at: Point) -> Option<Tally>
         ensures value { result ≡ tally_at self.now.steps at }
         ensures held { IsTallyHeldAt self.now.steps at result }
@@ -126,8 +126,8 @@ impl Steps {
     }
 }
 
-/// At each instant both tallies together, which are those of all their items. Both stand for at most
-/// 1,000,000 items together.
+/// Returns the steps of both lists' items together: at each instant the sum of both tallies. Both lists together may
+/// count at most 1,000,000 items.
 pub fn combine(alloc: Global, one: &Steps, other: &Steps) -> Result<Steps, NoMemory>
     requires { one.now.weight + other.now.weight ≤ item_limit }
     ensures both { IfOk result (IsBoth one.now other.now) }

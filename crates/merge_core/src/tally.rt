@@ -1,9 +1,9 @@
 //! Tallies.
 
-/// What some items come to, of which there is one at least.
+/// The count, sum, minimum and maximum over one or more items.
 #[derive(Clone, Copy, Debug, PartialEq, Eq)]
 pub struct Tally {
-    /// How many they are.
+    /// The number of items.
     pub count: u64,
     /// The sum of their amounts.
     pub sum: i128,

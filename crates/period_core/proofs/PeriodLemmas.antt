@@ -1,4 +1,4 @@
--- What the ends of periods say of their instants, and instants of the ends.
+-- Facts about instants from the ends of periods, and about the ends from instants.
 use Rattle.std.proofs.Common.{◌≡◌, refl, sym, ap, subst, ◌≤ℤ◌, ◌<ℤ◌, ◌-ℤ◌, ℤ, pos, arith, ◌↔◌, Bool, true, false, Some}
 use Rattle.std.specs.Prelude.{int_lt}
 use Rattle.std.proofs.Common.{cond}
@@ -10,7 +10,7 @@ use Rattle.std.proofs.Props.{props}
 use Rattle.period_core.specs.declared.period.Period.{Period}
 use Rattle.period_core.specs.Period.{Holds, HoldsIn, Overlap, Precedes, PrecedesAtOnce, between, between_if, meet, before, after}
 
--- the later of the two starts lies in both
+-- the later of the two starts is a common instant
 pub Overlap-from_ends : (x y : Period) → x.from <ℤ y.to → y.from <ℤ x.to → Overlap x y
 Overlap-from_ends x y first second =
     let one : x.from <ℤ x.to = x.ordered in
@@ -37,7 +37,7 @@ Precedes-end x y p =
     p (x.to -ℤ pos 1) y.from (omega (arith, ints), omega (arith, ints)) (omega (arith, ints), other) in
     omega (arith, ints)
 
--- nothing lies between two periods that touch
+-- no instant is between two periods that touch
 pub PrecedesAtOnce-from_ends : (x y : Period) → x.to ≡ y.from → PrecedesAtOnce x y
 PrecedesAtOnce-from_ends x y e =
     let one : x.from <ℤ x.to = x.ordered in
@@ -49,7 +49,7 @@ PrecedesAtOnce-from_ends x y e =
           absurd (omega (arith, ints)),
     )
 
--- and where they don't touch, the end of the first does
+-- if they don't touch, the end of the first is an instant between them
 pub PrecedesAtOnce-ends : (x y : Period) → PrecedesAtOnce x y → x.to ≡ y.from
 PrecedesAtOnce-ends x y p =
     let le : x.to ≤ℤ y.from = Precedes-end x y p.0 in
@@ -73,7 +73,7 @@ Period-same p q from to =
     let a : A p.from = λ h. subst B to b h in
     subst A from a q.ordered
 
--- a period is what lies between its ends
+-- `between_if` returns the period with these ends
 between_if-some : (a b : ℤ) (test : Bool) (e : int_lt a b ≡ test) (p : Period) → p.from ≡ a → p.to ≡ b
     → between_if a b test e ≡ Some p
 between_if-some a b true e p from to = ap Some (Period-same _ p (sym from) (sym to))
@@ -89,11 +89,11 @@ between_if-holds : (a b : ℤ) (test : Bool) (e : int_lt a b ≡ test) (t : ℤ)
 between_if-holds a b true e t = (λ h. h, λ h. h)
 between_if-holds a b false e t = (λ h. absurd h, λ h. grind (arith, ints))
 
--- its instants
+-- the instants of `between`
 between-holds : (a b t : ℤ) → HoldsIn (between a b) t ↔ ((a ≤ℤ t) × (t <ℤ b))
 between-holds a b t = between_if-holds a b (int_lt a b) refl t
 
--- the shared instants
+-- the common instants
 pub meet-holds : (x y : Period) (t : ℤ) → HoldsIn (meet x y) t ↔ (Holds x t × Holds y t)
 meet-holds x y t =
     let it = between-holds (int_max x.from y.from) (int_min x.to y.to) t in (

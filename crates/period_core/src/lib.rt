@@ -1,7 +1,7 @@
 #![tactic(auto)]
 
-//! Points in time and half-open periods of them: a period is the set of the points from its start on
-//! and before its end.
+//! Points in time and half-open periods of them: a period is the set of the points from its start on and before its
+//! end.
 
 mod period;
 mod point;
@@ -9,5 +9,5 @@ mod point;
 pub use period::{BadPeriod, Period};
 pub use point::{BadPoint, Point};
 
-/// A growth was refused. Every crate of the store answers this where memory is refused.
+/// An allocation was refused. Every crate of the store returns this error then.
 pub type NoMemory = std::alloc::AllocError;

@@ -1,4 +1,4 @@
-//! Periods, and how two of them lie.
+//! Periods, and relations between two of them.
 
 ghost use Rattle.std.specs.Prelude.{◌≡◌, ℤ, ◌<ℤ◌, ◌≤ℤ◌, ◌↔◌, is_some, IsTrue, IsOk, IfOk};
 ghost use Rattle.std.specs.Result.{result_ok};
@@ -6,13 +6,12 @@ ghost use Rattle.std.specs.Result.{result_ok};
 use crate::Point;
 use thiserror::Error;
 
-/// The instants from `from` on and before `to`, of which there is always one. Periods are ordered by
-/// start, then end.
+/// The instants from `from` on and before `to`; there is always at least one. Periods are ordered by start, then end.
 #[derive(Clone, Copy, Debug, PartialEq, Eq, PartialOrd, Ord)]
 pub struct Period {
     /// The first instant.
     pub from: Point,
-    /// The first instant behind the last.
+    /// The first instant after the period.
     pub to: Point,
     pub ghost ordered: { from <ℤ to },
 }
@@ -25,11 +24,11 @@ pub struct BadPeriod;
 impl Period {
     ghost use Rattle.period_core.specs.Period.{Holds, HoldsIn, Overlap, HoldAlike, Includes, Precedes, PrecedesAtOnce, between, meet, before, after};
 
-    /// The period from one point on and before another.
+    /// Returns the period from one point on and before another.
     ///
     /// # Errors
     ///
-    /// `BadPeriod` exactly where `from` is not before `to`.
+    /// `BadPeriod` if and only if `from` is not before `to`.
     pub fn new(from: Point, to: Point) -> Result<Period, BadPeriod>
         ensures succeeds { IsOk result ↔ (from <ℤ to) }
         ensures value { IfOk result (λ p. (p.from ≡ from) × (p.to ≡ to)) }
@@ -42,22 +41,22 @@ impl Period {
         }
     }
 
-    /// The first instant.
+    /// Returns the first instant.
     pub fn from(self) -> Point
         ensures { result ≡ self.from }
     {
         self.from
     }
 
-    /// The first instant behind the last.
+    /// Returns the first instant after the period.
     pub fn to(self) -> Point
         ensures { result ≡ self.to }
     {
         self.to
     }
 
-    /// Whether some instant lies in both. Periods that touch don't overlap. Both ends are always compared:
-    /// of periods in no order a branch after the first would often be predicted wrong.
+    /// Returns whether the periods have a common instant. Periods that touch don't overlap. Both ends are always
+    /// compared: for periods in no order, a branch after the first comparison would often be mispredicted.
     #[inline(always)]
     pub fn overlaps(self, other: Period) -> bool
         ensures ends { IsTrue result ↔ ((self.from <ℤ other.to) × (other.from <ℤ self.to)) }
@@ -67,7 +66,7 @@ impl Period {
         (self.from < other.to) & (other.from < self.to)
     }
 
-    /// Whether both have the same instants.
+    /// Returns whether both periods have the same instants.
     pub fn equals(self, other: Period) -> bool
         ensures ends { IsTrue result ↔ ((self.from ≡ other.from) × (self.to ≡ other.to)) }
         ensures instants { IsTrue result ↔ HoldAlike self other }
@@ -75,7 +74,7 @@ impl Period {
         self.from == other.from && self.to == other.to
     }
 
-    /// Whether each instant of the other is one of this period.
+    /// Returns whether this period has every instant of the other.
     pub fn contains(self, other: Period) -> bool
         ensures ends { IsTrue result ↔ ((self.from ≤ℤ other.from) × (other.to ≤ℤ self.to)) }
         ensures instants { IsTrue result ↔ Includes self other }
@@ -83,14 +82,14 @@ impl Period {
         self.from <= other.from && other.to <= self.to
     }
 
-    /// Whether the point is one of the instants.
+    /// Returns whether the point is an instant of this period.
     pub fn holds(self, point: Point) -> bool
         ensures { IsTrue result ↔ Holds self point }
     {
         self.from <= point && point < self.to
     }
 
-    /// Whether each instant is before each of the other.
+    /// Returns whether each instant is before every instant of the other.
     pub fn precedes(self, other: Period) -> bool
         ensures ends { IsTrue result ↔ (self.to ≤ℤ other.from) }
         ensures instants { IsTrue result ↔ Precedes self other }
@@ -98,7 +97,7 @@ impl Period {
         self.to <= other.from
     }
 
-    /// Whether each instant is after each of the other.
+    /// Returns whether each instant is after every instant of the other.
     pub fn succeeds(self, other: Period) -> bool
         ensures ends { IsTrue result ↔ (other.to ≤ℤ self.from) }
         ensures instants { IsTrue result ↔ Precedes other self }
@@ -106,7 +105,7 @@ impl Period {
         other.precedes(self)
     }
 
-    /// Whether this period ends where the other starts: it precedes it, and no instant lies between.
+    /// Returns whether this period ends where the other starts: it precedes the other, with no instant between them.
     pub fn immediately_precedes(self, other: Period) -> bool
         ensures ends { IsTrue result ↔ (self.to ≡ other.from) }
         ensures instants { IsTrue result ↔ PrecedesAtOnce self other }
@@ -114,7 +113,7 @@ impl Period {
         self.to == other.from
     }
 
-    /// Whether this period starts where the other ends: it succeeds it, and no instant lies between.
+    /// Returns whether this period starts where the other ends: it succeeds the other, with no instant between them.
     pub fn immediately_succeeds(self, other: Period) -> bool
         ensures ends { IsTrue result ↔ (other.to ≡ self.from) }
         ensures instants { IsTrue result ↔ PrecedesAtOnce other self }
@@ -122,7 +121,7 @@ impl Period {
         other.immediately_precedes(self)
     }
 
-    /// The instants of both, where there are any.
+    /// Returns the common instants, or `None` if there aren't any.
     pub fn meet(&self, other: &Period) -> Option<Period>
         ensures ends { result ≡ meet self.now other.now }
         ensures instants { (t : ℤ) → HoldsIn result t ↔ (Holds self.now t × Holds other.now t) }
@@ -130,7 +129,7 @@ impl Period {
         Period::between(self.from.max(other.from), self.to.min(other.to))
     }
 
-    /// The instants before the other's start, and those from the other's end on, where there are any.
+    /// Returns the instants before the other's start, and those from the other's end on; `None` for each that is empty.
     pub fn minus(&self, other: &Period) -> (Option<Period>, Option<Period>)
         ensures before_ends { result.0 ≡ before self.now other.now }
         ensures after_ends { result.1 ≡ after self.now other.now }
@@ -143,7 +142,7 @@ impl Period {
         )
     }
 
-    // The instants from one point on and before the other, if there are any.
+    // Returns the instants from one point on and before another, or `None` if there aren't any.
     fn between(from: Point, to: Point) -> Option<Period>
         ensures { result ≡ between from to }
     {

@@ -1,4 +1,4 @@
-//! Points of time, as texts and as numbers.
+//! Points in time, as texts and as numbers.
 
 ghost use Rattle.std.specs.Prelude.{Some, ◌+◌, ◌%◌, vec_len, ◌≡◌, ◌≢◌, ◌↔◌, ◌<◌, ◌≤◌, ◌≤ℤ◌, ℕ, pos, length, ◌∷◌, [], ◌++◌, ◌⊎◌, List, IsOk, IfOk, OnOk, OnErr, MatchOption, unsigned_abs};
 ghost use Rattle.std.specs.Fmt.{WritesOnOk};
@@ -23,8 +23,8 @@ const FIRST_NUMBER: i64 = -62_135_596_800;
 
 const LAST_NUMBER: i64 = 253_402_300_799;
 
-/// A second of a date of the proleptic Gregorian calendar, in the years 0001 to 9999. Contracts see its
-/// number: the seconds from 1970-01-01T00:00:00. Points are ordered by it.
+/// A second of a date of the proleptic Gregorian calendar, in the years 0001 to 9999. Contracts see its number: the
+/// seconds from 1970-01-01T00:00:00. Points are ordered by it.
 #[derive(Clone, Copy, Debug, PartialEq, Eq, PartialOrd, Ord)]
 pub struct Point {
     number: i64,
@@ -43,25 +43,23 @@ impl Model for Point {
     ghost inverse = { λ n. record { number = n } };
 }
 
-/// A text is no date of the years 0001 to 9999, with or without a time of the day, or a number is that
-/// of no such second.
+/// The text isn't a date of the years 0001 to 9999, with or without a time of day, or no such second has the number.
 #[derive(Clone, Copy, Debug, PartialEq, Eq, Error)]
 #[error("no point of the years 0001 to 9999")]
 pub struct BadPoint;
 
 impl Point {
-    /// The second that the nineteen bytes `YYYY-MM-DDThh:mm:ss` name, or the midnight that the ten bytes
-    /// `YYYY-MM-DD` name.
+    /// Parses the nineteen bytes `YYYY-MM-DDThh:mm:ss`, or the ten bytes `YYYY-MM-DD`, which mean midnight.
     ///
     /// # Errors
     ///
-    /// `BadPoint` exactly where the bytes are the text of no point.
+    /// `BadPoint` if and only if the bytes are not the text of a point.
     pub fn parse(text: &[u8]) -> Result<Point, BadPoint>
         ensures succeeds { IsOk result ↔ IsSomePointText text.now }
         ensures value { IfOk result (λ point. IsPointText text.now point) }
         ensures point { result_ok result ≡ point_of text.now }
 
-        // The text is the one that is written, or a midnight with its time.
+        // The text is the one that `write` appends, or a midnight written with its time.
         ensures writes_back { IfOk result (λ point. (text.now ≡ point_text point)
             ⊎ (text.now ≡ point_text point ++ time_text midnight)) }
     {
@@ -83,11 +81,11 @@ impl Point {
         })
     }
 
-    /// The point with that number.
+    /// Returns the point with that number.
     ///
     /// # Errors
     ///
-    /// `BadPoint` exactly where no point has it.
+    /// `BadPoint` if and only if no point has the number.
     pub fn from_number(number: i64) -> Result<Point, BadPoint>
         ensures succeeds { IsOk result ↔ IsPointNumber number }
         ensures value { IfOk result (λ point. point ≡ number) }
@@ -99,7 +97,7 @@ impl Point {
         }
     }
 
-    /// The seconds from 1970-01-01T00:00:00, negative before it.
+    /// Returns the seconds from 1970-01-01T00:00:00, negative before it.
     pub fn number(self) -> i64
         ensures value { result ≡ self }
         ensures bound { IsPointNumber result }
@@ -107,20 +105,20 @@ impl Point {
         self.number
     }
 
-    /// Appends the ten bytes `YYYY-MM-DD` at midnight, else the nineteen bytes `YYYY-MM-DDThh:mm:ss`.
+    /// Appends the ten bytes `YYYY-MM-DD` at midnight, otherwise the nineteen bytes `YYYY-MM-DDThh:mm:ss`.
     ///
     /// # Errors
     ///
-    /// `NoMemory` where a growth of `out` is refused; `out` is then unchanged.
+    /// `NoMemory` if a growth of `out` is refused; `out` is then unchanged.
     pub fn write<A: Allocator>(&self, out: &mut Vec<u8, A>) -> Result<(), NoMemory>
         ensures ok { OnOk result (out.new.items ≡ out.old.items ++ point_text self.now) }
         ensures err { OnErr result (out.new.items ≡ out.old.items) }
 
-        // Memory is asked for only where there is no room.
+        // No memory is requested if the capacity is enough.
         ensures room { vec_len out.old + length (point_text self.now) ≤ vec_capacity out.old
             → IsOk result }
 
-        // What is written is a text of the point, and is read as the point.
+        // The appended bytes are a text of the point, and parse as the point.
         ensures text { IsPointText (point_text self.now) self.now }
         ensures reads_back { point_of (point_text self.now) ≡ Some self.now }
 
@@ -138,7 +136,7 @@ impl Point {
         }
     }
 
-    // The date of the second.
+    // Returns the date of the second.
     fn date(&self) -> civil::Date
         ensures year { pos 1 ≤ℤ result.year }
         ensures number { epoch_day result ≡ day_of self.now }
@@ -149,7 +147,7 @@ impl Point {
         }
     }
 
-    // The second of its day.
+    // Returns the second of the day.
     fn second(&self) -> u32
         ensures bound { result < seconds_per_day }
         ensures value { result ≡ second_of self.now }
@@ -158,7 +156,7 @@ impl Point {
     }
 }
 
-/// The text that `write` appends.
+/// Writes the text that `write` appends.
 impl fmt::Display for Point {
     ghost output = { λ p. Some (point_text p) };
 
@@ -173,7 +171,7 @@ impl fmt::Display for Point {
     }
 }
 
-// Writes bytes of ASCII.
+// Writes ASCII bytes.
 fn write_ascii<W: fmt::Write>(f: &mut fmt::Formatter<W>, bytes: &[u8]) -> fmt::Result
     requires { IsAscii bytes.now }
     ensures { WritesOnOk W.write_str_gives f.old result bytes.now f.new }
@@ -184,7 +182,7 @@ fn write_ascii<W: fmt::Write>(f: &mut fmt::Formatter<W>, bytes: &[u8]) -> fmt::R
     }
 }
 
-// The number that two digits write.
+// Returns the number that two digits denote.
 fn two_digits(tens: u8, ones: u8) -> Option<u8>
     ensures { MatchOption result ((n : ℕ) → tens ∷ ones ∷ [] ≢ digits 2 n)
         (λ n. (n < 100) × (tens ∷ ones ∷ [] ≡ digits 2 n)) }
@@ -196,7 +194,7 @@ fn two_digits(tens: u8, ones: u8) -> Option<u8>
     }
 }
 
-// The numbers that three pairs of digits write, with a byte between them.
+// Returns the numbers that three pairs of digits denote, separated by a byte.
 fn three_pairs(text: &[u8], between: u8) -> Option<(u8, u8, u8)>
     ensures { MatchOption result ((a b c : ℕ)
         → text.now ≢ digits 2 a ++ between ∷ digits 2 b ++ between ∷ digits 2 c)
@@ -212,7 +210,7 @@ fn three_pairs(text: &[u8], between: u8) -> Option<(u8, u8, u8)>
     Some((first, second, third))
 }
 
-// The year, the month and the day that a text names, which there need not be.
+// Returns the year, month and day that a text denotes; the calendar may not have this day.
 fn date_parts(text: &[u8]) -> Option<(u16, u8, u8)>
     ensures { MatchOption result ((d : YearMonthDay) → text.now ≢ date_text d)
         (λ p. (p.0 ≤ 9999) × (p.1 < 100) × (p.2 < 100)
@@ -224,7 +222,7 @@ fn date_parts(text: &[u8]) -> Option<(u16, u8, u8)>
     Some((century as u16 * 100 + year as u16, month, day))
 }
 
-// The date, if the calendar has it.
+// Returns the date, if the calendar has it.
 fn date_of(year: u16, month: u8, day: u8) -> Option<civil::Date>
     requires { (year ≤ 9999) × (month < 100) × (day < 100) }
     ensures { MatchOption result (¬ IsDate (record { year = year; month = month; day = day }))
@@ -238,7 +236,7 @@ fn date_of(year: u16, month: u8, day: u8) -> Option<civil::Date>
     Some(date.to_plain())
 }
 
-// The time that the bytes behind a date name: midnight where there are none.
+// Returns the time that the bytes after a date denote; midnight if `text` is empty.
 fn time_of(text: &[u8]) -> Option<(u8, u8, u8)>
     ensures { MatchOption result ((t : HourMinuteSecond) → IsTime t → IsTimeText text.now t → ⊥)
         (λ p. IsTime (record { hour = p.0; minute = p.1; second = p.2 })
@@ -258,7 +256,7 @@ fn time_of(text: &[u8]) -> Option<(u8, u8, u8)>
     }
 }
 
-// The seconds from midnight.
+// Returns the seconds from midnight.
 fn second_number(hour: u8, minute: u8, second: u8) -> i64
     ensures { result ≡ pos
         (second_number (record { hour = hour; minute = minute; second = second })) }
@@ -266,7 +264,7 @@ fn second_number(hour: u8, minute: u8, second: u8) -> i64
     (hour as i64 * 60 + minute as i64) * 60 + second as i64
 }
 
-// The text of a date.
+// Returns the text of a date.
 fn text_of(date: &civil::Date) -> [u8; 10]
     requires { pos 1 ≤ℤ date.now.year }
     ensures { result ≡ date_text (year_month_day date.now) }
@@ -286,7 +284,7 @@ fn text_of(date: &civil::Date) -> [u8; 10]
     ]
 }
 
-// The text of a date, with that of the time behind it.
+// Returns the text of a date, followed by the text of the time.
 fn with_time(date: &[u8; 10], second: u32) -> [u8; 19]
     requires { second < seconds_per_day }
     ensures { result ≡ date.now ++ time_text (time_of_second second) }
@@ -317,7 +315,7 @@ fn with_time(date: &[u8; 10], second: u32) -> [u8; 19]
     ]
 }
 
-// The last digit of a number.
+// Returns the last digit of a number, in ASCII.
 fn digit(number: u16) -> u8
     ensures { result ≡ 48 + number % 10 }
 {

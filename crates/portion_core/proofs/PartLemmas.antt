@@ -1,4 +1,4 @@
--- What comes in the place of a row, part by part.
+-- The parts that replace a row.
 use Rattle.std.proofs.Common.{◌≡◌, ℕ, ◌+◌, ◌≤◌, List, ◌++◌, Option, Some, None, cond, length, refl, ap, ◌∙◌, arith, append_assoc, length-append}
 use Rattle.std.specs.Prelude.{is_some}
 use Rattle.period_core.specs.Period.{after as later, before, meet}
@@ -53,7 +53,7 @@ inside-few None period values = omega arith
 inside-few (Some sets) None values = omega arith
 inside-few (Some sets) (Some p) values = omega arith
 
--- three at most
+-- at most three
 pub parts_of-few : (change : PortionChange) (row : Row) → length (parts_of change row) ≤ 3
 parts_of-few change row =
     let first = part (before row.period change.portion) row.values in

@@ -1,4 +1,4 @@
--- Values for columns, place by place.
+-- Values for columns, by index.
 use Rattle.std.proofs.Common.{◌≡◌, ℕ, ◌+◌, ◌<◌, ◌≤◌, List, [], ◌∷◌, ◌&&◌, Bool, true, false, Option, Some, None, length, drop, get_or, set, replicate, zero, suc, add-one, refl, ap, sym, subst, ◌∙◌, arith}
 use Rattle.std.specs.Prelude.{option_map, slice_get, unwrap_or}
 use Rattle.std.proofs.Math.Bool.{and-false, and_assoc, and_comm}
@@ -9,12 +9,12 @@ use Rattle.row_core.proofs.ValueLemmas.{same_value_is}
 use Rattle.row_core.specs.declared.value.Value.{Value}
 use Rattle.portion_core.specs.Wanted.{are_wanted, with_set}
 
--- the value found in a column is the one that is wanted
+-- the value in a column is the wanted one
 abbrev pub is_met : Option Value → Option Value → Bool
 is_met None found = true
 is_met (Some one) found = unwrap_or (option_map (same_value one) found) false
 
--- nothing is wanted
+-- no wanted values
 pub none-wanted : (n : ℕ) (values : List Value) → are_wanted (replicate n None) values ≡ true
 none-wanted zero values = refl
 none-wanted (suc n) [] = none-wanted n []
@@ -25,12 +25,12 @@ none-set zero values = refl
 none-set (suc n) [] = refl
 none-set (suc n) (value ∷ values) = ap (λ l. value ∷ l) (none-set n values)
 
--- behind no values there are none
+-- dropping from an empty list
 drop-nil : (i : ℕ) → drop {A = Value} i [] ≡ []
 drop-nil zero = refl
 drop-nil (suc i) = refl
 
--- one column more
+-- one column further
 more-wanted : (wanted : List (Option Value)) (values : List Value) (i : ℕ) → i < length wanted
     → are_wanted (drop i wanted) (drop i values) ≡ (is_met (get_or wanted i None) (slice_get values i)
     && are_wanted (drop (suc i) wanted) (drop (suc i) values))
@@ -52,7 +52,7 @@ wanted-more wanted values i inside =
     subst (λ k. are_wanted (drop i wanted) (drop i values) ≡ (is_met (get_or wanted i None) (slice_get values i)
     && are_wanted (drop k wanted) (drop k values))) (sym (add-one i)) (more-wanted wanted values i inside)
 
--- a row of which no column is left has all that is wanted
+-- at the end no column remains
 pub wanted-all : (wanted : List (Option Value)) (values : List Value) (i : ℕ) → length wanted ≤ i
     → are_wanted (drop i wanted) values ≡ true
 wanted-all [] values zero past = refl
@@ -60,7 +60,7 @@ wanted-all [] values (suc i) past = refl
 wanted-all (one ∷ wanted) values zero past = absurd (omega arith)
 wanted-all (one ∷ wanted) values (suc i) past = wanted-all wanted values i (omega arith)
 
--- one value more
+-- one value further
 more-set : (sets : List (Option Value)) (values : List Value) (i : ℕ) (value : Value) → i < length values
     → with_set (drop i sets) (drop i values)
     ≡ unwrap_or (get_or sets i None) (get_or values i value) ∷ with_set (drop (suc i) sets) (drop (suc i) values)
@@ -86,7 +86,7 @@ with-more sets values i value inside =
     ≡ unwrap_or (get_or sets i None) (get_or values i value) ∷ with_set (drop k sets) (drop k values))
     (sym (add-one i)) (more-set sets values i value inside)
 
--- a value that is set takes the place of the one before
+-- a value that is set replaces the one before
 pub set-more : (sets : List (Option Value)) (values : List Value) (i : ℕ) (one : Value) → i < length sets
     → with_set (set sets i (Some one)) values ≡ set (with_set sets values) i one
 set-more [] values i one inside = absurd (omega arith)
@@ -96,7 +96,7 @@ set-more (s ∷ sets) (value ∷ values) zero one inside = refl
 set-more (s ∷ sets) (value ∷ values) (suc i) one inside =
     ap (λ l. unwrap_or s value ∷ l) (set-more sets values i one (omega arith))
 
--- no value is left
+-- at the end no value remains
 pub with-all : (sets : List (Option Value)) (values : List Value) (i : ℕ) → length values ≤ i
     → with_set sets (drop i values) ≡ []
 with-all sets [] i past = ap (with_set sets) (drop-nil i) ∙ none sets where
@@ -106,7 +106,7 @@ with-all sets [] i past = ap (with_set sets) (drop-nil i) ∙ none sets where
 with-all sets (value ∷ values) zero past = absurd (omega arith)
 with-all sets (value ∷ values) (suc i) past = with-all sets values i (omega arith)
 
--- rows that have all wanted values have each
+-- a row that has all wanted values has each of them
 pub each-wanted : (wanted : List (Option Value)) (values : List Value) (column : ℕ) (one : Value)
     → get_or wanted column None ≡ Some one → are_wanted wanted values ≡ true
     → unwrap_or (option_map (same_value one) (slice_get values column)) false ≡ true
@@ -122,9 +122,9 @@ each-wanted (None ∷ wanted) (value ∷ values) (suc column) one e all = each-w
 each-wanted (Some other ∷ wanted) (value ∷ values) (suc column) one e all =
     each-wanted wanted values column one e (and_parts (same_value other value) (are_wanted wanted values) all).1
 
--- ---- one value more is wanted
+-- ---- one wanted value more
 
--- a value that is wanted again
+-- the same value is wanted again
 pub wanted-again : (wanted : List (Option Value)) (values : List Value) (i : ℕ) (one other : Value)
     → get_or wanted i None ≡ Some one → same_value one other ≡ true
     → are_wanted wanted values
@@ -137,7 +137,7 @@ wanted-again wanted values i one other e same = by_test (are_wanted wanted value
       sym (ap (λ v. unwrap_or (option_map (same_value v) (slice_get values i)) false)
       (sym (same_value_is one other same)) ∙ each-wanted wanted values i one e all)
 
--- no values have two in one column
+-- no row has two different values in one column
 pub wanted-otherwise : (wanted : List (Option Value)) (values : List Value) (i : ℕ) (one other : Value)
     → get_or wanted i None ≡ Some one → same_value one other ≡ false
     → (are_wanted wanted values && unwrap_or (option_map (same_value other) (slice_get values i)) false) ≡ false
@@ -159,7 +159,7 @@ wanted-otherwise wanted values i one other e differs = by_test (are_wanted wante
   by_test false all = refl
   by_test true all = by_value (slice_get values i) (each-wanted wanted values i one e all)
 
--- a value for a column that had none
+-- a wanted value for a column that had none
 pub wanted-set : (wanted : List (Option Value)) (values : List Value) (i : ℕ) (one : Value) → i < length wanted
     → get_or wanted i None ≡ None
     → are_wanted (set wanted i (Some one)) values

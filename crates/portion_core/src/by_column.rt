@@ -7,8 +7,7 @@ ghost use Rattle.row_core.specs.Limits.{column_limit};
 use row_core::{COLUMN_LIMIT, Value};
 use std::marker::Model;
 
-/// A value, or none, for each place at which a table can have a column. Contracts see these, from the first
-/// place on.
+/// An optional value for each column index that a table can have. Contracts see the values, by index.
 #[derive(Drop)]
 pub struct ByColumn<'a> {
     values: [Option<&'a Value>; COLUMN_LIMIT],
@@ -28,7 +27,7 @@ impl<'a> Model for ByColumn<'a> {
 }
 
 impl<'a> ByColumn<'a> {
-    /// No value for any column.
+    /// Returns no value for any column.
     pub fn new() -> Self
         ensures { result ≡ replicate column_limit None }
     {
@@ -37,7 +36,7 @@ impl<'a> ByColumn<'a> {
         }
     }
 
-    /// How many places there are: as many as a table can have columns.
+    /// Returns the number of column indexes, which is the most columns of a table.
     #[inline(always)]
     pub fn width(&self) -> usize
         ensures width { result ≡ length self.now }
@@ -47,7 +46,7 @@ impl<'a> ByColumn<'a> {
         COLUMN_LIMIT
     }
 
-    /// The value for the column at that place, where there is one.
+    /// Returns the value for the column at index `column`, if there is one.
     #[inline(always)]
     pub fn get(&self, column: usize) -> Option<&'a Value>
         requires { column < length self.now }
@@ -57,7 +56,7 @@ impl<'a> ByColumn<'a> {
         values[column]
     }
 
-    /// Puts the value for the column at that place in the place of the one before.
+    /// Sets the value for the column at index `column`.
     pub fn set(&mut self, column: usize, value: &'a Value)
         requires { column < length self.old }
         ensures { self.new ≡ slice_set self.old column (Some value.now) }

@@ -1,7 +1,7 @@
 #![tactic(auto)]
 
-//! Changes of a portion of time, by the places of columns: which rows they take out, and what comes in the
-//! place of each.
+//! Changes of a portion of time, with columns given by index: the rows that they remove, and the rows that replace
+//! each.
 
 mod by_column;
 mod parts;

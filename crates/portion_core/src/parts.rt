@@ -1,4 +1,4 @@
-//! Whether a row has the wanted values, and its parts before, inside and after a portion.
+//! Whether a row meets the conditions, and its parts before, inside and after a portion.
 
 ghost use Rattle.std.specs.Prelude.{◌≡◌, ◌≤◌, ◌<◌, ◌++◌, List, None, Option, Some, false, get_or, is_some, length, option_map, slice_get, unwrap_or, if◌then◌else◌, IfOk, OnOk};
 ghost use Rattle.std.specs.Option.{option_copied};
@@ -17,7 +17,7 @@ use row_core::{NoMemory, Value};
 use std::alloc::Global;
 use table_core::RowRef;
 
-/// Whether the row has the values that are wanted.
+/// Returns whether the row has the wanted values.
 #[inline(always)]
 pub(crate) fn are_wanted(wanted: &ByColumn<'_>, row: RowRef<'_>) -> bool
     ensures { result ≡ are_wanted wanted.now (lent_row row.entry).values }
@@ -32,7 +32,7 @@ pub(crate) fn are_wanted(wanted: &ByColumn<'_>, row: RowRef<'_>) -> bool
     true
 }
 
-/// Whether the row's value in the column at that place is the one.
+/// Returns whether the row's value in the column equals `value`.
 #[inline(always)]
 fn is_equal_in(row: RowRef<'_>, column: usize, value: &Value) -> bool
     ensures { result ≡ unwrap_or (option_map (same_value value.now)
@@ -44,7 +44,7 @@ fn is_equal_in(row: RowRef<'_>, column: usize, value: &Value) -> bool
     }
 }
 
-/// How many parts of the row a change of the portion leaves and makes.
+/// Returns the number of parts of the row, before, inside and after the portion.
 pub(crate) fn count_changed(portion: &Period, row: RowRef<'_>) -> usize
     ensures parts { (sets : List (Option AnyValue)) → result
         ≡ length (part (before (lent_row row.entry).period portion.now) (lent_row row.entry).values
@@ -58,7 +58,7 @@ pub(crate) fn count_changed(portion: &Period, row: RowRef<'_>) -> usize
     one_if(before) + one_if(period.meet(portion)) + one_if(after)
 }
 
-/// How many parts of the row lie outside the portion.
+/// Returns the number of parts of the row outside the portion.
 pub(crate) fn count_outside(portion: &Period, row: RowRef<'_>) -> usize
     ensures parts { result
         ≡ length (part (before (lent_row row.entry).period portion.now) (lent_row row.entry).values
@@ -69,7 +69,7 @@ pub(crate) fn count_outside(portion: &Period, row: RowRef<'_>) -> usize
     one_if(before) + one_if(after)
 }
 
-/// A part counts only where its period has an instant.
+/// A part counts only if its period has an instant.
 fn one_if(period: Option<Period>) -> usize
     ensures { result ≡ (if is_some period then 1 else 0) }
 {
@@ -79,7 +79,7 @@ fn one_if(period: Option<Period>) -> usize
     }
 }
 
-/// Adds the parts of a row before, inside and after the portion, with the settings inside.
+/// Adds the parts of a row before, inside and after the portion, with the set values inside.
 pub(crate) fn push_changed(
     alloc: Global,
     new: &mut Drafts,
@@ -103,7 +103,7 @@ pub(crate) fn push_changed(
     Ok(())
 }
 
-/// Adds the parts of a row before and after the portion. Of a row without them no values are read.
+/// Adds the parts of a row before and after the portion. If there aren't any, the row's values aren't read.
 pub(crate) fn push_outside(
     alloc: Global,
     new: &mut Drafts,
@@ -135,7 +135,7 @@ fn push_part(new: &mut Drafts, period: Option<Period>, values: &[Value]) -> Resu
     }
 }
 
-/// The values with those that are set.
+/// Returns the values, with the set ones replaced.
 fn values_set(alloc: Global, sets: &ByColumn<'_>, values: &[Value]) -> Result<Vec<Value>, NoMemory>
     ensures { IfOk result (λ now. now.items ≡ with_set sets.now values.now) }
 {
@@ -146,7 +146,7 @@ fn values_set(alloc: Global, sets: &ByColumn<'_>, values: &[Value]) -> Result<Ve
     Ok(now)
 }
 
-/// The value with the one that is set in its column, if one is.
+/// Returns the value that is set for the column, or the old one.
 fn value_set(
     alloc: Global,
     sets: &ByColumn<'_>,

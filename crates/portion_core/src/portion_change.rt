@@ -13,8 +13,8 @@ use row_core::NoMemory;
 use std::alloc::Global;
 use table_core::RowRef;
 
-/// A change of the rows that have the wanted values, within the portion: an update has settings, a delete
-/// none. All are by the places of the table's columns.
+/// A change, within the portion, of the rows that meet the conditions: an update has set values, a delete has none.
+/// Values are by column index.
 #[derive(Drop)]
 pub struct PortionChange<'a> {
     pub portion: Period,
@@ -23,8 +23,8 @@ pub struct PortionChange<'a> {
 }
 
 impl<'a> PortionChange<'a> {
-    /// Whether the change takes out the row. This and what it calls become part of the loop over the rows,
-    /// which a call for each would make slower.
+    /// Returns whether the change removes the row. This function and its callees are inlined into the loop over the
+    /// rows, since a call for each row would be slower.
     #[inline(always)]
     pub fn takes_out(&self, row: RowRef<'_>) -> bool
         ensures { result ≡ takes_out self.now (lent_row row.entry) }
@@ -32,7 +32,7 @@ impl<'a> PortionChange<'a> {
         are_wanted(&self.conds, row) && self.reaches(&row.period())
     }
 
-    /// Whether the portion shares an instant with the period. The change takes out no row where it doesn't.
+    /// Returns whether the portion overlaps the period. If it doesn't, the change doesn't remove the row.
     #[inline(always)]
     pub fn reaches(&self, period: &Period) -> bool
         ensures { result ≡ is_some (meet period.now self.now.portion) }
@@ -40,7 +40,7 @@ impl<'a> PortionChange<'a> {
         period.overlaps(self.portion)
     }
 
-    /// How many rows come in the place of the row.
+    /// Returns how many rows replace the row.
     pub fn count_parts(&self, row: RowRef<'_>) -> usize
         ensures parts { result ≡ length (parts_of self.now (lent_row row.entry)) }
         ensures few { result ≤ 3 }
@@ -51,11 +51,11 @@ impl<'a> PortionChange<'a> {
         }
     }
 
-    /// Adds what comes in the place of a row that the change takes out.
+    /// Adds the rows that replace a removed row.
     ///
     /// # Errors
     ///
-    /// `NoMemory` where a growth is refused.
+    /// `NoMemory` if an allocation is refused.
     pub fn push_parts(
         &self,
         alloc: Global,

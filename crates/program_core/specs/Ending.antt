@@ -6,14 +6,14 @@ use Rattle.script_core.specs.declared.outcome.Outcome.{Outcome}
 use Rattle.program_core.specs.declared.ending.Ending.{Ending}
 use Rattle.program_core.specs.declared.ending.Ending.TheVariants.{Answered, Helped, Usage, Fault}
 
--- the ending of a run with that outcome or fault, whose output could be flushed or couldn't
+-- The ending of a run with this outcome or fault. The flag says whether its output could be flushed.
 abbrev pub ending_of : Result Outcome RunFault → Bool → Ending
 ending_of (Ok outcome) true = Answered outcome
 ending_of (Ok outcome) false = Fault WriteFault
 ending_of (Err fault) is_flushed = Fault fault
 
--- 0 where no `error` record was printed or the help page was, 1 where an `error` record was, 2 for a fault
--- in the command line, 3 for a fault of the run
+-- 0 if no `error` record was printed, or if the help page was; 1 if an `error` record was printed; 2 for a fault in the
+-- command line; 3 for a fault of the run.
 abbrev pub status_of : Ending → ℕ
 status_of (Answered outcome) = if outcome.errors == 0 then 0 else 1
 status_of Helped = 0

@@ -9,7 +9,7 @@ use std::env::{self, Env};
 use std::io::{ErrorKind, Print};
 use words_core::{Words, WordsRefused, read_words};
 
-/// What the program's words ask for. A word that is no UTF-8 is none that a program takes.
+/// Returns what the program's words ask for. A word that isn't UTF-8 is never accepted.
 pub fn asked(rt: &(impl Env + Alloc<A = Global>)) -> Result<Words, WordsRefused>
     ensures { IfOk result IsRunnable }
 {

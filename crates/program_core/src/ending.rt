@@ -21,7 +21,7 @@ pub enum Ending {
 }
 
 impl Ending {
-    /// The exit status of the program.
+    /// Returns the exit status of the program.
     pub fn status(self) -> u8
         ensures { result ≡ status_of self }
     {
@@ -33,8 +33,8 @@ impl Ending {
         }
     }
 
-    /// Says on standard error what went wrong, if anything did, as the program of this name that takes these words.
-    /// Returns the exit status.
+    /// Reports on standard error what went wrong, if anything did, for the program of this name. Returns the exit
+    /// status.
     pub fn report(self, rt: &impl Eprint, name: &str, usage: &str) -> ExitCode {
         let _ = match self {
             Ending::Answered(_) => Ok(()),
@@ -55,7 +55,7 @@ impl From<WordsRefused> for Ending {
     }
 }
 
-/// The ending of a run with that outcome or fault, whose output could be flushed or couldn't.
+/// Returns the ending of a run with this outcome or fault. `is_flushed` says whether its output could be flushed.
 pub fn ending_of(outcome: Result<Outcome, RunFault>, is_flushed: bool) -> Ending
     ensures { result ≡ ending_of outcome is_flushed }
 {

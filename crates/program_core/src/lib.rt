@@ -1,4 +1,4 @@
-//! What the programs have in common: what their words ask for, and how they end.
+//! What both programs have in common: reading their words, and ending.
 #![tactic(auto)]
 
 mod calling;

@@ -1,4 +1,4 @@
--- Rows that are found by their ids.
+-- Rows that are found by id.
 use Rattle.std.proofs.Common.{◌≡◌, ◌≢◌, ℕ, zero, suc, ◌+◌, ◌-◌, ◌<◌, ◌≤◌, true, false, cond, List, [], ◌∷◌, length, get_or, set, Some, None, refl, sym, subst, ap, ◌∙◌, inl, inr, arith, eq-eqb, get_or-set_same, get_or-set_other}
 use Rattle.std.specs.Prelude.{All, AllPairs, Contains, find, ◌==◌, slice_get}
 use Rattle.std.proofs.lemmas.Bool.{cases_eq, cases_lt, ne_eqb}
@@ -10,9 +10,9 @@ use Rattle.row_core.specs.declared.row.Row.{Row}
 use Rattle.list_core.proofs.RisingLemmas.{AllPairs-head, AllPairs-tail, Contains-cons_cases, Contains-none}
 use Rattle.match_core.proofs.RowItems.{ids_rise}
 
--- ---- rows by rising id
+-- ---- rows by ascending id
 
--- ids that rise are at least as far apart as their rows
+-- ascending ids are at least as far apart as their rows
 ids_apart : (rows : List Row) → RowsRise rows → (i k : ℕ) (d : Row) → i + k < length rows
     → (get_or rows i d).id + k ≤ (get_or rows (i + k) d).id
 ids_apart rows rise i zero d within = let e : i + 0 ≡ i = omega arith in
@@ -35,7 +35,7 @@ first_low rows k x d rise some here within =
     ap (λ (r : Row). r.id) (sym here ∙ get_or_read rows 0 x some here d) in
     omega (arith, there, same)
 
--- rows of one id stand at one place
+-- an id is at one index
 one_place : (rows : List Row) → RowsRise rows → (i k : ℕ) (d : Row) → i < length rows → k < length rows
     → (get_or rows i d).id ≡ (get_or rows k d).id → i ≡ k
 one_place rows rise i k d hi hk same = elim (cases_lt i k) [
@@ -55,7 +55,7 @@ one_place rows rise i k d hi hk same = elim (cases_lt i k) [
       omega (arith, there, same))
 ]
 
--- a row of a list whose ids rise is found by its id
+-- a row of a list with ascending ids is found by its id
 find_in : (rows : List Row) (x : Row) → AllPairs (λ (x : Row) (y : Row). x.id < y.id) rows → Contains rows x
     → find (λ row. row.id == x.id) rows ≡ Some x
 find_in [] x rise h = absurd (Contains-none x h)
@@ -71,14 +71,14 @@ find_in (r ∷ rows) x rise h =
           ∙ find_in rows x (AllPairs-tail (λ (x : Row) (y : Row). x.id < y.id) r rows rise) k)
     ]
 
--- the row at a place is found by its id
+-- the row at an index is found by its id
 pub find_at_place : (rows : List Row) (p id : ℕ) (x : Row) → RowsRise rows → p < length rows → x ≡ get_or rows p x
     → x.id ≡ id → Some x ≡ find (λ row. row.id == id) rows
 find_at_place rows p id x rise within here same =
     let has : Contains rows x = subst (Contains rows) (sym here) (Contains-get_or rows p x within) in
     sym (subst (λ n. find (λ (row : Row). row.id == n) rows ≡ Some x) same (find_in rows x (ids_rise rows rise) has))
 
--- where no row has the id, none is found
+-- if no row has the id, none is found
 pub find_nowhere : (rows : List Row) (id : ℕ)
     → ((p : ℕ) (d : Row) → p < length rows → (get_or rows p d).id ≢ id) → None ≡ find (λ row. row.id == id) rows
 find_nowhere [] id none = refl
@@ -87,14 +87,14 @@ find_nowhere (r ∷ rows) id none =
     find_nowhere rows id (λ p d lt. none (suc p) d (omega arith))
     ∙ ap (λ b. cond b (Some r) (find (λ (row : Row). row.id == id) rows)) (sym other)
 
--- ---- places
+-- ---- indices
 
--- the places of the first n rows stand at their ids
+-- The indices of the first `n` rows are stored at their ids.
 abbrev pub ArePlacesOf : ℕ → ℕ → List Row → List ℕ → Type 0
 ArePlacesOf n first rows places = (k : ℕ) (d : Row) → k < n → (get_or rows k d).id - first < length places
     → get_or places ((get_or rows k d).id - first) 0 ≡ k
 
--- a row stands no later than its id comes behind the first
+-- a row's index is at most its id's distance from the first id
 pub place_low : (rows : List Row) (first i : ℕ) (x : Row) → RowsRise rows
     → All (λ (row : Row). first ≤ row.id) rows → i < length rows → x ≡ get_or rows i x → i ≤ x.id - first
 place_low rows first i x rise low within here =
@@ -106,7 +106,7 @@ place_low rows first i x rise low within here =
     let same : x.id ≡ (get_or rows i x).id = ap (λ (r : Row). r.id) here in
     omega (arith, there, least, same)
 
--- the place of one more row
+-- the index of one more row
 pub placed_more : (rows : List Row) (places : List ℕ) (first i at : ℕ) (x : Row) → RowsRise rows
     → All (λ (row : Row). first ≤ row.id) rows → i < length rows → x ≡ get_or rows i x → at ≡ x.id - first
     → at < length places → ArePlacesOf i first rows places → ArePlacesOf (i + 1) first rows (set places at i)
@@ -127,7 +127,7 @@ placed_more rows places first i at x rise low within here is inside before k d l
           get_or-set_other places at own i 0 other ∙ before k d (omega arith) (omega (arith, room, len)))
     ]
 
--- a row whose id comes behind all places has none
+-- a row whose id is past the stored indices has none
 pub placed_less : (rows : List Row) (places : List ℕ) (first i at : ℕ) (x : Row) → i < length rows
     → x ≡ get_or rows i x → at ≡ x.id - first → length places ≤ at → ArePlacesOf i first rows places
     → ArePlacesOf (i + 1) first rows places
@@ -141,16 +141,16 @@ placed_less rows places first i at x within here is outside before k d lt room =
       | inr ne ↦ before k d (omega arith) room
     ]
 
--- ---- a search by halves
+-- ---- a binary search
 
--- the row that is looked for stands from the one place on and before the other, if there is one
+-- The row with the id, if there is one, has an index from `low` on, below `high`.
 pub record IsBetween (rows : List Row) (id low high : ℕ) : Type 0 where
   pub ordered : low ≤ high
   pub within : high ≤ length rows
   pub below : (k : ℕ) (d : Row) → k < low → (get_or rows k d).id < id
   pub above : (k : ℕ) (d : Row) → high ≤ k → k < length rows → id ≤ (get_or rows k d).id
 
--- at first it stands anywhere
+-- at first any index is possible
 pub between_all : (rows : List Row) (id high : ℕ) → high ≡ length rows → IsBetween rows id 0 high
 between_all rows id high e = record {
   ordered = omega arith;
@@ -159,7 +159,7 @@ between_all rows id high e = record {
   above = λ k d from lt. absurd (omega (arith, from, lt, e));
 }
 
--- behind a row of a lower id
+-- the row is after a row with a lower id
 pub between_later : (rows : List Row) (id low high middle : ℕ) (x : Row) → RowsRise rows → middle < high
     → slice_get rows middle ≡ Some x → x.id < id → IsBetween rows id low high → IsBetween rows id (middle + 1) high
 between_later rows id low high middle x rise before here less was = record {
@@ -176,7 +176,7 @@ between_later rows id low high middle x rise before here less was = record {
   above = was.above;
 }
 
--- no later than a row of no lower id
+-- the row isn't after a row whose id isn't lower
 pub between_earlier : (rows : List Row) (id low high middle : ℕ) (x : Row) → RowsRise rows → low ≤ middle
     → middle < high → slice_get rows middle ≡ Some x → id ≤ x.id → IsBetween rows id low high
     → IsBetween rows id low middle
@@ -193,7 +193,7 @@ between_earlier rows id low high middle x rise from before here more was = recor
       ];
 }
 
--- where the places meet, it stands there
+-- if both bounds meet, the row is there
 pub place_met : (rows : List Row) (id low high : ℕ) → RowsRise rows → high ≤ low → IsBetween rows id low high
     → (k : ℕ) (d : Row) → k < length rows → (get_or rows k d).id ≡ id → low ≡ k
 place_met rows id low high rise met was k d lt same = elim (cases_lt k low) [

@@ -21,7 +21,7 @@ use Rattle.anti_core.specs.Anti.{IsAnti, IsMet, IsUnmet}
 use Rattle.anti_core.proofs.AntiExistence.{met-cases, met-more}
 use Rattle.query_core.specs.Outer.{EachInstantIsListed, IsAlone, IsJoined, NoInstantIsListedTwice, NoOtherIsListed}
 
--- a period holds an instant, or it doesn't
+-- it is decidable whether a period holds an instant
 holds_or_not : (p : Period) (t : ℤ) → Holds p t ⊎ (Holds p t → ⊥)
 holds_or_not p t = elim (by_order p.from t) [
   | inl low ↦ elim (by_order p.to t) [
@@ -38,7 +38,7 @@ shared_by a b t one other None holds = absurd ((holds t).1 (one, other))
 shared_by a b t one other (Some p) holds = (p, holds, (holds t).1 (one, other))
 
 module _ (Matches : Row → Row → Type 0) (decided : (x y : Row) → Matches x y ⊎ (Matches x y → ⊥)) where
-  -- an instant of a row is met, or it isn't
+  -- it is decidable whether an instant is met
   met_or_not : (right : List Row) (x : Row) (t : ℤ) → IsMet Matches right x t ⊎ (IsMet Matches right x t → ⊥)
   met_or_not [] x t = inr (λ m. Contains-none m.by m.by_in)
   met_or_not (y ∷ right) x t = elim (met_or_not right x t) [
@@ -58,7 +58,7 @@ module _ (Matches : Row → Row → Type 0) (decided : (x y : Row) → Matches x
     ]
   ]
 
-  -- it is unmet, or it isn't
+  -- it is decidable whether it is unmet
   unmet_or_not : (right : List Row) (x : Row) (t : ℤ) → IsUnmet Matches right x t ⊎ (IsUnmet Matches right x t → ⊥)
   unmet_or_not right x t = elim (holds_or_not x.period t) [
     | inl held ↦ elim (met_or_not right x t) [
@@ -71,7 +71,7 @@ module _ (Matches : Row → Row → Type 0) (decided : (x y : Row) → Matches x
   module _ (left right : List Row) (joined : List JoinRow) (alone : List AntiRow)
       (is_join : IsJoin Matches left right joined)
       (is_anti : IsAnti Matches left right alone) (x : Row) (t : ℤ) (x_in : Contains left x) where
-    -- what is met is in the join
+    -- a met instant is in the join
     joined_of : Holds x.period t → IsMet Matches right x t → IsJoined joined x.id t
     joined_of held m =
         let (p, shared, inside) =
@@ -93,7 +93,7 @@ module _ (Matches : Row → Row → Type 0) (decided : (x y : Row) → Matches x
           holds = inside;
         }
 
-    -- what is unmet is in the anti-join
+    -- an unmet instant is in the anti-join
     alone_of : IsUnmet Matches right x t → IsAlone alone x.id t
     alone_of u =
         let (p, inside, maximal) =
@@ -115,7 +115,7 @@ module _ (Matches : Row → Row → Type 0) (decided : (x y : Row) → Matches x
     ]
 
     module _ (rise : RowsRise left) where
-      -- what is in the join is met
+      -- an instant in the join is met
       met_of : IsJoined joined x.id t → Holds x.period t × IsMet Matches right x t
       met_of is =
           let of = (is_join.exactly is.row).0 is.row_in in
@@ -130,22 +130,22 @@ module _ (Matches : Row → Row → Type 0) (decided : (x y : Row) → Matches x
             },
           )
 
-      -- what is in the anti-join is unmet
+      -- an instant in the anti-join is unmet
       unmet_of : IsAlone alone x.id t → IsUnmet Matches right x t
       unmet_of is =
           let of = (is_anti.exactly is.row).0 is.row_in in
           let same : of.x ≡ x = row_once left rise of.x x of.x_in x_in (sym of.id ∙ is.id_is) in
           subst (λ (v : Row). IsUnmet Matches right v t) same (of.maximal.inside t is.holds)
 
-      -- so none is in both
+      -- so no instant is in both
       apart : IsJoined joined x.id t → IsAlone alone x.id t → ⊥
       apart one other = (unmet_of other).unmet (met_of one).1
 
-      -- and what is in one of them is an instant of the row
+      -- and an instant in one of them is an instant of the row
       only : IsJoined joined x.id t ⊎ IsAlone alone x.id t → Holds x.period t
       only is = elim is [ inl one ↦ (met_of one).0 | inr other ↦ (unmet_of other).held ]
 
--- whatever the columns
+-- for any columns
 pub each_instant_is_listed : EachInstantIsListed
 each_instant_is_listed left_columns right_columns on left right joined alone is_join is_anti x t x_in =
     listed (MatchesOn left_columns right_columns on) (match_or_not left_columns right_columns on) left right joined alone

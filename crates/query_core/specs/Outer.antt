@@ -11,21 +11,21 @@ use Rattle.join_core.specs.Join.{IsJoin}
 use Rattle.anti_core.specs.declared.rows.AntiRow.{AntiRow}
 use Rattle.anti_core.specs.Anti.{IsAnti}
 
--- some row of a join that has the left id holds t
+-- Some row of the join with the left id holds `t`.
 pub record IsJoined (joined : List JoinRow) (id : ℕ) (t : ℤ) : Type 0 where
   pub row : JoinRow
   pub row_in : Contains joined row
   pub left_id : row.left ≡ id
   pub holds : Holds row.period t
 
--- some row of an anti-join that has the id holds t
+-- Some row of the anti-join with the id holds `t`.
 pub record IsAlone (alone : List AntiRow) (id : ℕ) (t : ℤ) : Type 0 where
   pub row : AntiRow
   pub row_in : Contains alone row
   pub id_is : row.id ≡ id
   pub holds : Holds row.period t
 
--- what is so of each left row and each instant, with the join and the anti-join of the same rows by the same columns
+-- A fact about each left row and each instant, for the join and the anti-join of the same rows by the same columns.
 abbrev pub OfLeftRows : (List Row → List JoinRow → List AntiRow → Row → ℤ → Type 0) → Type 0
 OfLeftRows Is = (left_columns right_columns : List Column) (on : List NamePair) (left right : List Row)
     (joined : List JoinRow) (alone : List AntiRow)
@@ -33,17 +33,17 @@ OfLeftRows Is = (left_columns right_columns : List Column) (on : List NamePair) 
     → IsAnti (MatchesOn left_columns right_columns on) left right alone
     → (x : Row) (t : ℤ) → Contains left x → Is left joined alone x t
 
--- an instant that the row holds is in one of the two
+-- An instant that the row holds is in one of the two.
 abbrev pub EachInstantIsListed : Type 0
 EachInstantIsListed = OfLeftRows
     (λ left joined alone x t. Holds x.period t → IsJoined joined x.id t ⊎ IsAlone alone x.id t)
 
--- where ids rise, none is in both
+-- If ids are ascending, no instant is in both.
 abbrev pub NoInstantIsListedTwice : Type 0
 NoInstantIsListedTwice = OfLeftRows
     (λ left joined alone x t. RowsRise left → IsJoined joined x.id t → IsAlone alone x.id t → ⊥)
 
--- and what is in one of the two is an instant that the row holds
+-- If ids are ascending, an instant in one of the two is an instant that the row holds.
 abbrev pub NoOtherIsListed : Type 0
 NoOtherIsListed = OfLeftRows
     (λ left joined alone x t. RowsRise left → IsJoined joined x.id t ⊎ IsAlone alone x.id t → Holds x.period t)

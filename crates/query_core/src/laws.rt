@@ -1,4 +1,4 @@
-//! A law of joins and anti-joins.
+//! A law on joins and anti-joins.
 
 ghost use Rattle.query_core.specs.Outer.{
   EachInstantIsListed,
@@ -6,9 +6,10 @@ ghost use Rattle.query_core.specs.Outer.{
   NoOtherIsListed,
 };
 
-/// The join and the anti-join of the same rows by the same columns share out the instants of left rows, so a join that
-/// keeps unmatched left rows is both: each instant that a left row holds is one of a row of the join or of the anti-join
-/// that has its id, and, where ids rise, never of both, and no other instant is.
+/// The join and the anti-join of the same rows by the same columns partition the instants of left rows, so together
+/// they are a join that keeps unmatched left rows. Each instant that a left row holds is in a row of the join or of
+/// the anti-join with its id. If ids are ascending, it is never in both, and the rows with its id hold no other
+/// instant.
 pub fn join_and_anti_share_left_rows()
     ensures each { EachInstantIsListed }
     ensures once { NoInstantIsListedTwice }

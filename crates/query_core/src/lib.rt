@@ -1,7 +1,8 @@
 #![tactic(auto)]
 
-//! Queries over the rows of tables: what held at a point, the division of a table's rows, and rows by their ids; and, by
-//! the crates that answer them, joins, anti-joins and aggregates, with the jobs that their workers run.
+//! Queries over the rows of tables: the rows that hold at a point, the division of a table's rows, and rows by id. It
+//! also exports joins, anti-joins and aggregates from the crates that answer them, with the jobs that their workers
+//! run.
 
 mod laws;
 mod query;

@@ -1,4 +1,4 @@
-//! Finds rows by their ids.
+//! Finding rows by id.
 
 ghost use Rattle.std.specs.Prelude.{◌≡◌, ◌==◌, ℕ, ◌*◌, ◌<◌, ◌≤◌, All, IfOk, find, length, option_map, slice_index_or};
 ghost use Rattle.row_core.specs.Rows.{RowsRise};
@@ -14,16 +14,16 @@ use table_core::{RowRef, SharedRows};
 /// The most ids, from the first row's on, whose rows are found without a search.
 const PLACE_LIMIT: usize = 1_000_000;
 
-/// The most of them for each row, so that few rows with ids far apart take little memory.
+/// The most of these ids per row, so that few rows with distant ids need little memory.
 const PLACES_PER_ROW: usize = 4;
 
-/// Rows by rising id, and where each of them is. Contracts see the list of the rows.
+/// Rows by ascending id, and their indices by id. Contracts see the list of rows.
 #[derive(Drop)]
 pub struct RowsById<'a> {
     rows: &'a SharedRows,
     /// The first row's id.
     first: u64,
-    /// Where the row of each id from the first on is; any number where there is no such row.
+    /// The index of the row for each id from `first` on; any number if there is no such row.
     places: Vec<u32>,
 }
 
@@ -40,12 +40,12 @@ impl<'a> Model for RowsById<'a> {
 }
 
 impl<'a> RowsById<'a> {
-    /// These rows, to be found by their ids. At most 4 numbers of 32 bits are kept for each row, and at most
+    /// Prepares the rows for a search by id. It stores at most 4 numbers of 32 bits for each row, and at most
     /// 1,000,000, whatever the ids are.
     ///
     /// # Errors
     ///
-    /// `NoMemory` where a growth is refused.
+    /// `NoMemory` if an allocation is refused.
     pub fn new(alloc: Global, rows: &'a SharedRows) -> Result<RowsById<'a>, NoMemory>
         requires { RowsRise rows.now }
         ensures { IfOk result (λ found. found ≡ rows.entry.now) }
@@ -59,8 +59,8 @@ impl<'a> RowsById<'a> {
         })
     }
 
-    /// The row of that id, in constant time where no more ids than are kept lie between the first row's and
-    /// its own, and else by halves.
+    /// Returns the row with the id, or `None`. The time is constant if the id's distance from the first id is below
+    /// the number of stored indices; otherwise it is a binary search.
     pub fn get(&self, id: u64) -> Option<RowRef<'a>>
         ensures { option_map lent_row result ≡ find (λ row. row.id == id) self.now }
     {
@@ -68,7 +68,7 @@ impl<'a> RowsById<'a> {
     }
 }
 
-/// The first row's id, and 0 without rows.
+/// Returns the first row's id, or 0 without rows.
 fn first_id(rows: &SharedRows) -> u64
     requires { RowsRise rows.now }
     ensures { All (λ row. result ≤ row.id) rows.now }
@@ -79,7 +79,7 @@ fn first_id(rows: &SharedRows) -> u64
     rows.at(0).id()
 }
 
-/// How many places are kept of the rows.
+/// Returns how many indices are stored.
 fn count_of_places(rows: &SharedRows, first: u64) -> usize
     ensures limit { result ≤ place_limit }
     ensures few { result ≤ 4 * length rows.now }
@@ -97,7 +97,7 @@ fn count_of_places(rows: &SharedRows, first: u64) -> usize
     }
 }
 
-/// The places of the rows by their ids.
+/// Returns the indices of the rows by id.
 fn places_of(alloc: Global, rows: &SharedRows, first: u64) -> Result<Vec<u32>, NoMemory>
     requires rise { RowsRise rows.now }
     requires low { All (λ row. first ≤ row.id) rows.now }
@@ -109,7 +109,7 @@ fn places_of(alloc: Global, rows: &SharedRows, first: u64) -> Result<Vec<u32>, N
     Ok(places)
 }
 
-/// Puts the place of each row to its id.
+/// Stores the index of each row for its id.
 fn put_places(rows: &SharedRows, first: u64, places: &mut [u32])
     requires rise { RowsRise rows.now }
     requires low { All (λ row. first ≤ row.id) rows.now }
@@ -125,7 +125,7 @@ fn put_places(rows: &SharedRows, first: u64, places: &mut [u32])
     }
 }
 
-/// The row of that id.
+/// Returns the row with the id.
 fn row_with<'a>(rows: &'a SharedRows, first: u64, places: &[u32], id: u64) -> Option<RowRef<'a>>
     requires { ArePlacesOfRows first rows.now places.now }
     ensures { option_map lent_row result ≡ find (λ row. row.id == id) rows.entry.now }
@@ -138,7 +138,7 @@ fn row_with<'a>(rows: &'a SharedRows, first: u64, places: &[u32], id: u64) -> Op
     if row.id() == id { Some(row) } else { None }
 }
 
-/// The place of the row of that id; any place, or one behind all, where there is no such row.
+/// Returns the index of the row with the id. Without such a row it returns any index, or the number of rows.
 fn place_of(rows: &SharedRows, first: u64, places: &[u32], id: u64) -> usize
     requires { ArePlacesOfRows first rows.now places.now }
     ensures { (k : ℕ) (d : Row) → k < length rows.now → (slice_index_or rows.now k d).id ≡ id
@@ -152,7 +152,7 @@ fn place_of(rows: &SharedRows, first: u64, places: &[u32], id: u64) -> usize
     }
 }
 
-/// The place of the first row whose id isn't below that one, found by halves.
+/// Returns the index of the first row whose id isn't below `id`, by binary search.
 fn place_by_halves(rows: &SharedRows, id: u64) -> usize
     requires { RowsRise rows.now }
     ensures { (k : ℕ) (d : Row) → k < length rows.now → (slice_index_or rows.now k d).id ≡ id

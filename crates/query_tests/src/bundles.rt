@@ -1,4 +1,4 @@
-//! Joins of tables of many numbers: some numbers at a time.
+//! Joins of tables with many different numbers, which are divided a few numbers at a time.
 
 use crate::queries::joined;
 use crate::tables::{Table, TablePair, compared, days, january, number_pair, numbers_of};
@@ -25,7 +25,7 @@ impl Gate for Pairs {
     fn leave(&self, _pair: PairName) {}
 }
 
-// So many days from that one on.
+// Returns the period of `len` days from a day on.
 fn spell(rt: &impl Abort, days: &[Point], day: u32, len: u32) -> Period {
     let from = days.get(day as usize).expect(rt, "a day");
     let to = days
@@ -34,8 +34,8 @@ fn spell(rt: &impl Abort, days: &[Point], day: u32, len: u32) -> Period {
     Period::new(*from, *to).expect(rt, "a period")
 }
 
-// 9,000 rows of some days each: row i starts on day i of the first 364 of the year, and then again. Nine rows after
-// another have one number.
+// Returns a table of 9,000 rows of `len` days each. Row `i` starts on day `i % 364` of the year. Each nine consecutive
+// rows have one number.
 fn in_nines(rt: &(impl Abort + Alloc<A = Global>), days: &[Point], len: u32) -> Table {
     let mut rows = Vec::new(rt.alloc());
     for i in 0..9_000u32 {
@@ -45,7 +45,8 @@ fn in_nines(rt: &(impl Abort + Alloc<A = Global>), days: &[Point], len: u32) -> 
     numbers_of(rt, &rows)
 }
 
-// A left row shares its day with the right row of its place, and with the one before it where that has its number.
+// Checks that the left row shares its day with the right row at the same index, or with the one before it that has the
+// same number.
 fn check_row(rt: &impl Abort, row: &JoinRow, days: &[Point]) {
     let place = row.left.saturating_sub(1);
     let day = (place % 364) as u32;
@@ -53,9 +54,10 @@ fn check_row(rt: &impl Abort, row: &JoinRow, days: &[Point]) {
     assert!(rt; row.right == row.left || (row.right == place && place % 9 != 0 && day != 0));
 }
 
-// Of 9,000 left rows 1,000 are the first of their number, 25 start the year again, and 3 do both. Divided all together
-// they would be 25 and 50 parts, each pair of which would be read in a thousand advances; rows of one number are read
-// beside each other alone.
+// Every left row is joined with the right row at its index. It is also joined with the right row before, unless it is
+// the first with its number (1,000 rows) or starts the year again (25 rows; 3 do both). If all rows were divided
+// together, there would be 25 and 50 parts, and each pair of parts would take about 1,000 advances. Instead only rows
+// of one number are merged with each other.
 fn check_nines(
     rt: &(impl Abort + Alloc<A = Global> + Threads + Sync),
     pair: &TablePair,
@@ -85,7 +87,7 @@ fn joins_few_values_at_a_time(rt: HostRuntime) -> Result<(), Fail> {
     Ok(())
 }
 
-// 600 rows of one day, each of a number of its own.
+// Returns 600 rows of one day, each with a number of its own.
 fn of_one_day(rt: &(impl Abort + Alloc<A = Global>)) -> Vec<(u8, u8, i64)> {
     let mut rows = Vec::new(rt.alloc());
     for number in 0..600 {
@@ -94,8 +96,8 @@ fn of_one_day(rt: &(impl Abort + Alloc<A = Global>)) -> Vec<(u8, u8, i64)> {
     rows
 }
 
-// Divided all together they would be as many parts: so many pairs of parts are answered as advances, and far fewer
-// are run.
+// If all rows were divided together, there would be 600 parts on each side. The answered turns are the number of pairs
+// of these parts; far fewer pairs are run.
 #[test]
 fn joins_few_values_of_one_day(rt: HostRuntime) {
     let rows = of_one_day(&rt);
@@ -113,7 +115,7 @@ fn joins_few_values_of_one_day(rt: HostRuntime) {
     assert!(rt; gate.run.load(Ordering::SeqCst) < 12_000);
 }
 
-// 800 rows of those days, and a row of the whole month, all of one number.
+// Returns 800 rows of these days and one row of the whole month, all with one number.
 fn of_days_and_a_month(
     rt: &(impl Abort + Alloc<A = Global>),
     from: u8,
@@ -127,7 +129,7 @@ fn of_days_and_a_month(
     rows
 }
 
-// Rows of different days don't meet: each meets the other side's row of the month, the last one.
+// Rows of different days aren't joined: each is joined only with the other side's row of the month, which is the last.
 fn check_month(rt: &impl Abort, row: &JoinRow) {
     assert!(rt; row.left == 801 || row.right == 801);
     let (from, to) = if row.left < 801 {
@@ -140,8 +142,8 @@ fn check_month(rt: &impl Abort, row: &JoinRow) {
     assert!(rt; row.period == january(rt, from, to));
 }
 
-// Either side has as many parts as rows, 801. Nearly none of their pairs is run: rows of one day are read beside the row
-// of the month alone.
+// Each side has 801 rows in as many parts. Hardly any of their pairs are run: rows of one day are merged only with the
+// row of the month.
 #[test]
 fn joins_a_value_of_different_days(rt: HostRuntime) {
     let lefts = of_days_and_a_month(&rt, 3, 4);
@@ -161,14 +163,14 @@ fn joins_a_value_of_different_days(rt: HostRuntime) {
     }
 }
 
-// Adds so many rows of those days, all of one number.
+// Adds `count` rows of these days, all with one number.
 fn push_rows(rt: &impl Abort, from: u8, to: u8, count: u32, rows: &mut Vec<(u8, u8, i64)>) {
     for _ in 0..count {
         rows.push((from, to, 7)).expect(rt, "memory");
     }
 }
 
-// 260 rows of those days, and 180 of each of three others.
+// Returns 260 rows of these days, and 180 rows of each of three other days.
 fn of_own_and_common_days(
     rt: &(impl Abort + Alloc<A = Global>),
     from: u8,
@@ -182,8 +184,8 @@ fn of_own_and_common_days(
     rows
 }
 
-// Either side has 260 parts, so there are 67,600 pairs of them. The rows of a common day are read, each against each by
-// one advance, and no others: these advances are more, and are answered.
+// Each side has 260 parts, so there are 67,600 pairs of parts. Only the rows of a common day are merged, each with each
+// by one advance. These advances are more than the pairs, and are answered as turns.
 #[test]
 fn answers_the_advances_that_were_made(rt: HostRuntime) {
     let lefts = of_own_and_common_days(&rt, 3, 4);

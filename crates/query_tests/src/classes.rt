@@ -1,4 +1,4 @@
-//! Classes of rows by a text and a number, and the items of rows with them.
+//! Tests of the classes of rows by a text and a number, and of the items that the rows become.
 
 use crate::tables::{Table, TablePair, january, push_row, side, table_with};
 use dip_core::Item;
@@ -18,7 +18,8 @@ fn values(rt: &(impl Abort + Alloc<A = Global>), text: &[u8], number: i64) -> Va
     values
 }
 
-// A table with a column `t` of texts and a column `n` of numbers, and rows of one day with these values.
+// Returns a table with a column `t` of texts and a column `n` of numbers. Its rows are of one day and have these
+// values.
 fn table(rt: &(impl Abort + Alloc<A = Global>), rows: &[(&[u8], i64)]) -> Table {
     let mut list = RowList::new(rt.alloc());
     for (text, number) in rows {
@@ -30,7 +31,7 @@ fn table(rt: &(impl Abort + Alloc<A = Global>), rows: &[(&[u8], i64)]) -> Table 
     table_with(rt, &[text, number], list)
 }
 
-// The columns of these names on both sides.
+// Returns the columns with these names, for both sides.
 fn names(rt: &(impl Abort + Alloc<A = Global>), names: &[&[u8]]) -> Vec<(Name, Name)> {
     let mut on = Vec::new(rt.alloc());
     for name in names {
@@ -40,7 +41,7 @@ fn names(rt: &(impl Abort + Alloc<A = Global>), names: &[&[u8]]) -> Vec<(Name, N
     on
 }
 
-// The classes of the rows of both tables.
+// Returns the classes of the rows of both tables.
 fn classes(
     rt: &(impl Abort + Alloc<A = Global> + Threads + Sync),
     pair: &TablePair,
@@ -55,7 +56,7 @@ fn classes(
     classes
 }
 
-// By the columns of these names rows have one class exactly where these numbers are equal.
+// Checks that, by the columns with these names, rows have equal classes if and only if these numbers are equal.
 fn check_classes(
     rt: &(impl Abort + Alloc<A = Global> + Threads + Sync),
     pair: &TablePair,
@@ -69,7 +70,7 @@ fn check_classes(
     }
 }
 
-// The rows of this class are those of this number.
+// Checks that the rows with this class are exactly the rows with this number.
 fn check_class(rt: &impl Abort, class: u64, number: u64, classes: &[u64], want: &[u64]) {
     for (other, wanted) in classes.iter().zip(want) {
         assert!(rt; (*other == class) == (*wanted == number));
@@ -97,7 +98,7 @@ fn classes_by_text_and_number(rt: HostRuntime) {
     check_classes(&rt, &pair, &[b"t", b"n"], &[0, 1, 2, 2, 0, 3, 4]);
 }
 
-// The item of a row of the first of January.
+// Checks the item of a row of the first of January.
 fn check_item(rt: &impl Abort, item: Option<&Item>, id: u64, class: u64) {
     let item = item.expect(rt, "an item");
     assert!(rt; item.id == id);

@@ -1,4 +1,4 @@
-//! Which pairs of parts queries run, and that none waits for another, as gates see it.
+//! Tests with gates: which pairs of parts queries run, and that no pair waits for another.
 
 use crate::joins::{worked_join, worked_rows};
 use crate::queries::{Question, check_aggs, check_antis, check_joins, joined, ungrouped};
@@ -12,7 +12,7 @@ use std::test::Fail;
 use std::thread::Threads;
 use work_core::{Gate, OpenGate, PairName};
 
-// Counts how often each of ten times ten pairs is entered, by left and then right part, and any other.
+// Counts how often each of ten times ten pairs is entered, by left and then right part, and also all other pairs.
 #[derive(Drop)]
 struct Counts {
     entered: [[AtomicU64; 10]; 10],
@@ -49,7 +49,7 @@ fn ten_by_ten() -> [[AtomicU64; 10]; 10] {
     ]
 }
 
-// Counts a pair of a left part by its right part.
+// Counts a pair by its right part.
 fn count(counts: &[AtomicU64; 10], others: &AtomicU64, right: u32) {
     match counts.get(right as usize) {
         Some(count) => {
@@ -74,7 +74,7 @@ impl Gate for Counts {
     fn leave(&self, _pair: PairName) {}
 }
 
-// Each pair was entered once, and no other.
+// Checks that each pair was entered once, and no other.
 fn check_counts(rt: &impl Abort, counts: &Counts) {
     assert!(rt; counts.others.load(Ordering::SeqCst) == 0);
     for rights in &counts.entered {
@@ -84,7 +84,7 @@ fn check_counts(rt: &impl Abort, counts: &Counts) {
     }
 }
 
-// Holds one pair until another has left, for a while.
+// Holds one pair until another has left, but not forever.
 #[derive(Drop)]
 struct Holds {
     held: PairName,
@@ -116,7 +116,7 @@ impl Gate for Holds {
 }
 
 impl Holds {
-    // Holds a pair until another has left; of both the left and the right part.
+    // Returns a gate that holds a pair until another has left. Pairs are given by left and right part.
     fn new(held: (u32, u32), awaited: (u32, u32)) -> Holds {
         Holds {
             held: PairName {
@@ -134,19 +134,19 @@ impl Holds {
     }
 }
 
-// Each of two pairs is held until the other has left.
+// Returns two gates: each holds one of the two pairs until the other has left.
 fn both_ways(one: (u32, u32), other: (u32, u32)) -> [Holds; 2] {
     [Holds::new(one, other), Holds::new(other, one)]
 }
 
-// The pair that was awaited has left, and no one gave up.
+// Checks that the awaited pair has left, and that no pair stopped waiting.
 fn check_left(rt: &impl Abort, gate: &Holds) {
     assert!(rt; gate.left.load(Ordering::SeqCst) == 1);
     let failed = gate.failed.load(Ordering::SeqCst);
     assert!(rt; failed == 0, "with {:?} held", gate.held);
 }
 
-// Of two pairs either may wait for the other.
+// Either of two pairs may wait for the other.
 #[test]
 fn joins_while_a_pair_is_held(rt: HostRuntime) {
     let pair = worked_join(&rt);
@@ -157,7 +157,7 @@ fn joins_while_a_pair_is_held(rt: HostRuntime) {
     }
 }
 
-// The rows of the worked anti-join on a column.
+// Returns the rows of the worked anti-join on a column.
 fn worked_antis(rt: &impl Abort) -> [AntiRow; 2] {
     [
         AntiRow {
@@ -181,7 +181,8 @@ fn anti_joins_while_a_pair_is_held(rt: HostRuntime) {
     }
 }
 
-// Four rows of one day, which come to one row: each is a list of its own, and two pairs of them are taken together.
+// Four rows of one day, which are aggregated to one row. Each is a list of its own, and two pairs of lists are
+// combined.
 #[test]
 fn aggregates_while_a_pair_is_held(rt: HostRuntime) {
     let table = without_columns(&rt, &[january(&rt, 1, 2); 4]);
@@ -196,7 +197,7 @@ fn aggregates_while_a_pair_is_held(rt: HostRuntime) {
     }
 }
 
-// So many periods of ten days, each of which starts a day after the one before it.
+// Returns `count` periods of ten days, each of which starts a day after the previous one.
 fn ten_days(rt: &(impl Abort + Alloc<A = Global>), days: &[Point], count: usize) -> Vec<Period> {
     let mut periods = Vec::new(rt.alloc());
     for i in 0..count {
@@ -208,7 +209,7 @@ fn ten_days(rt: &(impl Abort + Alloc<A = Global>), days: &[Point], count: usize)
     periods
 }
 
-// By so many workers these rows come out, and each pair of parts is entered once.
+// Checks that the join has these rows with this number of workers, and that each pair of parts is entered once.
 fn check_entered(
     rt: &(impl Abort + Alloc<A = Global> + Threads + Sync),
     pair: &TablePair,

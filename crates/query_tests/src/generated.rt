@@ -1,4 +1,4 @@
-//! Random rows and their tables, and the runs of days of one value.
+//! Random rows and their tables, and runs of days with one value.
 
 use crate::tables::{Table, TablePair, table_with};
 use period_core::{Period, Point};
@@ -8,10 +8,10 @@ use row_core::{Kind, Name, Row, RowList, Text, Value, Values};
 use std::alloc::Global;
 use std::process::Abort;
 
-/// Rows hold on some of so many days, of which the first is 2024-01-01.
+/// The number of days on which rows may hold. The first is 2024-01-01.
 pub const DAYS: u64 = 20;
 
-/// A column, whatever its name.
+/// A column, whatever its name is.
 #[derive(Clone, Copy, PartialEq, Eq)]
 pub enum Field {
     Code,
@@ -35,14 +35,14 @@ pub const LEFT: [(&[u8], Field); 3] = [
     (b"size", Field::Size),
 ];
 
-// Those of the right ones have other names, and another order.
+// The columns of right tables, which have other names and another order.
 const RIGHT: [(&[u8], Field); 3] = [
     (b"w", Field::Word),
     (b"s", Field::Size),
     (b"c", Field::Code),
 ];
 
-/// What a row has in a column.
+/// A row's value in a column.
 #[derive(Clone, Copy, PartialEq, Eq)]
 pub enum Cell {
     Number(i64),
@@ -50,7 +50,7 @@ pub enum Cell {
 }
 
 impl Cell {
-    /// The same as a value of a row.
+    /// Returns the value of a table's row.
     pub fn value(self, rt: &(impl Abort + Alloc<A = Global>)) -> Value {
         match self {
             Cell::Number(number) => Value::Int(number),
@@ -59,7 +59,7 @@ impl Cell {
     }
 }
 
-/// A row, by the numbers of its first day and of the day behind its last.
+/// A row, given by the numbers of its first day and of the day after its last.
 #[derive(Clone, Copy)]
 pub struct PlainRow {
     pub id: u64,
@@ -71,12 +71,12 @@ pub struct PlainRow {
 }
 
 impl PlainRow {
-    /// Whether the row holds on the day.
+    /// Returns whether the row holds on the day.
     pub fn holds(&self, day: u64) -> bool {
         self.from <= day && day < self.to
     }
 
-    /// What the row has in the column.
+    /// Returns the row's value in the column.
     pub fn cell(&self, field: Field) -> Cell {
         match field {
             Field::Code => Cell::Number(self.code),
@@ -85,19 +85,19 @@ impl PlainRow {
         }
     }
 
-    /// What the row has in the column by which rows are grouped; None where they aren't.
+    /// Returns the row's value in the column that rows are grouped by, or `None` if they aren't grouped.
     pub fn group(&self, by: Option<Field>) -> Option<Cell> {
         by.map(|field| self.cell(field))
     }
 
-    /// Whether both rows have the same in each of the columns.
+    /// Returns whether both rows have the same value in each of the columns.
     pub fn matches(&self, other: &PlainRow, on: &[Field]) -> bool {
         on.iter()
             .all(|field| self.cell(*field) == other.cell(*field))
     }
 }
 
-// A row of one to eight days, with few values in each column.
+// Returns a row of one to eight days, with one of few values in each column.
 fn random_row(rng: &mut Pcg32, id: u64) -> PlainRow {
     let len = rng.random_range(1..=8);
     let from = rng.random_range(0..=DAYS - len);
@@ -111,7 +111,7 @@ fn random_row(rng: &mut Pcg32, id: u64) -> PlainRow {
     }
 }
 
-/// Up to twelve rows, by rising ids.
+/// Returns up to twelve rows, by ascending ids.
 pub fn random_rows(rt: &(impl Abort + Alloc<A = Global>), rng: &mut Pcg32) -> Vec<PlainRow> {
     let mut rows = Vec::new(rt.alloc());
     for i in 0..rng.random_range(0..=12) {
@@ -121,7 +121,7 @@ pub fn random_rows(rt: &(impl Abort + Alloc<A = Global>), rng: &mut Pcg32) -> Ve
     rows
 }
 
-/// All that rows can have in the column by which they are grouped, in its order; None where they aren't.
+/// Returns all values of the column that rows are grouped by, in their order; only `None` if they aren't grouped.
 pub fn groups(by: Option<Field>) -> &'static [Option<Cell>] {
     match by {
         None => UNGROUPED,
@@ -143,14 +143,14 @@ const WORDS: &[Option<Cell>] = &[
     Some(Cell::Word(b"xy")),
 ];
 
-/// From one day on and before another.
+/// Returns the period from one day to before another.
 pub fn period(rt: &impl Abort, days: &[Point], from: u64, to: u64) -> Period {
     let from = days.get(from as usize).expect(rt, "a day");
     let to = days.get(to as usize).expect(rt, "a day");
     Period::new(*from, *to).expect(rt, "a period")
 }
 
-// The names and kinds of the columns.
+// Returns the names and kinds of the columns.
 fn named(rt: &(impl Abort + Alloc<A = Global>), columns: &[(&[u8], Field)]) -> Vec<(Name, Kind)> {
     let mut pairs = Vec::new(rt.alloc());
     for (name, field) in columns {
@@ -160,7 +160,7 @@ fn named(rt: &(impl Abort + Alloc<A = Global>), columns: &[(&[u8], Field)]) -> V
     pairs
 }
 
-// What the row has in the columns.
+// Returns the row's values in the columns.
 fn values(
     rt: &(impl Abort + Alloc<A = Global>),
     columns: &[(&[u8], Field)],
@@ -174,7 +174,7 @@ fn values(
     values
 }
 
-/// The rows as a table with these columns.
+/// Returns a table of the rows, with these columns.
 pub fn table(
     rt: &(impl Abort + Alloc<A = Global>),
     columns: &[(&[u8], Field)],
@@ -193,13 +193,13 @@ pub fn table(
     table_with(rt, &named(rt, columns), list)
 }
 
-/// The column's name among these.
+/// Returns the column's name among these.
 pub fn name(rt: &impl Abort, columns: &[(&[u8], Field)], field: Field) -> Name {
     let column = columns.iter().find(|column| column.1 == field);
     Name::parse(column.expect(rt, "a column").0).expect(rt, "a name")
 }
 
-// So many columns from one of them on.
+// Returns `count` columns, beginning with column `first`.
 fn fields(rt: &(impl Abort + Alloc<A = Global>), first: usize, count: usize) -> Vec<Field> {
     let mut fields = Vec::new(rt.alloc());
     for i in 0..count {
@@ -209,7 +209,7 @@ fn fields(rt: &(impl Abort + Alloc<A = Global>), first: usize, count: usize) -> 
     fields
 }
 
-// The columns' names on both sides.
+// Returns the columns' names on both sides.
 fn names(rt: &(impl Abort + Alloc<A = Global>), on: &[Field]) -> Vec<(Name, Name)> {
     let mut names = Vec::new(rt.alloc());
     for field in on {
@@ -219,7 +219,7 @@ fn names(rt: &(impl Abort + Alloc<A = Global>), on: &[Field]) -> Vec<(Name, Name
     names
 }
 
-/// Rows of two tables, the columns by which they are compared, and the tables.
+/// The rows of two tables, the columns by which they are compared, and the tables.
 #[derive(Drop)]
 pub struct Pair {
     pub lefts: Vec<PlainRow>,
@@ -229,7 +229,7 @@ pub struct Pair {
 }
 
 impl Pair {
-    /// Two tables of random rows, to be compared by so many columns from one of them on.
+    /// Returns two tables of random rows, compared by `count` columns, beginning with column `first`.
     pub fn random(
         rt: &(impl Abort + Alloc<A = Global>),
         rng: &mut Pcg32,
@@ -254,7 +254,7 @@ impl Pair {
     }
 }
 
-/// Days that follow one another, as the numbers of the first and of the one behind the last, and a value.
+/// Consecutive days with one value, given by the numbers of the first day and of the day after the last.
 #[derive(Clone, Copy)]
 pub struct Run {
     pub from: u64,
@@ -262,7 +262,7 @@ pub struct Run {
     pub value: i128,
 }
 
-/// The longest runs of days of one value, by rising start, of what each day has.
+/// Returns the maximal runs of days with one value, by ascending start, from the value of each day.
 pub fn runs(rt: &(impl Abort + Alloc<A = Global>), values: &[Option<i128>]) -> Vec<Run> {
     let mut runs = Vec::new(rt.alloc());
     for day in 0..DAYS {
@@ -273,7 +273,7 @@ pub fn runs(rt: &(impl Abort + Alloc<A = Global>), values: &[Option<i128>]) -> V
     runs
 }
 
-// Adds a day: to the last run where it follows that and has its value.
+// Adds a day: to the last run if it continues that, otherwise as a new run.
 fn push_day(rt: &impl Abort, runs: &mut Vec<Run>, day: u64, value: i128) {
     let to = day.saturating_add(1);
     match runs.last_mut() {

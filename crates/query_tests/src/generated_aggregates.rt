@@ -1,4 +1,5 @@
-//! Aggregates of tables of random rows, against what each day shows of each group; and the greatest and the least sums.
+//! Aggregates of tables of random rows, compared with the values of each group on each day. Also the greatest and the
+//! least sums.
 
 use crate::generated::{
     Cell, DAYS, Field, LEFT, PlainRow, Run, groups, name, period, random_rows, runs, table,
@@ -16,7 +17,7 @@ use std::test::Fail;
 use std::thread::Threads;
 use work_core::OpenGate;
 
-// What is asked of the sizes of rows, and the column by which they are grouped.
+// A function of the rows' sizes, and the column that rows are grouped by.
 #[derive(Clone, Copy)]
 struct Asked {
     func: Func,
@@ -24,7 +25,7 @@ struct Asked {
 }
 
 impl Asked {
-    // The same with the column's name.
+    // Returns the same question with the column's name.
     fn question(&self, rt: &impl Abort) -> Question {
         Question {
             func: self.func,
@@ -33,7 +34,7 @@ impl Asked {
     }
 }
 
-// The sum of a few numbers.
+// Returns the sum of a few numbers.
 fn sum(numbers: &[i64]) -> i128 {
     let mut sum = 0i128;
     for number in numbers {
@@ -42,7 +43,7 @@ fn sum(numbers: &[i64]) -> i128 {
     sum
 }
 
-// What these numbers come to; None where there are none.
+// Returns the aggregate of these numbers, or `None` without numbers.
 fn come_to(func: &Func, numbers: &[i64]) -> Option<i128> {
     let least = numbers.iter().min()?;
     let greatest = numbers.iter().max()?;
@@ -54,7 +55,7 @@ fn come_to(func: &Func, numbers: &[i64]) -> Option<i128> {
     })
 }
 
-// The sizes of the rows of a group that hold on the day.
+// Returns the sizes of the rows of a group that hold on the day.
 fn sizes_on(
     rt: &(impl Abort + Alloc<A = Global>),
     rows: &[PlainRow],
@@ -71,7 +72,7 @@ fn sizes_on(
     sizes
 }
 
-// What a group comes to on each day.
+// Returns the aggregate of a group on each day.
 fn values_by_day(
     rt: &(impl Abort + Alloc<A = Global>),
     rows: &[PlainRow],
@@ -87,7 +88,7 @@ fn values_by_day(
     values
 }
 
-// The group as it comes out.
+// Returns the group as an aggregate's row has it.
 fn value(rt: &(impl Abort + Alloc<A = Global>), group: Option<Cell>) -> Option<Value> {
     match group {
         None => None,
@@ -95,7 +96,7 @@ fn value(rt: &(impl Abort + Alloc<A = Global>), group: Option<Cell>) -> Option<V
     }
 }
 
-// The row of a group that is to come out.
+// Returns the expected row of a group.
 fn agg_row(
     rt: &(impl Abort + Alloc<A = Global>),
     group: Option<Cell>,
@@ -109,7 +110,7 @@ fn agg_row(
     }
 }
 
-// The rows that are to come out, by group and start.
+// Returns the expected rows, by group and start.
 fn wanted(
     rt: &(impl Abort + Alloc<A = Global>),
     rows: &[PlainRow],
@@ -126,7 +127,7 @@ fn wanted(
     wanted
 }
 
-// Asks the question of a generated table by 1, 2 and 7 workers. Returns how many rows come out.
+// Checks the aggregate of a random table with 1, 2 and 7 workers. Returns its number of rows.
 fn check_random(
     rt: &(impl Abort + Alloc<A = Global> + Threads + Sync),
     rng: &mut Pcg32,
@@ -141,7 +142,7 @@ fn check_random(
     want.len()
 }
 
-// Asks what ten generated tables come to.
+// Checks the aggregates of ten random tables.
 fn check_ten(
     rt: &(impl Abort + Alloc<A = Global> + Threads + Sync),
     rng: &mut Pcg32,
@@ -155,7 +156,7 @@ fn check_ten(
     assert!(rt; rows >= 10, "{:?} has only {rows} rows", asked.func);
 }
 
-// Asks a function of twenty tables as one group, of ten by a number and of ten by a text.
+// Checks a function of twenty tables as one group, of ten grouped by a number, and of ten grouped by a text.
 fn check_func(
     rt: &(impl Abort + Alloc<A = Global> + Threads + Sync),
     rng: &mut Pcg32,
@@ -183,13 +184,13 @@ fn comes_to_what_each_day_shows(rt: HostRuntime) -> Result<(), Fail> {
     Ok(())
 }
 
-// The column of a table of numbers summed.
+// Returns the sum of a number table's column.
 fn sum_of(rt: &impl Abort) -> Func {
     Func::Sum(Name::parse(b"c").expect(rt, "a name"))
 }
 
-// What all rows of a table of numbers come to, by each of these numbers of workers: days of January 2024 from one on and
-// before another, and values.
+// Checks an aggregate of all rows of a number table, with each of these numbers of workers. The expected rows are given
+// as days of January 2024, from one to before another, and values.
 fn check_one_group(
     rt: &(impl Abort + Alloc<A = Global> + Threads + Sync),
     table: &Table,
@@ -202,7 +203,7 @@ fn check_one_group(
     check_aggs(rt, table, &question, workers, &OpenGate, &want);
 }
 
-// Each is past the numbers of 64 bits, with a sign and without.
+// The sums don't fit into 64 bits, neither signed nor unsigned.
 #[test]
 fn sums_are_wider_than_numbers(rt: HostRuntime) {
     let rows = [
@@ -220,7 +221,7 @@ fn sums_are_wider_than_numbers(rt: HostRuntime) {
     check_one_group(&rt, &table_of(&rt, &rows), sum_of(&rt), &[2], &want);
 }
 
-// Rows that hold for three days, so many from each of 27 days on.
+// Returns rows that hold for three days: `count` rows from each of 27 days on.
 fn three_days(rt: &(impl Abort + Alloc<A = Global>), count: usize) -> Table {
     let mut rows = Vec::new(rt.alloc());
     for _ in 0..count {
@@ -231,7 +232,7 @@ fn three_days(rt: &(impl Abort + Alloc<A = Global>), count: usize) -> Table {
     table_of(rt, &rows)
 }
 
-// So many rows that several workers take spans of them, at whose ends the value goes on.
+// There are so many rows that several workers each take a span of time. A value continues across the end of a span.
 #[test]
 fn a_value_goes_on_from_span_to_span(rt: HostRuntime) {
     let table = three_days(&rt, 700);
@@ -245,7 +246,7 @@ fn a_value_goes_on_from_span_to_span(rt: HostRuntime) {
     check_one_group(&rt, &table, Func::Count, &[1, 2, 7], &want);
 }
 
-// As many rows as a table has, all of one day, with this number.
+// Checks the sum of a million rows, the most that a table may have. All hold on one day and have this number.
 fn check_bound(rt: &(impl Abort + Alloc<A = Global> + Threads + Sync), number: i64, want: i128) {
     let rows = vec![in rt.alloc(); (1, 2, number); 1_000_000].expect(rt, "memory");
     let table = table_of(rt, &rows);

@@ -1,4 +1,5 @@
-//! Anti-joins of tables of random rows, against what each day shows of each left row, and of tables of many values.
+//! Anti-joins of tables of random rows, compared with the days on which each left row has no match. Also anti-joins of
+//! tables with many values.
 
 use crate::generated::{DAYS, Pair, PlainRow, period, runs};
 use crate::queries::check_antis;
@@ -13,7 +14,7 @@ use std::test::Fail;
 use std::thread::Threads;
 use work_core::OpenGate;
 
-// For each day 0 where the left row holds and no right row does that matches.
+// Returns 0 for each day on which the left row holds and no matching right row does.
 fn unmet_by_day(
     rt: &(impl Abort + Alloc<A = Global>),
     pair: &Pair,
@@ -31,7 +32,7 @@ fn unmet_by_day(
     unmet
 }
 
-// The rows that are to come out, by id and start.
+// Returns the expected rows, by id and start.
 fn unmet_rows(rt: &(impl Abort + Alloc<A = Global>), pair: &Pair, days: &[Point]) -> Vec<AntiRow> {
     let mut rows = Vec::new(rt.alloc());
     for left in &pair.lefts {
@@ -46,8 +47,8 @@ fn unmet_rows(rt: &(impl Abort + Alloc<A = Global>), pair: &Pair, days: &[Point]
     rows
 }
 
-// Takes the anti-join of two tables by 1, 2 and 7 workers, on so many columns from one of them on. Returns how many
-// rows come out.
+// Checks the anti-join of two random tables with 1, 2 and 7 workers, on `count` columns, beginning with column `first`.
+// Returns its number of rows.
 fn check_random(
     rt: &(impl Abort + Alloc<A = Global> + Threads + Sync),
     rng: &mut Pcg32,
@@ -61,7 +62,7 @@ fn check_random(
     want.len()
 }
 
-// Ten pairs of tables without columns that are compared, and ten with one, with two and with three.
+// Ten pairs of tables are compared by no columns, and ten each by one, by two and by three.
 #[test]
 fn leaves_what_each_day_shows(rt: HostRuntime) -> Result<(), Fail> {
     let days = days(rt.alloc())?;
@@ -80,7 +81,7 @@ fn leaves_what_each_day_shows(rt: HostRuntime) -> Result<(), Fail> {
     Ok(())
 }
 
-// Three rows of each of so many values: they hold for two days.
+// Returns three rows for each of `values` values. They hold for two days.
 fn in_threes(rt: &(impl Abort + Alloc<A = Global>), values: i64) -> Vec<(u8, u8, i64)> {
     let mut rows = Vec::new(rt.alloc());
     for value in 0..values {
@@ -90,7 +91,7 @@ fn in_threes(rt: &(impl Abort + Alloc<A = Global>), values: i64) -> Vec<(u8, u8,
     rows
 }
 
-// A row of every other one of so many values, which holds on the second of their days.
+// Returns a row for every other of `values` values, which holds on the second of the two days.
 fn every_other(rt: &(impl Abort + Alloc<A = Global>), values: i64) -> Vec<(u8, u8, i64)> {
     let mut rows = Vec::new(rt.alloc());
     for value in 0..values {
@@ -101,7 +102,7 @@ fn every_other(rt: &(impl Abort + Alloc<A = Global>), values: i64) -> Vec<(u8, u
     rows
 }
 
-// What is left of so many rows in threes.
+// Returns the anti-join's rows for `rows` rows in threes.
 fn left_of_threes(rt: &(impl Abort + Alloc<A = Global>), rows: u64) -> Vec<AntiRow> {
     let mut left = Vec::new(rt.alloc());
     for i in 0..rows {
@@ -115,8 +116,8 @@ fn left_of_threes(rt: &(impl Abort + Alloc<A = Global>), rows: u64) -> Vec<AntiR
     left
 }
 
-// Three rows of each of six thousand values, which are more than are taken at a time, and so many that several workers
-// put them in order. Every other value has a right row, which holds on the second of their two days.
+// Three rows for each of six thousand values. These are more values than are processed at a time, and so many rows that
+// several workers sort them. Every other value has a right row, which holds on the second of the two days.
 #[test]
 fn leaves_rows_of_many_values(rt: HostRuntime) {
     let lefts = in_threes(&rt, 6_000);

@@ -1,4 +1,4 @@
-//! Joins of tables of random rows, against what each day shows of each two rows.
+//! Joins of tables of random rows, compared with the days on which each two rows hold.
 
 use crate::generated::{DAYS, Pair, PlainRow, period};
 use crate::queries::check_joins;
@@ -13,7 +13,7 @@ use std::test::Fail;
 use std::thread::Threads;
 use work_core::OpenGate;
 
-// The first of the days that both rows hold, and the day behind the last. They follow one another.
+// Returns the first day on which both rows hold, and the day after the last. These days must be consecutive.
 fn shared_days(rt: &impl Abort, left: &PlainRow, right: &PlainRow) -> Option<(u64, u64)> {
     let mut shared = None;
     for day in 0..DAYS {
@@ -26,10 +26,10 @@ fn shared_days(rt: &impl Abort, left: &PlainRow, right: &PlainRow) -> Option<(u6
     shared
 }
 
-// The first of the days that two rows share, the day behind the last, and the ids of both.
+// The first day that two rows share, the day after the last, and the ids of both rows.
 type Shared = (u64, u64, u64, u64);
 
-// What matching rows share, by start, end, left id and right id.
+// Returns the periods that matching rows share, by start, end, left id and right id.
 fn shared_by_day(rt: &(impl Abort + Alloc<A = Global>), pair: &Pair) -> Vec<Shared> {
     let mut found = Vec::new(rt.alloc());
     for left in &pair.lefts {
@@ -47,7 +47,7 @@ fn shared_by_day(rt: &(impl Abort + Alloc<A = Global>), pair: &Pair) -> Vec<Shar
     found
 }
 
-// The rows that are to come out.
+// Returns the expected rows.
 fn joined_by_day(
     rt: &(impl Abort + Alloc<A = Global>),
     pair: &Pair,
@@ -65,7 +65,8 @@ fn joined_by_day(
     rows
 }
 
-// Joins two tables by 1, 2 and 7 workers, on so many columns from one of them on. Returns how many rows come out.
+// Checks the join of two random tables with 1, 2 and 7 workers, on `count` columns, beginning with column `first`.
+// Returns its number of rows.
 fn check_random(
     rt: &(impl Abort + Alloc<A = Global> + Threads + Sync),
     rng: &mut Pcg32,
@@ -79,7 +80,7 @@ fn check_random(
     want.len()
 }
 
-// Ten pairs of tables without columns that are compared, and ten with one, with two and with three.
+// Ten pairs of tables are compared by no columns, and ten each by one, by two and by three.
 #[test]
 fn joins_what_each_day_shows(rt: HostRuntime) -> Result<(), Fail> {
     let days = days(rt.alloc())?;

@@ -10,13 +10,13 @@ use std::test::Fail;
 use std::thread::Threads;
 use work_core::OpenGate;
 
-/// The worked join: tables of two rows and of three.
+/// Returns the worked join: tables of two rows and of three.
 pub fn worked_join(rt: &(impl Abort + Alloc<A = Global>)) -> TablePair {
     let rights = [(3, 6, 1), (6, 20, 1), (7, 8, 2)];
     number_pair(rt, &[(1, 10, 1), (5, 8, 2)], &rights)
 }
 
-/// The rows of the worked join on a column.
+/// Returns the rows of the worked join on a column.
 pub fn worked_rows(rt: &impl Abort) -> [JoinRow; 3] {
     [
         JoinRow {
@@ -37,7 +37,7 @@ pub fn worked_rows(rt: &impl Abort) -> [JoinRow; 3] {
     ]
 }
 
-// By so many workers the cursors of the worked join advance four times at least and ten times at most.
+// Checks that the cursors of the worked join advance at least four and at most ten times, with this number of workers.
 fn check_turns(
     rt: &(impl Abort + Alloc<A = Global> + Threads + Sync),
     pair: &TablePair,
@@ -57,7 +57,7 @@ fn joins_on_a_column(rt: HostRuntime) {
     }
 }
 
-// So many rows come out of a join by so many workers.
+// Checks that a join has `want` rows, with this number of workers.
 fn check_count(
     rt: &(impl Abort + Alloc<A = Global> + Threads + Sync),
     pair: &TablePair,
@@ -77,7 +77,7 @@ fn joins_without_columns(rt: HostRuntime) {
     }
 }
 
-// A table of one row, and one without rows, which has a column of texts besides.
+// Returns a table of one row, and a table without rows that also has a column of texts.
 fn table_without_rows(rt: &(impl Abort + Alloc<A = Global>), c: Name, d: Name) -> TablePair {
     let columns = [(c, Kind::Int), (d, Kind::Text)];
     TablePair {
@@ -87,7 +87,7 @@ fn table_without_rows(rt: &(impl Abort + Alloc<A = Global>), c: Name, d: Name) -
     }
 }
 
-// A join on these columns is refused.
+// Checks that a join on these columns is refused.
 fn check_refusal(
     rt: &(impl Abort + Alloc<A = Global> + Threads + Sync),
     pair: &TablePair,
@@ -110,13 +110,13 @@ fn refuses_columns(rt: HostRuntime) -> Result<(), Fail> {
     Ok(())
 }
 
-// So many rows of one day on both sides.
+// Returns `count` rows of one day, on both sides.
 fn one_day_twice(rt: &(impl Abort + Alloc<A = Global>), count: usize) -> TablePair {
     let periods = vec![in rt.alloc(); january(rt, 1, 2); count].expect(rt, "memory");
     periods_twice(rt, &periods)
 }
 
-// All rows of one day: each of them is a part of its own.
+// All rows are of one day, so each is a part of its own.
 #[test]
 fn joins_rows_of_one_day(rt: HostRuntime) {
     let pair = one_day_twice(&rt, 200);
@@ -126,7 +126,7 @@ fn joins_rows_of_one_day(rt: HostRuntime) {
     assert!(rt; answer.turns <= 80_000);
 }
 
-// Each of 300 rows with each of 300 others, all of one day, by left id and right id.
+// Checks that each of 300 rows is joined with each of 300 others, all of one day, by left id and right id.
 fn check_pairs(rt: &impl Abort, rows: &[JoinRow]) {
     assert!(rt; rows.len() == 90_000);
     let day = january(rt, 1, 2);
@@ -137,7 +137,7 @@ fn check_pairs(rt: &impl Abort, rows: &[JoinRow]) {
     }
 }
 
-// More pairs of parts than are run at once.
+// There are more pairs of parts than are run at once.
 #[test]
 fn joins_ninety_thousand_pairs(rt: HostRuntime) {
     let pair = one_day_twice(&rt, 300);

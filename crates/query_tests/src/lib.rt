@@ -1,5 +1,5 @@
-//! Tests from outside of queries: what parts share and leave, joins, anti-joins and aggregates by many workers,
-//! the rows of a point, and rows by their ids.
+//! Black-box tests of queries: hits and gaps of parts, joins, anti-joins and aggregates by several workers, the rows of
+//! a point, and rows by their ids.
 #![tactic(auto)]
 
 #[cfg(test)]

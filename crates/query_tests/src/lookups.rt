@@ -1,4 +1,4 @@
-//! Rows that are looked for by a point or by their ids.
+//! Tests of finding rows by a point, or by their ids.
 
 use crate::joins::worked_join;
 use crate::tables::{date, january, side};
@@ -8,7 +8,7 @@ use std::alloc::Global;
 use std::process::Abort;
 use table_core::SharedRows;
 
-// Rows have these ids.
+// Checks that the rows have these ids.
 fn check_order(rt: &impl Abort, rows: &SharedRows, ids: &[u64]) {
     assert!(rt; rows.len() == ids.len());
     for place in 0..rows.len() {
@@ -24,7 +24,7 @@ fn gives_the_rows_of_a_point(rt: HostRuntime) {
     check_order(&rt, &rows, &[2, 3]);
 }
 
-// Rows with these ids.
+// Returns rows with these ids.
 fn rows_of(rt: &(impl Abort + Alloc<A = Global>), ids: &[u64]) -> RowList {
     let mut rows = RowList::new(rt.alloc());
     for id in ids {
@@ -38,7 +38,7 @@ fn rows_of(rt: &(impl Abort + Alloc<A = Global>), ids: &[u64]) -> RowList {
     rows
 }
 
-// Each of these ids is found.
+// Checks that each of these ids is found.
 fn check_found(rt: &impl Abort, rows: &RowsById<'_>, ids: &[u64]) {
     for id in ids {
         let row = rows.get(*id).expect(rt, "a row");
@@ -46,14 +46,14 @@ fn check_found(rt: &impl Abort, rows: &RowsById<'_>, ids: &[u64]) {
     }
 }
 
-// None of these ids is found.
+// Checks that none of these ids is found.
 fn check_none(rt: &impl Abort, rows: &RowsById<'_>, ids: &[u64]) {
     for id in ids {
         assert!(rt; rows.get(*id).is_none(), "there is no row {id}");
     }
 }
 
-// Of rows with the first ids each is found, and none with one of the others.
+// Checks that, in rows with the ids `ids`, each of these is found, and none of `others`.
 fn check_ids(rt: &(impl Abort + Alloc<A = Global>), ids: &[u64], others: &[u64]) {
     let rows = rows_of(rt, ids);
     assert!(rt; rows.ids_rise());

@@ -1,4 +1,4 @@
-//! Worked hits and gaps of two parts, and steps of two taken together.
+//! Worked examples of hits and gaps of two parts, and of combined steps.
 
 ghost use Rattle.std.specs.Prelude.{◌≡◌};
 
@@ -10,12 +10,12 @@ use merge_core::{
 use std::alloc::Global;
 use std::process::Abort;
 
-// The left part's one item.
+// The only item of the left part.
 fn left(rt: &impl Abort) -> [Item; 1] {
     [item(rt, 1, 1, 10, 1)]
 }
 
-// The right part's two items, of some class.
+// The two items of the right part, with this class.
 fn right(rt: &impl Abort, class: u64) -> [Item; 2] {
     [item(rt, 1, 3, 6, class), item(rt, 2, 6, 20, class)]
 }
@@ -24,7 +24,7 @@ fn cursor<'a>(rt: &impl Abort, items: &'a [Item]) -> Cursor<'a> {
     Cursor::new(Part::new(items).expect(rt, "items without overlaps"))
 }
 
-// The hits of two parts, found with at most 3 advances.
+// Checks the hits of two parts, which take at most 3 advances.
 fn check_hits(
     rt: &(impl Abort + Alloc<A = Global>),
     lefts: &[Item],
@@ -37,7 +37,7 @@ fn check_hits(
     assert!(rt; hits.as_slice() == want);
 }
 
-// The gaps of two parts, found with at most 3 advances.
+// Checks the gaps of two parts, which take at most 3 advances.
 fn check_gaps(
     rt: &(impl Abort + Alloc<A = Global>),
     lefts: &[Item],
@@ -85,7 +85,7 @@ fn finds_gaps(rt: HostRuntime) {
     check_gaps(&rt, &lefts, &right(&rt, 2), &[whole]);
 }
 
-// A list of the one gap of the left item, which reaches from its first day to this one.
+// Checks that the list has one gap of the left item, from its first day to this one.
 fn check_gap(rt: &impl Abort, gaps: &Gaps, to: u8) {
     let want = Gap {
         left: item(rt, 1, 1, 10, 1),
@@ -109,14 +109,14 @@ fn meets_gaps(rt: HostRuntime) {
     check_gap(&rt, &shared, 3);
 }
 
-// An item of this amount, as steps.
+// Returns the steps of one item with this amount.
 fn amount_steps(rt: &(impl Abort + Alloc<A = Global>), item: Item, amount: i64) -> Steps
     ensures { result.weight ≡ 1 }
 {
     steps_of(rt, Item { amount, ..item })
 }
 
-// Two items that hold together for three days.
+// Combines the steps of two items that hold at the same time for three days.
 fn combined(rt: &(impl Abort + Alloc<A = Global>)) -> Steps {
     let one = amount_steps(rt, item(rt, 1, 1, 10, 1), 1);
     let other = amount_steps(rt, item(rt, 2, 5, 8, 1), 2);

@@ -1,4 +1,4 @@
-//! Pieces of the pairs of a job of a query, in any order, twice, and from another job.
+//! Collects the pieces of a query's job: in any order, twice, and from another job.
 
 ghost use Rattle.std.specs.Prelude.{◌≡◌};
 ghost use Rattle.round_core.specs.Together.{all_weight};
@@ -12,7 +12,7 @@ use std::process::Abort;
 use std::thread::Threads;
 use work_core::{Collector, Outs, PairName, PairWork, Piece, Why};
 
-// The piece of a pair that the job has.
+// Returns the piece of one of the job's pairs.
 fn piece<'j, W: PairWork>(
     rt: &(impl Abort + Alloc<A = Global>),
     job: &'j W,
@@ -23,7 +23,7 @@ fn piece<'j, W: PairWork>(
     Piece::make(rt.alloc(), job, name).expect(rt, "memory")
 }
 
-// Takes the job's pieces of these pairs.
+// Checks that the collector accepts the job's pieces of these pairs.
 fn take<'j, W: PairWork>(
     rt: &(impl Abort + Alloc<A = Global>),
     collector: &mut Collector<'j, W>,
@@ -35,7 +35,7 @@ fn take<'j, W: PairWork>(
     }
 }
 
-// Refuses a job's piece for this reason; it comes back with its name.
+// Checks that the collector refuses a job's piece for this reason, and returns the piece with its name.
 fn refuse<'j, W: PairWork>(
     rt: &(impl Abort + Alloc<A = Global>),
     collector: &mut Collector<'j, W>,
@@ -50,7 +50,7 @@ fn refuse<'j, W: PairWork>(
     assert!(rt; refused.piece.name() == PairName { left, right });
 }
 
-// Ends with a pair missing, which is named first; the collector comes back.
+// Checks that finishing fails because a pair is missing, which is named. Returns the collector.
 fn lack<'j, W: PairWork>(
     rt: &impl Abort,
     collector: Collector<'j, W>,
@@ -63,8 +63,8 @@ fn lack<'j, W: PairWork>(
     unfinished.collector
 }
 
-// Collects the pieces of a job in this order, and one more behind them. Each is accepted once, and so is what another
-// job makes of equal inputs; of the last pair that job has other inputs.
+// Collects the pieces of a job in this order, then a last one. Each is accepted once. A piece of another job counts as
+// the same if its inputs are equal, as for the pair `equal`; for the pair `last` they differ.
 fn collect<'j, W: PairWork>(
     rt: &(impl Abort + Alloc<A = Global>),
     job: &'j W,
@@ -88,12 +88,12 @@ fn collect<'j, W: PairWork>(
     outs
 }
 
-// Two items that overlap, of two classes.
+// Two items that overlap, with different classes.
 fn lefts(rt: &impl Abort) -> [Item; 2] {
     [item(rt, 1, 1, 10, 1), item(rt, 2, 5, 8, 2)]
 }
 
-// Three items, of which the third overlaps the second and has some class.
+// Three items. The third overlaps the second and has this class.
 fn rights(rt: &impl Abort, class: u64) -> [Item; 3] {
     [
         item(rt, 1, 3, 6, 1),
@@ -102,7 +102,7 @@ fn rights(rt: &impl Abort, class: u64) -> [Item; 3] {
     ]
 }
 
-// The items in two parts.
+// Divides the items, which need two parts.
 fn divide(rt: &(impl Abort + Alloc<A = Global> + Threads + Sync), items: &[Item]) -> Division {
     assert!(rt; items.len() <= 1_000_000);
     let items = Vec::from_slice(rt.alloc(), items).expect(rt, "memory");
@@ -111,7 +111,7 @@ fn divide(rt: &(impl Abort + Alloc<A = Global> + Threads + Sync), items: &[Item]
     division
 }
 
-// Two parts of each side, and the right ones with the class of an item changed, so that the first of them is the same.
+// The two parts of each side. In `changed` the class of one right item differs, but not in the first right part.
 #[derive(Drop)]
 struct Divided {
     left: Division,
@@ -127,16 +127,16 @@ fn divide_all(rt: &(impl Abort + Alloc<A = Global> + Threads + Sync)) -> Divided
     }
 }
 
-// The order of the pieces of two times two parts but for the last one.
+// The order in which the pieces of two times two parts are collected, without the last one.
 const ORDER: &[(u32, u32)] = &[(1, 1), (0, 0), (1, 0)];
 
-// What the parts of one pair share.
+// Checks the hits of one pair of parts.
 fn check_hits(rt: &impl Abort, outs: &Outs<JoinOut>, number: usize, want: &[Hit]) {
     let out = outs.get(number).expect(rt, "a value");
     assert!(rt; out.hits.as_slice() == want);
 }
 
-// The values of four pairs: what row 1 shares with two rows, nothing, nothing, and what row 2 shares with row 3.
+// Checks the values of four pairs: hits of row 1 with two rows, none, none, and a hit of row 2 with row 3.
 fn check_values(rt: &impl Abort, outs: &Outs<JoinOut>) {
     let lefts = lefts(rt);
     let rights = rights(rt, 2);
@@ -173,7 +173,7 @@ fn collects_a_join_of_pieces(rt: HostRuntime) {
     check_values(&rt, &outs);
 }
 
-// The one gap of a pair of parts: some days of January.
+// Checks that a pair of parts has one gap: some days of January.
 fn check_gap(rt: &impl Abort, outs: &Outs<Gaps>, number: usize, left: &Item, from: u8, to: u8) {
     let gaps = outs.get(number).expect(rt, "a value");
     let want = [Gap {
@@ -183,7 +183,7 @@ fn check_gap(rt: &impl Abort, outs: &Outs<Gaps>, number: usize, left: &Item, fro
     assert!(rt; gaps.as_slice() == want.as_slice());
 }
 
-// The values of four pairs.
+// Checks the values of four pairs.
 fn check_gaps(rt: &impl Abort, outs: &Outs<Gaps>) {
     let lefts = lefts(rt);
     assert!(rt; outs.len() == 4);
@@ -202,15 +202,15 @@ fn collects_an_anti_join_of_pieces(rt: HostRuntime) {
     check_gaps(&rt, &outs);
 }
 
-// The steps of an item without an amount.
+// Returns the steps of an item without an amount.
 fn steps(rt: &(impl Abort + Alloc<A = Global>), from: u8, to: u8) -> Steps
     ensures { result.weight ≡ 1 }
 {
     steps_of(rt, item(rt, 1, from, to, 1))
 }
 
-// Three times the steps of two items: those of the first two hold from the first of January on, the second of them
-// to some day.
+// Returns the steps of three pairs of items. The first pair begins on the first of January; its second item ends on day
+// `to`.
 fn lists(rt: &(impl Abort + Alloc<A = Global>), to: u8) -> [Steps; 6]
     ensures { all_weight result ≡ 6 }
 {
@@ -224,7 +224,7 @@ fn lists(rt: &(impl Abort + Alloc<A = Global>), to: u8) -> [Steps; 6]
     ]
 }
 
-// What two items of one day come to.
+// Checks the steps of two items of one day.
 fn check_both(rt: &impl Abort, outs: &Outs<Steps>, number: usize, from: u8, to: u8) {
     let both = outs.get(number).expect(rt, "a value");
     let want = [Step {

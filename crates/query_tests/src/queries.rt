@@ -1,4 +1,4 @@
-//! Queries of tables by so many workers, beside the rows that are to come out.
+//! Queries of tables by several workers, compared with the expected rows.
 
 use crate::tables::{Table, TablePair, january, listed, side};
 use query_core::{AggRow, AntiRow, Func, JoinAnswer, JoinRow, agg, anti, join};
@@ -8,7 +8,7 @@ use std::process::Abort;
 use std::thread::Threads;
 use work_core::Gate;
 
-/// The join of both tables by so many workers.
+/// Returns the join of both tables, by this number of workers.
 pub fn joined<G: Gate>(
     rt: &(impl Abort + Alloc<A = Global> + Threads + Sync),
     pair: &TablePair,
@@ -21,7 +21,7 @@ pub fn joined<G: Gate>(
     join(rt, rt.alloc(), left, right, &pair.on, workers, gate).expect(rt, "an answer")
 }
 
-/// These rows come out of the join of both tables by each of these numbers of workers.
+/// Checks that the join of both tables has these rows, with each of these numbers of workers.
 pub fn check_joins<G: Gate>(
     rt: &(impl Abort + Alloc<A = Global> + Threads + Sync),
     pair: &TablePair,
@@ -35,7 +35,7 @@ pub fn check_joins<G: Gate>(
     }
 }
 
-// The rows of the anti-join of both tables by so many workers.
+// Returns the rows of the anti-join of both tables, by this number of workers.
 fn unmet<G: Gate>(
     rt: &(impl Abort + Alloc<A = Global> + Threads + Sync),
     pair: &TablePair,
@@ -49,7 +49,7 @@ fn unmet<G: Gate>(
     listed(rt, &rows.expect(rt, "an answer"))
 }
 
-/// These rows come out of the anti-join of both tables by each of these numbers of workers.
+/// Checks that the anti-join of both tables has these rows, with each of these numbers of workers.
 pub fn check_antis<G: Gate>(
     rt: &(impl Abort + Alloc<A = Global> + Threads + Sync),
     pair: &TablePair,
@@ -63,14 +63,14 @@ pub fn check_antis<G: Gate>(
     }
 }
 
-/// What is asked of the rows of a table, and the column by which they are grouped.
+/// A function of a table's rows, and the column that they are grouped by.
 #[derive(Clone, Copy)]
 pub struct Question {
     pub func: Func,
     pub group: Option<Name>,
 }
 
-// The rows of the aggregate by so many workers.
+// Returns the rows of the aggregate, by this number of workers.
 fn aggregated<G: Gate>(
     rt: &(impl Abort + Alloc<A = Global> + Threads + Sync),
     table: &Table,
@@ -86,7 +86,7 @@ fn aggregated<G: Gate>(
     rows.expect(rt, "memory")
 }
 
-/// These rows come out of the aggregate by each of these numbers of workers.
+/// Checks that the aggregate has these rows, with each of these numbers of workers.
 pub fn check_aggs<G: Gate>(
     rt: &(impl Abort + Alloc<A = Global> + Threads + Sync),
     table: &Table,
@@ -101,7 +101,7 @@ pub fn check_aggs<G: Gate>(
     }
 }
 
-/// The rows of an aggregate of one group: days of January 2024 from one on and before another, and values.
+/// Returns the rows of an aggregate of one group, from days of January 2024, from one to before another, and values.
 pub fn ungrouped(rt: &(impl Abort + Alloc<A = Global>), values: &[(u8, u8, i128)]) -> Vec<AggRow> {
     let mut rows = Vec::new(rt.alloc());
     for (from, to, value) in values {

@@ -20,7 +20,7 @@ pub struct Table {
     pub rows: SharedRows,
 }
 
-/// Two tables, and the pairs of columns on which their rows are compared.
+/// Two tables, and the pairs of columns by which their rows are compared.
 #[derive(Drop)]
 pub struct TablePair {
     pub left: Table,
@@ -28,7 +28,7 @@ pub struct TablePair {
     pub on: Vec<(Name, Name)>,
 }
 
-/// The midnight of a day of 2024; Err where the month has no such day.
+/// Returns midnight at the start of a day of 2024, or `Err` if the month has no such day.
 pub fn date(month: u8, day: u8) -> Result<Point, BadPoint> {
     Point::parse(&[
         b'2',
@@ -44,7 +44,7 @@ pub fn date(month: u8, day: u8) -> Result<Point, BadPoint> {
     ])
 }
 
-/// The days of 2024, from the first of January on.
+/// Returns the days of 2024, from the first of January on.
 pub fn days(alloc: Global) -> Result<Vec<Point>, Fail> {
     let mut days = Vec::new(alloc);
     for month in 1..13 {
@@ -62,14 +62,14 @@ fn push_days(month: u8, days: &mut Vec<Point>) -> Result<(), Fail> {
     Ok(())
 }
 
-/// From one day of January 2024 on, and before another.
+/// Returns the period from one day of January 2024 to before another.
 pub fn january(rt: &impl Abort, from: u8, to: u8) -> Period {
     let from = date(1, from).expect(rt, "a day");
     let to = date(1, to).expect(rt, "a day");
     Period::new(from, to).expect(rt, "a period")
 }
 
-/// An item of some days of January 2024.
+/// Returns an item of some days of January 2024.
 pub fn item(rt: &impl Abort, id: u64, from: u8, to: u8, class: u64) -> Item {
     Item {
         period: january(rt, from, to),
@@ -79,7 +79,7 @@ pub fn item(rt: &impl Abort, id: u64, from: u8, to: u8, class: u64) -> Item {
     }
 }
 
-/// The rows of an anti-join in one list.
+/// Returns the rows of an anti-join in one list.
 pub fn listed(rt: &(impl Abort + Alloc<A = Global>), rows: &AntiRows) -> Vec<AntiRow> {
     let mut listed = Vec::new(rt.alloc());
     for i in 0..rows.len() {
@@ -89,7 +89,7 @@ pub fn listed(rt: &(impl Abort + Alloc<A = Global>), rows: &AntiRows) -> Vec<Ant
     listed
 }
 
-/// The steps of one item.
+/// Returns the steps of one item.
 pub fn steps_of(rt: &(impl Abort + Alloc<A = Global>), item: Item) -> Steps
     ensures { result.weight ≡ 1 }
 {
@@ -98,7 +98,7 @@ pub fn steps_of(rt: &(impl Abort + Alloc<A = Global>), item: Item) -> Steps
     Steps::of_part(rt.alloc(), part).expect(rt, "memory")
 }
 
-/// Adds a row with these values, whose id is its number from 1 on.
+/// Adds a row with these values. Its id is its number, counted from 1.
 pub fn push_row(rt: &impl Abort, rows: &mut RowList, period: Period, values: Values) {
     assert!(rt; rows.len() < 1_000_000);
     let id = rows.len() as u64 + 1;
@@ -106,14 +106,14 @@ pub fn push_row(rt: &impl Abort, rows: &mut RowList, period: Period, values: Val
     rows.push(row).expect(rt, "memory");
 }
 
-// The values of a row of a number.
+// Returns the values of a row that has a number.
 fn number_values(rt: &(impl Abort + Alloc<A = Global>), number: i64) -> Values {
     let mut values = Values::new(rt.alloc());
     values.push(Value::Int(number)).expect(rt, "memory");
     values
 }
 
-/// The table of these columns and rows.
+/// Returns a table with these columns and rows.
 pub fn table_with(
     rt: &(impl Abort + Alloc<A = Global>),
     columns: &[(Name, Kind)],
@@ -125,13 +125,13 @@ pub fn table_with(
     }
 }
 
-// A table with a column `c` of numbers.
+// Returns a table with a column `c` of numbers.
 fn number_table(rt: &(impl Abort + Alloc<A = Global>), rows: RowList) -> Table {
     let name = Name::parse(b"c").expect(rt, "a name");
     table_with(rt, &[(name, Kind::Int)], rows)
 }
 
-/// A table with a column `c` of numbers. Its rows, with ids from 1 on, hold from one day of January 2024 on and
+/// Returns a table with a column `c` of numbers. Its rows, with ids from 1 on, hold from one day of January 2024 to
 /// before another, and have a number.
 pub fn table_of(rt: &(impl Abort + Alloc<A = Global>), rows: &[(u8, u8, i64)]) -> Table {
     let mut list = RowList::new(rt.alloc());
@@ -142,7 +142,7 @@ pub fn table_of(rt: &(impl Abort + Alloc<A = Global>), rows: &[(u8, u8, i64)]) -
     number_table(rt, list)
 }
 
-/// The same of rows that hold on these periods.
+/// The same for rows that hold in these periods.
 pub fn numbers_of(rt: &(impl Abort + Alloc<A = Global>), rows: &[(Period, i64)]) -> Table {
     let mut list = RowList::new(rt.alloc());
     for (period, number) in rows {
@@ -151,14 +151,14 @@ pub fn numbers_of(rt: &(impl Abort + Alloc<A = Global>), rows: &[(Period, i64)])
     number_table(rt, list)
 }
 
-/// Two tables with a column `c` of numbers each, on which their rows are compared.
+/// Returns two tables, each with a column `c` of numbers, by which their rows are compared.
 pub fn compared(rt: &(impl Abort + Alloc<A = Global>), left: Table, right: Table) -> TablePair {
     let name = Name::parse(b"c").expect(rt, "a name");
     let on = Vec::from_slice(rt.alloc(), &[(name, name)]).expect(rt, "memory");
     TablePair { left, right, on }
 }
 
-/// Two tables of numbers, which are compared.
+/// Returns two number tables that are compared.
 pub fn number_pair(
     rt: &(impl Abort + Alloc<A = Global>),
     lefts: &[(u8, u8, i64)],
@@ -167,7 +167,7 @@ pub fn number_pair(
     compared(rt, table_of(rt, lefts), table_of(rt, rights))
 }
 
-/// A table without columns, whose rows, with ids from 1 on, hold on these periods.
+/// Returns a table without columns. Its rows, with ids from 1 on, hold in these periods.
 pub fn without_columns(rt: &(impl Abort + Alloc<A = Global>), periods: &[Period]) -> Table {
     let mut rows = RowList::new(rt.alloc());
     for period in periods {
@@ -176,7 +176,7 @@ pub fn without_columns(rt: &(impl Abort + Alloc<A = Global>), periods: &[Period]
     table_with(rt, &[], rows)
 }
 
-/// A table without columns twice, whose rows hold on these periods: no columns are compared.
+/// Returns two equal tables without columns, whose rows hold in these periods. No columns are compared.
 pub fn periods_twice(rt: &(impl Abort + Alloc<A = Global>), periods: &[Period]) -> TablePair {
     TablePair {
         left: without_columns(rt, periods),
@@ -185,14 +185,14 @@ pub fn periods_twice(rt: &(impl Abort + Alloc<A = Global>), periods: &[Period]) 
     }
 }
 
-// Whether each row has a value for each column.
+// Returns whether each row has a value for each column.
 fn all_fit(schema: &Schema, rows: &[Row]) -> bool
     ensures { IsTrue result → All (λ row. IsTrue (fits schema.now row.values)) rows.now }
 {
     rows.iter().all(|row| schema.fits(&row.values))
 }
 
-/// The table as a query sees it.
+/// Returns the table as a query sees it.
 pub fn side<'a>(rt: &(impl Abort + Alloc<A = Global>), table: &'a Table) -> Side<'a> {
     let rows = table.rows.list(rt.alloc()).expect(rt, "memory");
     assert!(rt; rows.ids_rise());

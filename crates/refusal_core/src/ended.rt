@@ -8,12 +8,12 @@ use period_core::{BadPeriod, BadPoint};
 use row_core::{BadName, Failure};
 use std::alloc::{AllocError, AllocFailed};
 
-/// Why a trial ended early: memory was refused, or what it met isn't what is due.
+/// Why a trial ended early: memory was refused, or a result wasn't the expected one.
 #[derive(Clone, Copy, Debug, PartialEq, Eq)]
 pub enum Ended {
     /// Memory was refused.
     NoMemory,
-    /// An answer, or what stands after a refusal, isn't what is due.
+    /// An answer, or the state after a refusal, isn't the expected one.
     Wrong,
 }
 
@@ -56,7 +56,7 @@ impl From<BadPeriod> for Ended {
     }
 }
 
-/// Ends the trial where something isn't so.
+/// Ends the trial if the condition is false.
 pub fn holds(is_so: bool) -> Result<(), Ended>
     ensures ok { IfOk result (λ _. IsTrue is_so) }
     ensures wrong { IfErr result (λ ended. (ended ≡ Wrong) × (is_so ≡ false)) }
@@ -64,7 +64,7 @@ pub fn holds(is_so: bool) -> Result<(), Ended>
     if is_so { Ok(()) } else { Err(Ended::Wrong) }
 }
 
-/// Ends the trial where the call isn't refused by this name.
+/// Ends the trial unless the call is refused for this reason.
 pub fn refuses<T: Drop, E: Drop + PartialEq>(
     answer: Result<T, Failure<E>>,
     want: E,

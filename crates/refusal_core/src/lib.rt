@@ -1,4 +1,4 @@
-//! Refuses memory to tests: to a trial its first request, then its second, and so on, or all from one on.
+//! Refuses memory to tests: to a trial its first request, then its second, and so on, or all requests from one on.
 #![tactic(auto)]
 
 mod ended;

@@ -1,5 +1,6 @@
-//! Orders to who refuses memory. An order is a request for more than any machine has, named by its size. A library that
-//! stands before the C library's allocator obeys it (tools/refuser.c); without that nothing comes of it.
+//! Orders to a library that refuses memory. An order is a request for more memory than any machine has; its size is the
+//! order. The library (tools/refuser.c) intercepts the C library's allocator and obeys; without it, orders have no
+//! effect.
 
 ghost use Rattle.std.specs.Prelude.{◌≤◌};
 
@@ -7,10 +8,10 @@ use crate::ended::Ended;
 use std::alloc::Global;
 use std::io;
 
-// With n more, the order to refuse the n-th request.
+// Plus n, the order to refuse the n-th request.
 const REFUSE: usize = 1 << 50;
 
-// The order to refuse no more. It is granted where a request was refused since the one before.
+// The order to stop refusing. It is granted if a request was refused since the last order.
 const STOP: usize = 1 << 52;
 
 // More requests than a trial makes.
@@ -19,11 +20,11 @@ const MANY: usize = 1_000_000;
 /// Why a test of refusals fails.
 #[derive(Debug, Drop)]
 pub enum Fault {
-    /// With the request of that number refused, the trial met what isn't due.
+    /// With the request of that number refused, a result in the trial wasn't the expected one.
     Wrong { request: usize },
     /// With no request refused, the trial didn't end with its answer.
     NoAnswer,
-    /// Each run met a refusal.
+    /// Every run met a refusal.
     Endless,
     /// The number of refusals couldn't be printed.
     Unprinted(io::Error),
@@ -35,14 +36,14 @@ impl From<io::Error> for Fault {
     }
 }
 
-// Asks for so many bytes; whether they were granted.
+// Requests this many bytes. Returns whether they were granted.
 fn ask(alloc: Global, size: usize) -> bool {
     let block: Result<Vec<u8>, _> = Vec::with_capacity(alloc, size);
     block.is_ok()
 }
 
-/// Runs the trial with its first request refused, with its second, and so on, until a run meets no refusal, and prints how
-/// many met one. Each of those is to end with its answer or out of memory, and the last one with its answer.
+/// Runs the trial with its first request refused, then with its second, and so on, until a run meets no refusal. Prints
+/// how many runs met one. Each of these must end with its answer or out of memory, and the last one with its answer.
 pub fn try_each<F: Fn(Global) -> Result<(), Ended>>(
     rt: &(impl Alloc<A = Global> + Print),
     trial: F,

@@ -1,12 +1,13 @@
-//! Takes all memory, so that each further request is refused, whoever grants them.
+//! Takes all memory, so that each further request is refused, with any allocator.
 
 use std::alloc::{AllocError, Global};
 
-// More blocks of one size than there are.
+// More blocks of one size than can exist.
 const MANY: usize = 1_000_000;
 
-/// Takes all memory that the process can name: blocks of each size, from 2^45 bytes down to one, until one is refused. Until
-/// they are dropped each request is refused. Nothing is written to them, so the machine gives next to nothing.
+/// Takes all memory that the process can address: blocks of each size, from 2^45 bytes down to one, until one is
+/// refused. Until they are dropped, each request is refused. Nothing is written to them, so almost no physical memory
+/// is used.
 pub fn take_all(alloc: Global) -> Result<Vec<Vec<u8>>, AllocError> {
     let mut blocks = Vec::with_capacity(alloc, MANY)?;
     for power in 0..46u32 {
@@ -15,7 +16,7 @@ pub fn take_all(alloc: Global) -> Result<Vec<Vec<u8>>, AllocError> {
     Ok(blocks)
 }
 
-// Takes blocks of so many bytes until one is refused.
+// Takes blocks of this many bytes until one is refused.
 fn take_blocks(alloc: Global, size: usize, blocks: &mut Vec<Vec<u8>>) -> Result<(), AllocError> {
     for _ in 0..MANY {
         match Vec::with_capacity(alloc, size) {

@@ -1,4 +1,4 @@
--- The plateaus of all items, from those of the items of ranges of classes.
+-- The constant intervals of all items, from the constant intervals of ranges of classes.
 use Rattle.std.proofs.Common.{◌≡◌, ◌⊎◌, ℕ, ◌<◌, ◌≤◌, cond, List, [], ◌∷◌, ◌++◌, get_or, None, Some, Result, Ok, refl, sym, subst, ap, ◌∙◌, inl, inr, arith, append-nil}
 use Rattle.std.specs.Ordering.{nat_cmp}
 use Rattle.std.specs.declared.alloc.AllocError.{AllocError}
@@ -22,7 +22,7 @@ use Rattle.round_core.specs.declared.plateau.Plateau.{Plateau}
 use Rattle.round_core.specs.Plateaus.{of_class, HasValue, IsPlateau, PlateauBefore, ArePlateaus}
 use Rattle.round_core.proofs.CollectLemmas.{no_tally}
 
--- ---- two ways to say that classes rise
+-- ---- two ways to say that classes are ascending
 
 pub rise-from_grouped : (items : List Item) → AllPairs (λ (a b : Item). a.class ≤ b.class) items → ClassesRise items
 rise-from_grouped items grouped = λ i j d upto inside.
@@ -39,7 +39,7 @@ grouped-from_rise items rise = λ i j d less inside. rise i j d (omega arith) in
 
 -- ---- items of lower classes, and of higher ones
 
--- items of other classes are none of a class
+-- without items of a class, its list is empty
 pub none_of : (class : ℕ) (items : List Item) → All (λ (x : Item). x.class ≡ class → ⊥) items → of_class class items ≡ []
 none_of class [] others = refl
 none_of class (x ∷ items) others =
@@ -47,7 +47,7 @@ none_of class (x ∷ items) others =
     (ne_eqb x.class class (All-head (λ (y : Item). y.class ≡ class → ⊥) x items others))
     ∙ none_of class items (All-tail (λ (y : Item). y.class ≡ class → ⊥) x items others)
 
--- a class without items has no plateau
+-- a class without items has no constant interval
 pub no_plateau : (measure : Measure) (items : List Item) (p : Plateau) → of_class p.class items ≡ []
     → IsPlateau measure items p → ⊥
 no_plateau measure items p none is =
@@ -56,7 +56,7 @@ no_plateau measure items p none is =
 
 module _ (measure : Measure) (class : ℕ) (items low high : List Item) (parted : ArePartedAt class items low high)
   where
-    -- of a lower class all items are among the lower ones
+    -- the items of a lower class are all in the first list
     low_class : (k : ℕ) → k < class → of_class k (low ++ high) ≡ of_class k low
     low_class k less =
         filter-append (λ (x : Item). x.class == k) low high
@@ -64,14 +64,14 @@ module _ (measure : Measure) (class : ℕ) (items low high : List Item) (parted 
         (none_of k high (λ i d h same. let from = parted.from i d h in omega (arith, from, same, less)))
         ∙ append-nil (of_class k low)
 
-    -- of that class or a higher one they are among the others
+    -- the items of this class or a higher one are all in the second list
     high_class : (k : ℕ) → class ≤ k → of_class k (low ++ high) ≡ of_class k high
     high_class k from =
         filter-append (λ (x : Item). x.class == k) low high
         ∙ ap (λ z. z ++ of_class k high)
         (none_of k low (λ i d h same. let below = parted.below i d h in omega (arith, below, same, from)))
 
-    -- a plateau of the lower items is of a lower class
+    -- a constant interval of the lower items is of a lower class
     low_plateau : (p : Plateau) → IsPlateau measure low p → p.class < class
     low_plateau p is = elim (cases_lt p.class class) [
       | inl less ↦ less
@@ -87,7 +87,7 @@ module _ (measure : Measure) (class : ℕ) (items low high : List Item) (parted 
       | inr from ↦ omega (arith, from)
     ]
 
-    -- a plateau goes by the items of its class
+    -- a constant interval depends only on the items of its class
     moved : (some other : List Item) (p : Plateau) → of_class p.class some ≡ of_class p.class other
         → IsPlateau measure some p → IsPlateau measure other p
     moved some other p same is = record {
@@ -100,7 +100,7 @@ module _ (measure : Measure) (class : ℕ) (items low high : List Item) (parted 
       | inr from ↦ inr (moved (low ++ high) high p (high_class p.class (omega (arith, from))) is)
     ]
 
-    -- the plateaus of both
+    -- the constant intervals of both
     pub ArePlateaus-parted : (rows more : List Plateau) → ArePlateaus measure low rows → ArePlateaus measure high more
         → ArePlateaus measure items (rows ++ more)
     ArePlateaus-parted rows more one other =
@@ -117,11 +117,11 @@ module _ (measure : Measure) (class : ℕ) (items low high : List Item) (parted 
 
 -- ---- ranges of classes
 
--- the items of all classes are all
+-- the range without ends contains all items
 in-whole : (items : List Item) → items_in (range None None) items ≡ items
 in-whole items = filter_all (λ (x : Item). has nat_cmp (range None None) x.class) items (λ k d h. refl)
 
--- what each range's items come to, one behind another, is what all come to
+-- all ranges' constant intervals together are the constant intervals of all items
 pub plateaus-all : (measure : Measure) (items : List Item)
     (post : Range ℕ → ℕ → Result (List Plateau) AllocError → Type 0) (cuts : List (Cut ℕ)) (lists : List (List Plateau))
     → ClassesRise items

@@ -1,4 +1,4 @@
--- Rows that touch with one value are closed up to the longest periods of one value.
+-- Coalescing intervals that touch and have the same value into maximal ones.
 use Rattle.std.proofs.Common.{◌≡◌, ℕ, List, length, [], ◌∷◌, ◌++◌, Bool, true, false, cond, Option, Some, None, inl, inr, refl, sym, subst, ap, ◌∙◌, arith, append-nil, append_assoc}
 use Rattle.std.proofs.lemmas.List.{nil_from_length}
 use Rattle.std.proofs.lemmas.Option.{none-some, same_Some}
@@ -26,7 +26,7 @@ none_some o a e f = none-some a (sym e ∙ f)
 some_same : (o : Option ℤ) (a b : ℤ) → o ≡ Some a → o ≡ Some b → a ≡ b
 some_same o a b e f = same_Some a b (sym e ∙ f)
 
--- a plateau is its class, its period and its value
+-- an interval is determined by its class, its period and its value
 pub Plateau-same : (a b : Plateau) → a.class ≡ b.class → a.period ≡ b.period → a.value ≡ b.value → a ≡ b
 Plateau-same a b c p v = λ k. record { class = c k; period = p k; value = v k }
 
@@ -57,7 +57,7 @@ nothing [] t before = refl
 nothing (r ∷ rows) t before =
     at_before r rows t (before r (Contains-head r rows)) ∙ nothing rows t (λ s h. before s (Contains-cons r rows s h))
 
--- the later rows say nothing before the first one ends
+-- before the first interval ends, the later ones have no value
 later_nothing : (x : Plateau) (l : List Plateau) (t : ℤ) → AreApart (x ∷ l) → t <ℤ x.period.to → value_at l t ≡ None
 later_nothing x l t r h =
     nothing l t (λ s k. let after : x.period.to ≤ℤ s.period.from = apart_first x l s r k in omega (arith, ints))
@@ -68,11 +68,11 @@ before_nothing x l t r h =
     let proper : x.period.from <ℤ x.period.to = x.period.ordered in
     at_before x l t h ∙ later_nothing x l t r (omega (arith, ints))
 
--- ---- a row that nothing continues is closed
+-- ---- an interval that no other one continues is maximal
 
 module _ (class : ℕ) (x : Plateau) (l : List Plateau) (own : x.class ≡ class) (r : AreApart (x ∷ l))
     (ends : HasValueAt l x.value x.period.to → ⊥) where
-  -- where the later rows have a value, x has ended
+  -- if the later intervals have a value, `x` has ended
   value_late : (v t : ℤ) → HasValueAt l v t → x.period.to ≤ℤ t
   value_late v t h =
       elim (by_order x.period.to t) [
@@ -190,7 +190,7 @@ module _ (class : ℕ) (x : Plateau) (l : List Plateau) (own : x.class ≡ class
         | inr early ↦ inl (early_closed k i early)
       ])
 
--- nothing continues x at the end, or where the next row does not
+-- nothing continues `x` at the end, or if the next interval doesn't
 ends_alone : (x : Plateau) → HasValueAt [] x.value x.period.to → ⊥
 ends_alone x h = none_some None x.value refl h
 
@@ -210,7 +210,7 @@ ends_cut x y l r not h =
       })
     ]
 
--- ---- two rows that touch with one value are one
+-- ---- two intervals that touch and have the same value are one
 
 module _ (x y j : Plateau) (l : List Plateau) (c : Continues x y) (i : IsJoined x y j) where
   joined_at : (t : ℤ) → value_at (j ∷ l) t ≡ value_at (x ∷ (y ∷ l)) t
@@ -263,7 +263,7 @@ closed_same class rows rows' rest same lists =
     })
     lists
 
--- ---- rows of steps
+-- ---- steps as intervals
 
 of_valued : (measure : Measure) (class : ℕ) (steps : List Step) (k : Plateau) → Contains (valued measure class steps) k
     → (s : Step) × Contains steps s × (valued_step measure class s ≡ k)
@@ -297,7 +297,7 @@ valued_at measure class (s ∷ steps) v t h = split (holds_at t s.period) (value
     split true later e = (s.tally, refl, same_Some _ _ e)
     split false later e = later e
 
--- what is asked of a tally, if there is one
+-- The measured value of a tally, if there is one.
 abbrev asked : Measure → Option Tally → Option ℤ
 asked measure None = None
 asked measure (Some a) = Some (measured measure a)
@@ -320,7 +320,7 @@ at_valued : (measure : Measure) (class : ℕ) (steps : List Step) (v t : ℤ) �
 at_valued measure class steps v t (a, e, f) =
     value_given measure class steps t (Some a) e ∙ ap (λ (z : ℤ). Some z) f
 
--- what is closed of the rows of steps are the plateaus of the steps
+-- the coalesced steps are the constant intervals of the steps
 step_plateaus : (measure : Measure) (class : ℕ) (steps : List Step) (old new added : List Plateau) → new ≡ old ++ added
     → ListsClosed class (valued measure class steps) added
     → AddsAll PlateauBefore (IsStepPlateau measure class steps) old new
@@ -351,7 +351,7 @@ none_closed class k c = none_some None k.value refl (c.maximal.inside k.period.f
 
 -- ---- the loop
 
--- what the rows made so far still lack are the closed rows of the open one and of what is left
+-- The intervals made until now, followed by the intervals of the open one and the remaining steps, are all of them.
 pub record IsClosing
     (measure : Measure) (class : ℕ) (steps left : List Step) (row : Plateau) (old rows : List Plateau) : Type 0 where
   pub made : List Plateau

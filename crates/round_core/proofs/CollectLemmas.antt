@@ -1,4 +1,4 @@
--- The plateaus of lists of which no two are of one class are those of the items that the lists stand for.
+-- Lists of different classes have the same constant intervals as their items.
 use Rattle.std.proofs.Common.{◌≡◌, ◌<◌, ◌≤◌, ℕ, List, [], ◌∷◌, ◌++◌, cond, Option, Some, None, inl, inr, refl, sym, subst, ap, ◌∙◌, arith, append-nil, append_assoc}
 use Rattle.std.proofs.lemmas.Option.{none-some}
 use Rattle.std.specs.Prelude.{ℤ, pos, Contains}
@@ -23,9 +23,9 @@ use Rattle.round_core.specs.Plateaus.{of_class, measured, HasValue, IsPlateau, P
 use Rattle.round_core.specs.ClassLists.{class_at, RisesFrom, HaveNoNeighbours, StandForAll, IsRound}
 use Rattle.round_core.specs.Closing.{GivesValue, IsStepPlateau, IsPlateauOfSome}
 
--- ---- the lists are of distinct classes
+-- ---- the lists are of different classes
 
--- each class is below those of all later lists
+-- Each class is below the classes of all later lists.
 abbrev pub ClassesRise : List ClassSteps → Type 0
 ClassesRise [] = Unit {0}
 ClassesRise (l ∷ ls) = ((m : ClassSteps) → Contains ls m → l.class < m.class) × ClassesRise ls
@@ -60,7 +60,7 @@ none_at class (l ∷ ls) t none =
     (ne_eqb l.class class (none l (Contains-head l ls)))
     ∙ none_at class ls t (λ m h. none m (Contains-cons l ls m h))
 
--- what a class comes to is what its list gives
+-- the tally of a class is the tally of its list
 own_at : (ls : List ClassSteps) (l : ClassSteps) (t : ℤ) → ClassesRise ls → Contains ls l
     → class_at l.class ls t ≡ tally_at l.steps.steps t
 own_at [] l t r h = absurd (Contains-none l h)
@@ -76,7 +76,7 @@ own_at (k ∷ ls) l t r h = elim (Contains-cons_cases k ls l h) [
       ∙ own_at ls l t r.1 later
 ]
 
--- a class that comes to something has a list
+-- a class with a tally has a list
 list_of_class : (class : ℕ) (ls : List ClassSteps) (t : ℤ) (a : Tally) → class_at class ls t ≡ Some a
     → (l : ClassSteps) × Contains ls l × (l.class ≡ class)
 list_of_class class [] t a e = absurd (none-some a e)
@@ -92,7 +92,7 @@ list_of_class class (l ∷ ls) t a e = elim (cases_eq l.class class) [
 
 -- ---- list by list
 
--- whatever the plateaus of the lists that are left are, behind those so far they are the plateaus of all
+-- The constant intervals until now, followed by the remaining lists' ones, are all of them.
 pub record IsCollecting (measure : Measure) (all left : List ClassSteps) (rows : List Plateau) : Type 0 where
   pub goes_on : (rest : List Plateau) → IsListOf PlateauBefore (IsPlateauOfSome measure left) rest
       → IsListOf PlateauBefore (IsPlateauOfSome measure all) (rows ++ rest)
@@ -102,7 +102,7 @@ pub collecting_start : (measure : Measure) (all : List ClassSteps) → RisesFrom
     → IsCollecting measure all all []
 collecting_start measure all r n = record { goes_on = λ rest h. h; rise = classes_rise 0 all r n }
 
--- the plateaus of the first list, and behind them those of the others
+-- the constant intervals of the first list, followed by the others' ones
 first_and_others : (measure : Measure) (l : ClassSteps) (ls : List ClassSteps) (added rest : List Plateau)
     → ((m : ClassSteps) → Contains ls m → l.class < m.class)
     → IsListOf PlateauBefore (IsStepPlateau measure l.class l.steps.steps) added
@@ -145,9 +145,9 @@ collecting_end measure all left rows e was =
     (was'.goes_on []
     (IsListOf-none PlateauBefore (IsPlateauOfSome measure []) (λ p i. Contains-none i.list i.list_in)))
 
--- ---- plateaus of lists, and of items
+-- ---- constant intervals of lists, and of items
 
--- some items come to one value at most
+-- items have at most one measured value
 pub IsTally-unique : (measure : Measure) (items : List Item) (a b : Tally) → IsTally items a → IsTally items b
     → measured measure a ≡ measured measure b
 IsTally-unique Count items a b i j = ap (λ n. pos n) (i.count ∙ sym j.count)
@@ -157,7 +157,7 @@ IsTally-unique Min items a b i j =
 IsTally-unique Max items a b i j =
     let f = i.max_greatest b.max j.max_in in let g = j.max_greatest a.max i.max_in in omega (arith, ints)
 
--- without an item that holds an instant there is no tally
+-- if no item holds an instant, no tally exists there
 pub no_tally : (items : List Item) (t : ℤ) (a : Tally) → holding items t ≡ [] → IsTally (holding items t) a → ⊥
 no_tally items t a e i = Contains-none a.min (subst (λ z. Contains (amounts z) a.min) e i.min_in)
 
@@ -174,13 +174,13 @@ module _ (measure : Measure) (items : List Item) (steps : List Step)
   pub value_of_items : (v t : ℤ) → HasValue measure items v t → GivesValue measure steps v t
   value_of_items v t h = found v t (tally_at steps t) (same t) h
 
--- a class of which an item holds an instant has a tally there
+-- a class with an item that holds an instant has a tally there
 tally_there : (items : List Item) (t : ℤ) (h : Tally) (o : Option Tally) → IsTallyAt items t o
     → IsTally (holding items t) h → (a : Tally) × (o ≡ Some a)
 tally_there items t h None i is = absurd (no_tally items t h i is)
 tally_there items t h (Some a) i is = (a, refl)
 
--- the plateaus of the lists are those of the items that they stand for
+-- the lists have the same constant intervals as their items
 plateaus_stand : (measure : Measure) (items : List Item) (ls : List ClassSteps) (rows : List Plateau)
     → ((class : ℕ) (t : ℤ) → IsTallyAt (of_class class items) t (class_at class ls t)) → ClassesRise ls
     → IsListOf PlateauBefore (IsPlateauOfSome measure ls) rows → ArePlateaus measure items rows

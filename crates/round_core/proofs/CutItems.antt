@@ -1,4 +1,4 @@
--- Items that are cut one by one.
+-- Clipping items, one by one.
 use Rattle.std.proofs.Common.{◌≡◌, Bool, true, false, cond, List, [], ◌∷◌, ◌++◌, inl, inr, refl, sym, ap, ◌∙◌, arith, append-nil, length-append}
 use Rattle.std.specs.Prelude.{ℕ, ℤ, Contains}
 use Rattle.std.proofs.lemmas.List.{map-append}
@@ -26,7 +26,7 @@ lone_none x t off = split (holds_at t x.period) refl
 lone_held : (x : Item) (t : ℤ) → Holds x.period t → holding (x ∷ []) t ≡ x ∷ []
 lone_held x t h = ap (λ b. cond b (x ∷ []) []) (test-from_holds t x.period h)
 
--- of two items of one amount of which both hold it or neither does, the amounts are the same
+-- two items of the same amount that both hold it, or both don't, have the same amounts there
 pub lone_same : (x y : Item) (t : ℤ) → y.amount ≡ x.amount → (Holds y.period t → Holds x.period t)
     → (Holds x.period t → Holds y.period t) → amounts (holding (y ∷ []) t) ≡ amounts (holding (x ∷ []) t)
 lone_same x y t e to back = split (holds_at t x.period) refl
@@ -39,7 +39,7 @@ lone_same x y t e to back = split (holds_at t x.period) refl
         let off : Holds x.period t → ⊥ = λ h. (let bad : true ≡ false = sym (test-from_holds t x.period h) ∙ f in cc) in
         ap amounts (lone_none y t (λ h. off (to h))) ∙ sym (ap amounts (lone_none x t off))
 
--- those of two lists that hold it
+-- the items of two lists that hold it
 pub holding-append : (xs ys : List Item) (t : ℤ) → holding (xs ++ ys) t ≡ holding xs t ++ holding ys t
 holding-append xs ys t = filter-append (λ (x : Item). holds_at t x.period) xs ys
 
@@ -75,7 +75,7 @@ has_more xs others x cut e has y h = elim (Contains-append_cases others (cut ∷
 
 -- ---- in a span
 
--- of no items
+-- an empty list
 pub within_none : (span : Range ℤ) → AreWithin span [] []
 within_none span = record {
   same = λ t h. refl;
@@ -84,7 +84,7 @@ within_none span = record {
   own = λ x h. absurd (Contains-none x h);
 }
 
--- one more, which holds something in the span
+-- one more item that shares an instant with the span
 pub within_more : (span : Range ℤ) (xs held : List Item) (x cut : Item) → IsWithin span x cut → AreWithin span xs held
     → AreWithin span (xs ++ x ∷ []) (held ++ cut ∷ [])
 within_more span xs held x cut i w = record {
@@ -103,7 +103,7 @@ within_more span xs held x cut i w = record {
   own = has_more xs held x cut i.class_is w.own;
 }
 
--- one more, which holds nothing in it
+-- one more item that shares none
 pub within_off : (span : Range ℤ) (xs held : List Item) (x : Item) → Misses span x.period → AreWithin span xs held
     → AreWithin span (xs ++ x ∷ []) held
 within_off span xs held x off w = record {

@@ -1,4 +1,4 @@
--- Maximal periods of a set of instants, and those of its parts before an instant and from it on.
+-- Maximal periods of a set of instants, and of its parts before an instant and from it on.
 use Rattle.std.proofs.Common.{◌≡◌, inl, inr, refl, subst, arith}
 use Rattle.std.specs.Prelude.{ℤ, pos, ◌-ℤ◌, ◌≤ℤ◌, ◌<ℤ◌}
 use Rattle.std.proofs.lemmas.Int.{ints}
@@ -6,7 +6,7 @@ use Rattle.period_core.specs.declared.period.Period.{Period}
 use Rattle.merge_core.specs.Gaps.{IsMaximal}
 use Rattle.merge_core.proofs.SharedLemmas.{by_order}
 
--- what lies before an instant, and what lies from it on
+-- The parts of a set before an instant and from it on.
 pub record IsCutAt (at : ℤ) (Whole Early Late : ℤ → Type 0) : Type 0 where
   pub early_in : (t : ℤ) → Early t → (t <ℤ at) × Whole t
   pub early_of : (t : ℤ) → t <ℤ at → Whole t → Early t
@@ -14,7 +14,7 @@ pub record IsCutAt (at : ℤ) (Whole Early Late : ℤ → Type 0) : Type 0 where
   pub late_of : (t : ℤ) → at ≤ℤ t → Whole t → Late t
 
 module _ (at : ℤ) (Whole Early Late : ℤ → Type 0) (c : IsCutAt at Whole Early Late) where
-  -- a maximal period of the early part ends at the cut at the latest
+  -- a maximal period of the early part ends at the cut or earlier
   pub early_ends : (p : Period) → IsMaximal Early p → p.to ≤ℤ at
   early_ends p m =
       let proper : p.from <ℤ p.to = p.ordered in
@@ -22,13 +22,13 @@ module _ (at : ℤ) (Whole Early Late : ℤ → Type 0) (c : IsCutAt at Whole Ea
       (c.early_in (p.to -ℤ pos 1) (m.inside (p.to -ℤ pos 1) (omega (arith, ints), omega (arith, ints)))).0 in
       omega (arith, ints)
 
-  -- one of the late part starts there at the earliest
+  -- a maximal period of the late part starts at the cut or later
   pub late_starts : (p : Period) → IsMaximal Late p → at ≤ℤ p.from
   late_starts p m =
       let proper : p.from <ℤ p.to = p.ordered in
       (c.late_in p.from (m.inside p.from (omega (arith, ints), omega (arith, ints)))).0
 
-  -- a period of the early part is one of the whole, unless this goes on where it ends
+  -- a maximal period of the early part is one of the whole, unless the whole goes on where it ends
   pub early_whole : (p : Period) → IsMaximal Early p → (p.to ≡ at → Whole at → ⊥) → IsMaximal Whole p
   early_whole p m off =
       let proper : p.from <ℤ p.to = p.ordered in
@@ -42,7 +42,7 @@ module _ (at : ℤ) (Whole Early Late : ℤ → Type 0) (c : IsCutAt at Whole Ea
         ];
       }
 
-  -- one of the late part is one of the whole, unless this holds the instant before it starts
+  -- a maximal period of the late part is one of the whole, unless the whole holds the instant before it
   pub late_whole : (p : Period) → IsMaximal Late p → (p.from ≡ at → Whole (at -ℤ pos 1) → ⊥) → IsMaximal Whole p
   late_whole p m off =
       let proper : p.from <ℤ p.to = p.ordered in
@@ -57,7 +57,7 @@ module _ (at : ℤ) (Whole Early Late : ℤ → Type 0) (c : IsCutAt at Whole Ea
         after = λ w. m.after (c.late_of p.to (omega (arith, ints)) w);
       }
 
-  -- two that meet at the cut are one of the whole
+  -- two periods that meet at the cut are one of the whole
   pub both_whole : (p q j : Period) → IsMaximal Early p → IsMaximal Late q → p.to ≡ at → q.from ≡ at → j.from ≡ p.from
       → j.to ≡ q.to → IsMaximal Whole j
   both_whole p q j m n e f from to =
@@ -83,7 +83,7 @@ module _ (at : ℤ) (Whole Early Late : ℤ → Type 0) (c : IsCutAt at Whole Ea
     after = λ w. m.after (c.early_in p.to w).1;
   }
 
-  -- one that starts from the cut on is one of the late part
+  -- a maximal period of the whole that starts from the cut on is one of the late part
   pub whole_late : (p : Period) → IsMaximal Whole p → at ≤ℤ p.from → IsMaximal Late p
   whole_late p m starts = record {
     inside = λ t h. (let lo : p.from ≤ℤ t = h.0 in c.late_of t (omega (arith, ints)) (m.inside t h));
@@ -91,7 +91,7 @@ module _ (at : ℤ) (Whole Early Late : ℤ → Type 0) (c : IsCutAt at Whole Ea
     after = λ w. m.after (c.late_in p.to w).1;
   }
 
-  -- of one that the cut divides, what lies before it
+  -- the part before the cut of a period that the cut divides
   pub whole_front : (p : Period) → IsMaximal Whole p → p.from <ℤ at → at <ℤ p.to
       → (a : Period) × IsMaximal Early a × (a.from ≡ p.from) × (a.to ≡ at)
   whole_front p m before behind = (
@@ -107,7 +107,7 @@ module _ (at : ℤ) (Whole Early Late : ℤ → Type 0) (c : IsCutAt at Whole Ea
     refl,
   )
 
-  -- and what lies from it on
+  -- and the part from the cut on
   pub whole_back : (p : Period) → IsMaximal Whole p → p.from <ℤ at → at <ℤ p.to
       → (b : Period) × IsMaximal Late b × (b.from ≡ at) × (b.to ≡ p.to)
   whole_back p m before behind = (

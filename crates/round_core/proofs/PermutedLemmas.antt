@@ -1,4 +1,4 @@
--- What items come to does not depend on their order.
+-- The tally of items doesn't depend on their order.
 use Rattle.std.proofs.Common.{◌≡◌, ◌+◌, ℕ, suc, Bool, true, false, cond, Option, Some, None, List, [], ◌∷◌, length, inl, inr, refl, sym, subst, ap, ◌∙◌, arith}
 use Rattle.std.specs.Prelude.{ℤ, pos, negsuc, ◌-ℤ◌, Contains}
 use Rattle.std.specs.List.{sum_by}
@@ -71,14 +71,14 @@ amounts_permuted xs ys t a p h =
     let m = amount_from (holding xs t) a h in
     subst (Contains (amounts (holding ys t))) m.2 (amount_has (holding ys t) m.0 (held_permuted xs ys t m.0 p m.1))
 
--- ---- sums: what is above zero, less what is below
+-- ---- sums: the positive parts minus the negative ones
 
--- how far an amount is above zero
+-- An amount above zero.
 abbrev gain : ℤ → ℕ
 gain (pos n) = n
 gain (negsuc n) = 0
 
--- how far it is below zero
+-- An amount below zero.
 abbrev loss : ℤ → ℕ
 loss (pos n) = 0
 loss (negsuc n) = suc n
@@ -87,7 +87,7 @@ split_amount : (a : ℤ) → a ≡ pos (gain a) -ℤ pos (loss a)
 split_amount (pos n) = omega (arith, ints)
 split_amount (negsuc n) = omega (arith, ints)
 
--- what an item adds at t, if it holds t
+-- An item's contribution at `t`, if it holds `t`.
 abbrev share_at : ℤ → (ℤ → ℕ) → Item → ℕ
 share_at t f x = cond (holds_at t x.period) (f x.amount) 0
 
@@ -136,7 +136,7 @@ IsTally-permuted xs ys t tally p i =
       max_greatest = λ a h. i.max_greatest a (amounts_permuted ys xs t a q h);
     }
 
--- what the items that hold an instant come to, in whatever order the items are
+-- permuted items have the same tally at an instant
 pub IsTallyAt-permuted : (xs ys : List Item) (t : ℤ) (o : Option Tally) → IsPermutation xs ys → IsTallyAt xs t o
     → IsTallyAt ys t o
 IsTallyAt-permuted xs ys t None p i = nil_from_length (holding ys t) (count_permuted xs ys t p ∙ ap length i)

@@ -1,4 +1,4 @@
--- Any items have a list of plateaus, and one only.
+-- Any items have exactly one list of constant intervals.
 use Rattle.std.proofs.Common.{◌≡◌, ◌⊎◌, ℕ, zero, suc, Bool, true, false, cond, Option, Some, None, List, [], ◌∷◌, inl, inr, refl, sym, subst, ap, ◌∙◌, arith}
 use Rattle.std.specs.Prelude.{ℤ, pos, ◌-ℤ◌, ◌+ℤ◌, ◌≤ℤ◌, ◌<ℤ◌, nat_abs, nat_eq, Contains}
 use Rattle.std.specs.Cmp.{IsTotalOrder}
@@ -33,9 +33,9 @@ use Rattle.round_core.proofs.ClosingLemmas.{Plateau-same}
 use Rattle.round_core.proofs.CollectLemmas.{IsTally-unique, no_tally}
 use Rattle.round_core.proofs.PermutedLemmas.{has_held, amount_from}
 
--- ---- what some items come to at an instant can be found
+-- ---- the tally of some items at an instant can be computed
 
--- one item's tally
+-- The tally of one item.
 lone : Item → Tally
 lone x = record { count = 1; sum = x.amount; min = x.amount; max = x.amount }
 
@@ -57,7 +57,7 @@ some_tally (x ∷ xs) t =
     let others = some_tally xs t in
     (both one.0 others.0, IsTallyAt-append (x ∷ []) xs t one.0 others.0 one.1 others.1)
 
--- two numbers are one or not
+-- equality of integers is decidable
 int_or_not : (a b : ℤ) → (a ≡ b) ⊎ (a ≡ b → ⊥)
 int_or_not a b = elim (by_order a b) [
   | inr more ↦ inr (λ e. omega (arith, ints))
@@ -67,7 +67,7 @@ int_or_not a b = elim (by_order a b) [
   ]
 ]
 
--- some items come to a value or don't
+-- it is decidable whether items have a value
 pub value_or_not : (measure : Measure) (items : List Item) (v t : ℤ)
     → HasValue measure items v t ⊎ (HasValue measure items v t → ⊥)
 value_or_not measure items v t = known (some_tally items t)
@@ -79,9 +79,9 @@ value_or_not measure items v t = known (some_tally items t)
       | inr ne ↦ inr (λ h. ne (IsTally-unique measure (holding items t) a h.tally i h.is ∙ h.gives))
     ]
 
--- ---- items bound what they come to
+-- ---- the periods of items bound their constant intervals
 
--- where items come to a value, one of them holds the instant
+-- if items have a value, one of them holds the instant
 pub holder : (measure : Measure) (items : List Item) (v t : ℤ) → HasValue measure items v t
     → (x : Item) × Contains items x × Holds x.period t
 holder measure items v t h =
@@ -89,7 +89,7 @@ holder measure items v t h =
     let k = has_held items t m.0 m.1 in
     (m.0, k.0, Holds-from_test t m.0.period k.1)
 
--- an item of a class is one of the items, and of that class
+-- an item of a class's items is one of the items, and of that class
 pub own_item : (class : ℕ) (items : List Item) (x : Item) → Contains (of_class class items) x
     → Contains items x × (x.class ≡ class)
 own_item class [] x h = absurd (Contains-none x h)
@@ -111,7 +111,7 @@ own_item class (y ∷ items) x h = split (nat_eq y.class class) refl (own_item c
     ]
     split false e rec k = let m = rec k in (Contains-cons y items x m.0, m.1)
 
--- instants between which all items lie
+-- bounds of all items' periods
 pub bounds : (items : List Item) → (lo hi : ℤ)
     × ((x : Item) (t : ℤ) → Contains items x → Holds x.period t → (lo ≤ℤ t) × (t <ℤ hi))
 bounds [] = (pos 0, pos 0, λ x t h k. absurd (Contains-none x h))
@@ -144,7 +144,7 @@ bounds (y ∷ items) =
       | inr h ↦ (a, omega (arith, ints), omega (arith, ints))
     ]
 
--- so many instants from one on
+-- A number of instants from `from` on.
 instants : ℤ → ℕ → List ℤ
 instants from zero = []
 instants from (suc n) = from ∷ instants (from +ℤ pos 1) n
@@ -167,16 +167,16 @@ between_bounds lo hi t a b =
     let e : pos (nat_abs (hi -ℤ lo)) ≡ hi -ℤ lo = pos-nat_abs (hi -ℤ lo) n in
     among lo (nat_abs (hi -ℤ lo)) t a (subst (λ v. t <ℤ (lo +ℤ v)) (sym e) (omega (arith, ints)))
 
--- ---- the plateau of a class that holds an instant
+-- ---- the constant interval of a class that holds an instant
 
 module _ (measure : Measure) (items : List Item) where
-  -- a plateau of that class that holds t
+  -- A constant interval of the class that holds `t`.
   record IsPlateauAt (class : ℕ) (t : ℤ) (p : Plateau) : Type 0 where
     class_is : p.class ≡ class
     holds : Holds p.period t
     is : IsPlateau measure items p
 
-  -- two plateaus of one class that share an instant are one
+  -- two constant intervals of one class that share an instant are equal
   pub one_at : (p q : Plateau) (t : ℤ) → p.class ≡ q.class → Holds p.period t → Holds q.period t → IsPlateau measure items p
       → IsPlateau measure items q → p ≡ q
   one_at p q t same h k i j =
@@ -219,9 +219,9 @@ module _ (measure : Measure) (items : List Item) where
                 (λ q at. one_at p q t (sym at.class_is) m.1 at.holds is at.is),
           )
 
--- ---- all plateaus
+-- ---- all constant intervals
 
--- the order by class, start, end and value
+-- The order by class, start, end and value.
 plateau_cmp : Plateau → Plateau → Ordering
 plateau_cmp a b =
     ordering_then (ordering_then (nat_cmp a.class b.class) (int_cmp a.period.from b.period.from))
@@ -244,7 +244,7 @@ tied_plateaus a b e =
     (int_ranked a.period.to b.period.to Equal (sym second.0)))
     (int_ranked a.value b.value Equal (sym second.1))
 
--- what comes first comes first by class, or by start, or ties by both
+-- an interval that comes first does so by class or by start, or both are equal
 first_of : (r s rest : Ordering) → ordering_then (ordering_then r s) rest ≡ Less
     → (r ≡ Less) ⊎ ((r ≡ Equal) × ((s ≡ Less) ⊎ (s ≡ Equal)))
 first_of Less s rest e = inl refl
@@ -256,7 +256,7 @@ first_of Equal Greater rest e = cc
 not_before_itself : (a : Plateau) → plateau_cmp a a ≡ Less → ⊥
 not_before_itself a e = before-asym plateau_cmp plateau_total a a e e
 
--- of two plateaus of some items the one that comes first by all comes first by class and start
+-- of two constant intervals of some items, the first one in this order comes first by class and start
 before_of : (measure : Measure) (items : List Item) (a b : Plateau) → IsPlateau measure items a
     → IsPlateau measure items b → plateau_cmp a b ≡ Less → PlateauBefore a b
 unfolding plateau_cmp
@@ -275,7 +275,7 @@ before_of measure items a b i j less =
       ]
     ]
 
--- any items have a list of plateaus
+-- any items have a list of constant intervals
 pub some_plateaus : (measure : Measure) (items : List Item) → (ps : List Plateau) × ArePlateaus measure items ps
 some_plateaus measure items =
     let lie = bounds items in
@@ -316,7 +316,7 @@ PlateauBefore-asym a b (inl h) (inr (e, k)) = omega (arith, h, e)
 PlateauBefore-asym a b (inr (e, h)) (inl k) = omega (arith, e, k)
 PlateauBefore-asym a b (inr (e, h)) (inr (f, k)) = omega (arith, ints)
 
--- they have no other
+-- and no other one
 pub one_list_of_plateaus : (measure : Measure) (items : List Item) (one other : List Plateau)
     → ArePlateaus measure items one → ArePlateaus measure items other → one ≡ other
 one_list_of_plateaus measure items one other is is' =

@@ -1,4 +1,4 @@
--- What a round makes of the lists.
+-- The lists after a round.
 use Rattle.std.proofs.Common.{◌≡◌, ◌+◌, ◌*◌, ◌<◌, ◌≤◌, ℕ, suc, Bool, true, false, cond, Option, Some, None, List, [], ◌∷◌, length, IsTrue, ◌⊎◌, inl, inr, refl, sym, subst, ap, ◌∙◌, arith}
 use Rattle.std.specs.Prelude.{ℤ, ◌==◌, slice_get}
 use Rattle.std.specs.Int.{int_min, int_max}
@@ -16,7 +16,7 @@ use Rattle.round_core.specs.Rounds.{of, twos_in, sorted_lists, filled, AreBoths}
 use Rattle.round_core.specs.Together.{all_weight}
 use Rattle.round_core.specs.Twos.{list_at}
 
--- ---- both is associative
+-- ---- adding tallies is associative
 
 min-assoc : (a b c : ℤ) → int_min (int_min a b) c ≡ int_min a (int_min b c)
 min-assoc a b c = omega (arith, ints, clamps)
@@ -24,7 +24,7 @@ min-assoc a b c = omega (arith, ints, clamps)
 max-assoc : (a b c : ℤ) → int_max (int_max a b) c ≡ int_max a (int_max b c)
 max-assoc a b c = omega (arith, ints, clamps)
 
--- it doesn't matter which two are taken together first
+-- the order of additions doesn't matter
 pub both-assoc : (a b c : Option Tally) → both (both a b) c ≡ both a (both b c)
 both-assoc None b c = refl
 both-assoc (Some a) None c = refl
@@ -33,9 +33,9 @@ both-assoc (Some a) (Some b) (Some c) =
     Some-tally (tally_both (tally_both a b) c) (tally_both a (tally_both b c)) (omega arith) (omega (arith, ints))
     (min-assoc a.min b.min c.min) (max-assoc a.max b.max c.max)
 
--- ---- the values of twos
+-- ---- the sums of twos
 
--- there is a value for each two
+-- there is a sum for each two lists
 pub boths-length : (twos made : List StepList) → AreBoths twos made → length made * 2 ≡ length twos
 boths-length [] [] are = omega arith
 boths-length [] (o ∷ made) are = absurd are
@@ -43,7 +43,7 @@ boths-length (a ∷ []) made are = absurd are
 boths-length (a ∷ (b ∷ twos)) [] are = absurd are
 boths-length (a ∷ (b ∷ twos)) (o ∷ made) are = let e = boths-length twos made are.1 in omega (arith, e)
 
--- values of the pairs by number are values of each two
+-- the values of the pairs by number are the sums of each two lists
 pub boths_by_number : (twos made : List StepList) → length made * 2 ≡ length twos
     → ((i : ℕ) (o : StepList) → slice_get made i ≡ Some o → IsBoth (list_at twos (i * 2)) (list_at twos (i * 2 + 1)) o)
     → AreBoths twos made
@@ -62,15 +62,15 @@ boths_by_number (a ∷ (b ∷ twos)) (o ∷ made) e each = (
       (each (suc i) x h))),
 )
 
--- ---- what comes of a round
+-- ---- the result of a round
 
--- two lists of a class and the list of both give the same
+-- two lists of a class and their sum have the same tally
 tally_of_two : (same : Bool) (a b o rest : Option Tally) → o ≡ both a b
     → both (cond same o None) rest ≡ both (cond same a None) (both (cond same b None) rest)
 tally_of_two true a b o rest e = ap (λ z. both z rest) e ∙ both-assoc a b rest
 tally_of_two false a b o rest e = refl
 
--- each class comes to the same as before
+-- each class has the same tally as before
 same_tallies : (slots : List Slot) (twos made : List StepList) → AreBoths twos made → (class : ℕ) (t : ℤ)
     → class_at class (filled slots made) t ≡ class_at class (sorted_lists slots twos) t
 same_tallies [] twos made are class t = refl
@@ -85,7 +85,7 @@ same_tallies (OfTwo k ∷ slots) (a ∷ (b ∷ twos)) (o ∷ made) are class t =
     ∙ tally_of_two (k == class) (tally_at a.steps t) (tally_at b.steps t) (tally_at o.steps t)
     (class_at class (sorted_lists slots twos) t) (are.0.tallies t)
 
--- the weight is as before
+-- the weight is the same as before
 same_weight : (slots : List Slot) (twos made : List StepList) → AreBoths twos made
     → weight_of (filled slots made) ≡ weight_of (sorted_lists slots twos)
 same_weight [] twos made are = refl
@@ -97,7 +97,7 @@ same_weight (OfTwo k ∷ slots) (a ∷ (b ∷ twos)) [] are = absurd are
 same_weight (OfTwo k ∷ slots) (a ∷ (b ∷ twos)) (o ∷ made) are =
     let e = same_weight slots twos made are.1 in let w = are.0.weight in omega (arith, e, w)
 
--- the classes rise as before
+-- the classes are still in ascending order
 same_rise : (slots : List Slot) (twos made : List StepList) → AreBoths twos made → (least : ℕ)
     → RisesFrom least (sorted_lists slots twos) → RisesFrom least (filled slots made)
 same_rise [] twos made are least r = tt
@@ -109,7 +109,7 @@ same_rise (OfTwo k ∷ slots) (a ∷ (b ∷ twos)) [] are least r = absurd are
 same_rise (OfTwo k ∷ slots) (a ∷ (b ∷ twos)) (o ∷ made) are least r =
     (r.0, same_rise slots twos made are.1 k r.1.1)
 
--- there is one list less for each two, where each two has a slot
+-- if each two lists have a slot, there is one list less for each two
 filled-length : (slots : List Slot) (twos made : List StepList) → AreBoths twos made → length twos ≡ twos_in slots * 2
     → length (filled slots made) + length made ≡ length (sorted_lists slots twos)
 filled-length [] [] [] are e = omega arith
@@ -133,7 +133,7 @@ round_of all slots twos made e are n =
       rises = same_rise slots twos made are;
     })
 
--- the twos are no more, and weigh no more, than all lists
+-- the twos are no more than all lists, and their weight isn't greater
 pub twos-weight : (slots : List Slot) (twos : List StepList) → length twos ≡ twos_in slots * 2
     → all_weight twos ≤ weight_of (sorted_lists slots twos)
 twos-weight [] [] e = omega arith
@@ -152,7 +152,7 @@ twos-length (OfTwo k ∷ slots) [] e = absurd (omega arith)
 twos-length (OfTwo k ∷ slots) (a ∷ []) e = absurd (omega arith)
 twos-length (OfTwo k ∷ slots) (a ∷ (b ∷ twos)) e = let n = twos-length slots twos (omega arith) in omega (arith, n)
 
--- without twos the lists are as before
+-- without twos the lists are unchanged
 filled_alone : (slots : List Slot) → filled slots [] ≡ sorted_lists slots []
 filled_alone [] = refl
 filled_alone (Aside list ∷ slots) = ap (λ z. list ∷ z) (filled_alone slots)
@@ -165,7 +165,7 @@ filled_without all slots [] [] e are none h = subst HaveNoNeighbours (sym (fille
 filled_without all slots [] (o ∷ made) e are none h = absurd are
 filled_without all slots (a ∷ twos) made e are none h = let l = ap length none in absurd (omega (arith, l))
 
--- with twos they are fewer
+-- with twos there are fewer lists
 pub filled_with : (all : List ClassSteps) (slots : List Slot) (twos made : List StepList)
     → sorted_lists slots twos ≡ all → AreBoths twos made → length twos ≡ twos_in slots * 2 → 0 < length twos
     → length (filled slots made) < length all
@@ -175,7 +175,7 @@ filled_with all slots twos made e are n some =
     let l : length (sorted_lists slots twos) ≡ length all = ap length e in
     omega (arith, k, m, l, some)
 
--- a test holds, or something follows where it doesn't
+-- a test holds, or something follows if it doesn't
 pub fewer_or : (done : Bool) (Less : Type 0) → (done ≡ false → Less) → IsTrue done ⊎ Less
 fewer_or true Less less = inl refl
 fewer_or false Less less = inr (less refl)

@@ -1,4 +1,4 @@
--- Lists of steps that stand for the items of each class.
+-- Lists of steps with the tallies of each class's items.
 use Rattle.std.proofs.Common.{◌≡◌, ◌+◌, ◌<◌, ◌≤◌, ℕ, suc, cond, None, List, [], ◌∷◌, ◌++◌, length, take, drop, All, AllPairs, inl, inr, refl, sym, subst, ap, ◌∙◌, arith, append_assoc, length-append}
 use Rattle.std.specs.Prelude.{ℤ, ◌==◌, Contains, IsPermutation, nat_eq}
 use Rattle.std.proofs.lemmas.Bool.{cases_eq, eq-eqb, ne_eqb}
@@ -18,7 +18,7 @@ use Rattle.round_core.specs.ClassLists.{tally_for, class_at, weight_of, RisesFro
 use Rattle.round_core.proofs.RoundLemmas.{both-assoc}
 use Rattle.round_core.proofs.PermutedLemmas.{IsTallyAt-permuted}
 
--- ---- lists laid together
+-- ---- two lists together
 
 pub class_at-append : (class : ℕ) (xs ys : List ClassSteps) (t : ℤ)
     → class_at class (xs ++ ys) t ≡ both (class_at class xs t) (class_at class ys t)
@@ -37,7 +37,7 @@ AreOf-append class (x ∷ xs) ys a b = (a.0, AreOf-append class xs ys a.1 b)
 
 -- ---- added steps
 
--- steps of more items of the class
+-- the steps of more items of the class
 adds_more : (class : ℕ) (xs ys : List Item) (old mid new : List ClassSteps) → AddsSteps class xs old mid
     → AddsSteps class ys mid new → AddsSteps class (xs ++ ys) old new
 adds_more class xs ys old mid new a b =
@@ -56,7 +56,7 @@ adds_more class xs ys old mid new a b =
           let u = a.few in let v = b.few in omega (arith, w, l, u, v));
     }
 
--- the same items in another order
+-- the same for permuted items
 pub adds_permuted : (class : ℕ) (xs ys : List Item) (old new : List ClassSteps) → IsPermutation xs ys
     → AddsSteps class xs old new → AddsSteps class ys old new
 adds_permuted class xs ys old new p a =
@@ -71,7 +71,7 @@ adds_permuted class xs ys old new p a =
 
 -- ---- items of one class
 
--- all items are of that class
+-- All items are of the class.
 abbrev pub HaveClass : ℕ → List Item → Type 0
 HaveClass class [] = Unit {0}
 HaveClass class (x ∷ xs) = (x.class ≡ class) × HaveClass class xs
@@ -104,7 +104,7 @@ none_at_other class other (l ∷ ls) t ne h =
     (ap (λ n. nat_eq n other) h.0 ∙ ne_eqb class other ne)
     ∙ none_at_other class other ls t ne h.1
 
--- steps of items of one class stand for them, whatever class is asked for
+-- the steps of one class's items have the right tally for every class
 stand_of_class : (class : ℕ) (xs : List Item) (old new : List ClassSteps) → HaveClass class xs
     → (a : AddsSteps class xs old new) → StandForAll xs a.added
 stand_of_class class xs old new h a =
@@ -139,7 +139,7 @@ stand_more xs ys ls ms a b =
           let u = a.few in let v = b.few in omega (arith, w, l, u, v));
     }
 
--- ---- of the classes of items
+-- ---- the classes of items
 
 HasItem-early : (xs ys : List Item) (class : ℕ) → HasItem xs class → HasItem (xs ++ ys) class
 HasItem-early xs ys class h = record {
@@ -173,7 +173,7 @@ of_first first run (l ∷ ls) own = (
 
 -- ---- in order
 
--- no list is of a class above that one
+-- No list is of a higher class.
 abbrev pub UpTo : ℕ → List ClassSteps → Type 0
 UpTo class [] = Unit {0}
 UpTo class (l ∷ ls) = (l.class ≤ class) × UpTo class ls
@@ -197,8 +197,8 @@ rise_more least class (x ∷ xs) ys h u a r = (r.0, rise_more x.class class xs y
 
 -- ---- class by class
 
--- the items before those that are left stand in the lists, and the classes of these are no higher than those of the
--- items that are left
+-- The lists have the tallies of the items before the remaining ones, and their classes are no higher than the
+-- remaining items' classes.
 pub record IsListing (all left : List Item) (lists : List ClassSteps) : Type 0 where
   pub gone : List Item
   pub split : all ≡ gone ++ left
@@ -214,7 +214,7 @@ AllPairs-behind [] ys h = h
 AllPairs-behind (z ∷ xs) ys h =
     AllPairs-behind xs ys (AllPairs-tail (λ (a b : Item). a.class ≤ b.class) z (xs ++ ys) h)
 
--- the run of a class is added
+-- one class's items are added
 listing_run : (all left rest : List Item) (first : Item) (run : List Item) (lists lists' : List ClassSteps)
     → left ≡ (first ∷ run) ++ rest → HaveClass first.class (first ∷ run)
     → AddsSteps first.class (first ∷ run) lists lists' → IsListing all left lists → IsListing all rest lists'
@@ -249,7 +249,7 @@ listing_run all left rest first run lists lists' e own adds was =
       grouped = AllPairs-behind (first ∷ run) rest grouped;
     }
 
--- the same of a run of which its length is known
+-- the same if their number is known
 pub listing_more : (all left behind run rest : List Item) (first : Item) (n : ℕ) (lists lists' : List ClassSteps)
     → left ≡ first ∷ behind → run ≡ take (1 + n) left → rest ≡ drop (1 + n) left
     → All (λ (x : Item). x.class ≡ first.class) (take n behind) → AddsSteps first.class run lists lists'
@@ -267,7 +267,7 @@ listing_more all left behind run rest first n lists lists' e f g own adds was =
 
 -- ---- part by part
 
--- the steps of one part more
+-- the steps of one more part
 pub adds_next_part : (class i : ℕ) (parts : List (List Item)) (old mid new : List ClassSteps) → i < length parts
     → AddsSteps class (part_at parts i) mid new → AddsSteps class (all_of (take i parts)) old mid
     → AddsSteps class (all_of (take (i + 1) parts)) old new

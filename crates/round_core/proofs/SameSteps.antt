@@ -1,4 +1,4 @@
--- `==` of steps decides whether they are one.
+-- `==` decides equality of steps.
 use Rattle.std.proofs.Common.{◌≡◌, List, Bool, ap}
 use Rattle.std.specs.Bool.{Decides}
 use Rattle.std.proofs.lemmas.Bool.Decides.{Decides-eqb, Decides-int_eq, Decides-and, Decides-like}
@@ -32,6 +32,6 @@ step_decides a b = Decides-like _
     (Decides-and _ _ (Decides-int_eq a.tally.sum b.tally.sum)
     (Decides-and _ _ (Decides-int_eq a.tally.min b.tally.min) (Decides-int_eq a.tally.max b.tally.max)))))
 
--- two slices of steps are equal exactly where they are one
+-- `==` decides whether two slices of steps are equal
 pub steps_decide : (xs ys : List Step) (r : Bool) → r ≡ pointwise eq-value.it xs ys → Decides r (xs ≡ ys)
 steps_decide xs ys r e = slice_eq-Decides step_decides xs ys r e

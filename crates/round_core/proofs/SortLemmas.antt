@@ -1,4 +1,4 @@
--- Lists sorted out for a round, and the slots filled.
+-- Sorting lists for a round, and filling the slots.
 use Rattle.std.proofs.Common.{◌≡◌, ◌+◌, ◌*◌, ℕ, List, [], ◌∷◌, ◌++◌, length, sym, subst, ap, ◌∙◌, arith, append_assoc, append-nil, length-append}
 use Rattle.merge_core.specs.Steps.{StepList}
 use Rattle.round_core.specs.declared.class_steps.ClassSteps.{ClassSteps}
@@ -7,10 +7,10 @@ use Rattle.round_core.specs.declared.round.Slot.TheVariants.{Aside, OfTwo}
 use Rattle.round_core.specs.ClassLists.{StartsOtherwise, HaveNoNeighbours}
 use Rattle.round_core.specs.Rounds.{of, twos_in, sorted_lists, filled}
 
--- ---- sorting out
+-- ---- sorting
 
--- whatever the lists that are left are sorted into, behind what is there it is what all lists are sorted into; and
--- where no two go so far, only those that are left can have neighbours
+-- The slots and twos until now, followed by the remaining lists' ones, are the slots and twos of all lists. Without
+-- any two until now, only the remaining lists can have neighbours.
 pub record IsSorting (all left : List ClassSteps) (slots : List Slot) (twos : List StepList) : Type 0 where
   pub goes_on : (rest : List Slot) (more : List StepList) → sorted_lists rest more ≡ left
       → sorted_lists (slots ++ rest) (twos ++ more) ≡ all
@@ -25,7 +25,7 @@ twos_in-append (OfTwo class ∷ slots) rest = let e = twos_in-append slots rest 
 none_behind : (twos : List StepList) (a : StepList) → twos ++ a ∷ [] ≡ [] → ⊥
 none_behind twos a e = let l = ap length e in let k = length-append twos (a ∷ []) in omega (arith, l, k)
 
--- a list without a neighbour is put aside
+-- a list without a neighbour is set aside
 pub sorting_aside : (all left left' : List ClassSteps) (slots slots' : List Slot) (twos : List StepList)
     (first : ClassSteps) → left ≡ first ∷ left' → StartsOtherwise first.class left' → slots' ≡ slots ++ Aside first ∷ []
     → IsSorting all left slots twos → IsSorting all left' slots' twos
@@ -40,7 +40,7 @@ sorting_aside all left left' slots slots' twos first e other f was =
       done = λ none h. was.done none (subst HaveNoNeighbours (sym e) (other, h));
     }
 
--- two neighbours of one class go
+-- two neighbours of one class will be added
 pub sorting_two : (all left left' : List ClassSteps) (slots slots' : List Slot) (twos twos' : List StepList) (class : ℕ)
     (one other : StepList) (second : ClassSteps) → left ≡ of class one ∷ (second ∷ left') → second.class ≡ class
     → second.steps ≡ other → slots' ≡ slots ++ OfTwo class ∷ [] → twos' ≡ (twos ++ one ∷ []) ++ other ∷ []
@@ -71,7 +71,7 @@ sorting_end all left slots twos e was =
 
 -- ---- filling
 
--- behind the lists so far come those of the slots and the values that are left
+-- The lists until now, followed by the lists of the remaining slots and sums, are all lists.
 pub record IsFilling (all lists : List ClassSteps) (slots : List Slot) (made : List StepList) : Type 0 where
   pub goes_on : lists ++ filled slots made ≡ all
   pub count : length made ≡ twos_in slots

@@ -1,4 +1,4 @@
--- The plateaus of items of one class, from those of what they hold before an instant and of what they hold from it on.
+-- The constant intervals of items of one class, from the intervals before an instant and from it on.
 use Rattle.std.proofs.Common.{◌≡◌, ◌⊎◌, ℕ, ◌<◌, ◌≤◌, ◌+◌, cond, List, [], ◌∷◌, ◌++◌, Option, Some, None, get_or, length, length-append, inl, inr, refl, sym, subst, ap, ◌∙◌, arith}
 use Rattle.std.specs.Prelude.{ℤ, pos, ◌-ℤ◌, ◌≤ℤ◌, ◌<ℤ◌, All, AllPairs, Contains, MatchOption}
 use Rattle.std.proofs.Math.Seq.{get_or-append_seam}
@@ -32,7 +32,7 @@ use Rattle.round_core.proofs.PlateauExistence.{bounds, holder, one_at, own_item,
 
 -- ---- items of one class
 
--- items of equal amounts come to the same
+-- items with equal amounts have the same tally
 same_tally : (xs ys : List Item) (tally : Tally) → amounts xs ≡ amounts ys → IsTally xs tally → IsTally ys tally
 same_tally xs ys tally e i = record {
   count = i.count ∙ sym (length-map xs (λ (x : Item). x.amount)) ∙ ap length e
@@ -44,7 +44,7 @@ same_tally xs ys tally e i = record {
   max_greatest = λ a h. i.max_greatest a (subst (λ l. Contains l a) (sym e) h);
 }
 
--- so they have one value at an instant
+-- so they have the same value at an instant
 same_value : (measure : Measure) (xs ys : List Item) (v t : ℤ) → amounts (holding xs t) ≡ amounts (holding ys t)
     → HasValue measure xs v t → HasValue measure ys v t
 same_value measure xs ys v t e h = record {
@@ -53,21 +53,21 @@ same_value measure xs ys v t e h = record {
   gives = h.gives;
 }
 
--- so are items that are each of the class of one of them
+-- items that each have the class of some item here are of the same class
 pub owned : (class : ℕ) (items others : List Item) → All (λ (x : Item). x.class ≡ class) items
     → ((x : Item) → Contains others x → HasItem items x.class) → All (λ (x : Item). x.class ≡ class) others
 owned class items others own has =
     λ i d h. (let y = has (get_or others i d) (Contains-get_or others i d h) in
     sym y.class_is ∙ All-contains (λ (z : Item). z.class ≡ class) items y.item own y.item_in)
 
--- so they rise by class
+-- so they are in ascending order of class
 pub own_rise : (class : ℕ) (items : List Item) → All (λ (x : Item). x.class ≡ class) items → ClassesRise items
 own_rise class items own = λ i j d upto inside.
     (let one : (get_or items i d).class ≡ class = own i d (omega (arith, upto, inside)) in
     let other : (get_or items j d).class ≡ class = own j d inside in
     omega (arith, one, other))
 
--- those of their class are all
+-- the items of their class are all items
 all_own : (class : ℕ) (items : List Item) → All (λ (x : Item). x.class ≡ class) items → of_class class items ≡ items
 all_own class [] own = refl
 all_own class (x ∷ items) own =
@@ -76,7 +76,7 @@ all_own class (x ∷ items) own =
     ∙ ap (λ l. x ∷ l) (all_own class items (All-tail (λ (y : Item). y.class ≡ class) x items own))
 
 module _ (measure : Measure) (class : ℕ) (items : List Item) (own : All (λ (x : Item). x.class ≡ class) items) where
-  -- a plateau is of their class
+  -- a constant interval is of their class
   class_is : (p : Plateau) → IsPlateau measure items p → p.class ≡ class
   class_is p i =
       let m = holder measure (of_class p.class items) p.value p.period.from
@@ -97,7 +97,7 @@ module _ (measure : Measure) (class : ℕ) (items : List Item) (own : All (λ (x
         (sym (ap (λ k. of_class k items) e ∙ all_own class items own)) m;
   }
 
-  -- where they have a value there is a plateau
+  -- there is a constant interval around an instant with a value
   around : (v t : ℤ) → HasValue measure items v t
       → (p : Plateau) × IsPlateau measure items p × Holds p.period t × (p.value ≡ v)
   around v t h =
@@ -109,20 +109,20 @@ module _ (measure : Measure) (class : ℕ) (items : List Item) (own : All (λ (x
 
 -- ---- lists and their ends
 
--- the last of a list that isn't empty
+-- the last element of a non-empty list
 last_of : {X : Type 0} (xs : List X) (x : X) → Contains xs x → (front : List X) × (last : X) × (xs ≡ front ++ last ∷ [])
 last_of [] x h = absurd (Contains-none x h)
 last_of (y ∷ []) x h = ([], y, refl)
 last_of (y ∷ (z ∷ zs)) x h = let r = last_of (z ∷ zs) z (Contains-head z zs) in
     (y ∷ r.0, r.1, ap (λ l. y ∷ l) r.2)
 
--- the first of one
+-- the first element
 first_of : {X : Type 0} (xs : List X) (x : X) → Contains xs x → (first : X) × (back : List X) × (xs ≡ first ∷ back)
 first_of [] x h = absurd (Contains-none x h)
 first_of (y ∷ ys) x h = (y, ys, refl)
 
 module _ {X : Type 0} (R : X → X → Type 0) where
-  -- what stands in front of the last one is before it
+  -- an element before the last one comes before it in order
   before_last : (front : List X) (last x : X) → AllPairs R (front ++ last ∷ []) → Contains front x → R x last
   before_last [] last x ordered h = absurd (Contains-none x h)
   before_last (z ∷ zs) last x ordered h = elim (Contains-cons_cases z zs x h) [
@@ -132,7 +132,7 @@ module _ {X : Type 0} (R : X → X → Type 0) where
     | inr k ↦ before_last zs last x (AllPairs-tail R z (zs ++ last ∷ []) ordered) k
   ]
 
-  -- the front of a list in order is in order
+  -- a prefix of a list in order is in order
   front_ordered : (front back : List X) → AllPairs R (front ++ back) → AllPairs R front
   front_ordered [] back ordered = λ i j d less h. absurd (omega arith)
   front_ordered (z ∷ zs) back ordered =
@@ -140,13 +140,13 @@ module _ {X : Type 0} (R : X → X → Type 0) where
       (λ y h. AllPairs-head R z (zs ++ back) y ordered (Contains-append_left zs back y h))
       (front_ordered zs back (AllPairs-tail R z (zs ++ back) ordered))
 
--- ---- items that are cut
+-- ---- clipped items
 
 module _ (measure : Measure) (class : ℕ) (at : ℤ) (items early late : List Item)
     (own : All (λ (x : Item). x.class ≡ class) items) (b : AreWithin (range None (Some at)) items early)
     (f : AreWithin (range (Some at) None) items late) (E L : List Plateau) (one : ArePlateaus measure early E)
     (other : ArePlateaus measure late L) where
-  -- the instants of a value are cut
+  -- the instants with a value are cut
   cut : (v : ℤ) → IsCutAt at (HasValue measure items v) (HasValue measure early v) (HasValue measure late v)
   cut v = record {
     early_in = λ t h. elim (by_order at t) [
@@ -161,11 +161,11 @@ module _ (measure : Measure) (class : ℕ) (at : ℤ) (items early late : List I
     late_of = λ t k h. same_value measure items late v t (sym (f.same t (k, tt))) h;
   }
 
-  -- the sets that one value has, in short
+  -- The set of instants with one value.
   abbrev Whole : ℤ → ℤ → Type 0
   Whole v = HasValue measure items v
 
-  -- what is known of a plateau of either side
+  -- The facts about a constant interval of the early side.
   record IsEarly (a : Plateau) : Type 0 where
     is : IsPlateau measure early a
     own_class : a.class ≡ class
@@ -198,7 +198,7 @@ module _ (measure : Measure) (class : ℕ) (at : ℤ) (items early late : List I
             (cut a.value) a.period m;
       }
 
-  -- an early one stands before a late one
+  -- an early interval comes before a late one
   across : (a c : Plateau) → IsPlateau measure early a → IsPlateau measure late c → PlateauBefore a c
   across a c i k =
       let x = early_is a i in
@@ -208,7 +208,7 @@ module _ (measure : Measure) (class : ℕ) (at : ℤ) (items early late : List I
       let starts : at ≤ℤ c.period.from = y.starts in
       inr (x.own_class ∙ sym y.own_class, omega (arith, ints))
 
-  -- ---- what ends at the cut, and what begins there
+  -- ---- the interval that ends at the cut, and the one that begins there
 
   last_one : (front : List Plateau) (last a : Plateau) → E ≡ front ++ last ∷ [] → Contains E a → a.period.to ≡ at
       → a ≡ last
@@ -247,7 +247,7 @@ module _ (measure : Measure) (class : ℕ) (at : ℤ) (items early late : List I
             ]
       ]
 
-  -- where the items have a value right before the cut, a plateau ends there
+  -- if the items have a value right before the cut, an interval ends there
   ended : (v : ℤ) → Whole v (at -ℤ pos 1) → (a : Plateau) × Contains E a × (a.period.to ≡ at) × (a.value ≡ v)
   ended v h =
       let p = around measure class early (owned class items early own b.own) v (at -ℤ pos 1) ((cut v).early_of (at -ℤ pos 1) (omega (arith, ints)) h) in
@@ -255,7 +255,7 @@ module _ (measure : Measure) (class : ℕ) (at : ℤ) (items early late : List I
       let over : (at -ℤ pos 1) <ℤ p.0.period.to = p.2.1 in
       (p.0, (one.exactly p.0).1 p.1, omega (arith, ints), p.3)
 
-  -- where they have one at the cut, a plateau begins there
+  -- if they have a value at the cut, an interval begins there
   begun : (v : ℤ) → Whole v at → (c : Plateau) × Contains L c × (c.period.from ≡ at) × (c.value ≡ v)
   begun v h =
       let p = around measure class late (owned class items late own f.own) v at ((cut v).late_of at (omega (arith, ints)) h) in
@@ -263,7 +263,7 @@ module _ (measure : Measure) (class : ℕ) (at : ℤ) (items early late : List I
       let under : p.0.period.from ≤ℤ at = p.2.0 in
       (p.0, (other.exactly p.0).1 p.1, omega (arith, ints), p.3)
 
-  -- ---- a plateau of all items
+  -- ---- a constant interval of all items
 
   whole_of_early : (a : Plateau) → IsEarly a → (a.period.to ≡ at → Whole a.value at → ⊥) → IsPlateau measure items a
   whole_of_early a i off =
@@ -278,7 +278,7 @@ module _ (measure : Measure) (class : ℕ) (at : ℤ) (items early late : List I
       (late_whole at (Whole c.value) (HasValue measure early c.value) (HasValue measure late c.value) (cut c.value)
       c.period i.maximal off)
 
-  -- one that the cut divides: what lies before it, and what from it on
+  -- An interval that the cut divides: its part before the cut, and its part from the cut on.
   record IsDivided (x : Plateau) : Type 0 where
     a : Plateau
     c : Plateau
@@ -291,7 +291,7 @@ module _ (measure : Measure) (class : ℕ) (at : ℤ) (items early late : List I
     starts : c.period.from ≡ at
     to : c.period.to ≡ x.period.to
 
-  -- a plateau of all items is one of either side, or is divided
+  -- a constant interval of all items is one of either side, or is divided
   sides : (x : Plateau) → IsPlateau measure items x
       → ((x.period.to ≤ℤ at) × IsPlateau measure early x) ⊎ (((at ≤ℤ x.period.from) × IsPlateau measure late x) ⊎ IsDivided x)
   sides x i =
@@ -330,9 +330,9 @@ module _ (measure : Measure) (class : ℕ) (at : ℤ) (items early late : List I
         ]
       ]
 
-  -- ---- the plateaus put together
+  -- ---- both sides joined
 
-  -- where the lists stand apart nothing goes on across the cut
+  -- if no interval continues another, none goes on across the cut
   not_continued : AreApartAt E L (E ++ L) → (a c : Plateau) → Contains E a → Contains L c → a.period.to ≡ at
       → c.period.from ≡ at → a.value ≡ c.value → ⊥
   not_continued apart a c h k to from same =
@@ -361,8 +361,8 @@ module _ (measure : Measure) (class : ℕ) (at : ℤ) (items early late : List I
         ]
       ])
 
-  -- where they are joined, what stands in front of the last one ends before the cut, and what stands behind the first one
-  -- starts behind it
+  -- if the lists are joined, the intervals before the last one end before the cut, and the intervals after the first
+  -- one start after it
   module _ (rows : List Plateau) (j : AreJoined E L rows) where
     last_in : Contains E j.joint.last
     last_in = subst (λ l. Contains l j.joint.last) (sym j.joint.early_is)
@@ -398,7 +398,7 @@ module _ (measure : Measure) (class : ℕ) (at : ℤ) (items early late : List I
     front_before a h =
         before_last PlateauBefore j.joint.front j.joint.last a (subst (AllPairs PlateauBefore) j.joint.early_is one.ordered) h
 
-    -- behind the first one
+    -- after the first one
     back_behind : (c : Plateau) → Contains j.joint.back c → PlateauBefore j.joint.first c
     back_behind c h =
         AllPairs-head PlateauBefore j.joint.first j.joint.back c (subst (AllPairs PlateauBefore) j.joint.late_is other.ordered) h
@@ -419,7 +419,7 @@ module _ (measure : Measure) (class : ℕ) (at : ℤ) (items early late : List I
         not_itself j.joint.first
         (subst (PlateauBefore j.joint.first) (first_one j.joint.first j.joint.back c j.joint.late_is (back_in c h) from) (back_behind c h))
 
-    -- the joined one
+    -- the joined interval
     both_plateau : IsPlateau measure items j.both
     both_plateau =
         plateau_of measure class items own j.both (j.joint.joined.class_is ∙ last_is.own_class)
@@ -437,7 +437,7 @@ module _ (measure : Measure) (class : ℕ) (at : ℤ) (items early late : List I
     back_plateau : (c : Plateau) → Contains j.joint.back c → IsPlateau measure items c
     back_plateau c h = whole_of_late c (late_is c ((other.exactly c).0 (back_in c h))) (λ from w. back_off c h from)
 
-    -- nothing of all items ends or starts at the cut with that value
+    -- no interval of all items with that value ends or starts at the cut
     not_last : (x : Plateau) → IsPlateau measure items x → x ≡ j.joint.last → ⊥
     not_last x i e =
         let m = maximal_of measure class items own x i in
@@ -463,7 +463,7 @@ module _ (measure : Measure) (class : ℕ) (at : ℤ) (items early late : List I
         let from : x.period.from ≡ at = ap (λ (z : Plateau). z.period.from) e ∙ first_starts in
         m.before (subst (λ z. Whole x.value (z -ℤ pos 1)) (sym from) (subst (λ v. Whole v (at -ℤ pos 1)) value w))
 
-    -- one that the cut divides is the joined one
+    -- an interval that the cut divides is the joined one
     divided_is : (x : Plateau) → IsPlateau measure items x → IsDivided x → j.both ≡ x
     divided_is x i d =
         let a : d.a ≡ j.joint.last = last_one j.joint.front j.joint.last d.a j.joint.early_is d.a_in d.ends in
@@ -475,7 +475,7 @@ module _ (measure : Measure) (class : ℕ) (at : ℤ) (items early late : List I
         (j.joint.joined.to ∙ ap (λ (z : Plateau). z.period.to) (sym c) ∙ d.to))
         (j.joint.joined.value ∙ ap (λ (z : Plateau). z.value) (sym a) ∙ d.a_value)
 
-    -- the joined one and what stands behind it
+    -- The joined interval, or one after it.
     abbrev Behind : Plateau → Type 0
     Behind x = (j.both ≡ x) ⊎ Contains j.joint.back x
 
@@ -554,9 +554,9 @@ module _ (measure : Measure) (class : ℕ) (at : ℤ) (items early late : List I
         (are_apart (record { off = apart.off; rows_are = refl }))
   ]
 
--- ---- what joins two lists
+-- ---- joining two lists
 
--- the last of a list is one
+-- a list has one last element
 last_same : {X : Type 0} (xs ys : List X) (x y : X) → xs ++ x ∷ [] ≡ ys ++ y ∷ [] → x ≡ y
 last_same [] [] x y e = cc
 last_same [] (z ∷ zs) x y e =
@@ -572,7 +572,7 @@ last_same (z ∷ zs) (w ∷ ws) x y e = last_same zs ws x y (rest_same z w (zs +
     rest_same : {Y : Type 0} (a b : Y) (us vs : List Y) → a ∷ us ≡ b ∷ vs → us ≡ vs
     rest_same a b us vs h = cc
 
--- whether the last of the one and the first of the other join is whether the lists have a joint
+-- the lists have a joint exactly if the last interval of one and the first of the other join
 pub joint_known : (early late front back : List Plateau) (last first : Plateau) → early ≡ front ++ last ∷ []
     → late ≡ first ∷ back → (o : Option Plateau)
     → MatchOption o (Continues last first → ⊥) (λ both. Continues last first × IsJoined last first both)
@@ -597,7 +597,7 @@ joint_known early late front back last first e l (Some both) h = record {
 
 -- ---- one class
 
--- items that rise by class to no higher one than the first one's are of that class
+-- if the last item of a list in ascending order of class has no higher class than the first, all are of that class
 pub one_class : (items later front : List Item) (first last : Item) → ClassesRise items → items ≡ first ∷ later
     → items ≡ front ++ last ∷ [] → last.class ≤ first.class → AreOfOneClass items
 one_class items later front first last rise e f upto = record {

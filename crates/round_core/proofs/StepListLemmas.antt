@@ -1,4 +1,4 @@
--- The lists of shares of the items, one behind another.
+-- The lists of all partitions of the items together.
 use Rattle.std.proofs.Common.{◌≤◌, ℕ, List, [], ◌∷◌, ◌++◌, Option, Some, None, Result, Ok, take, drop, AllPairs, inl, inr, sym, subst, arith, append-nil}
 use Rattle.std.specs.Ordering.{nat_cmp}
 use Rattle.std.specs.declared.alloc.AllocError.{AllocError}
@@ -21,7 +21,7 @@ use Rattle.share_core.proofs.ShareLemmas.{all_come}
 use Rattle.round_core.specs.ClassLists.{AreOfItems, AreStepLists, RisesFrom}
 use Rattle.round_core.proofs.RunLemmas.{AllPairs-behind, stand_more, of_items_more}
 
--- no item is of a higher class than a later one
+-- No item has a higher class than a later one.
 abbrev Rise : List Item → Type 0
 Rise items = AllPairs (λ (a b : Item). a.class ≤ b.class) items
 
@@ -33,7 +33,7 @@ AllPairs-front (x ∷ xs) ys h =
     AllPairs-head (λ (a b : Item). a.class ≤ b.class) x (xs ++ ys) y h (Contains-append_left xs ys y k))
     (AllPairs-front xs ys (AllPairs-tail (λ (a b : Item). a.class ≤ b.class) x (xs ++ ys) h))
 
--- no item of the one list is of a higher class than one of the other
+-- No item of the first list has a higher class than one of the second.
 abbrev IsBelow : List Item → List Item → Type 0
 IsBelow xs ys = (x y : Item) → Contains xs x → Contains ys y → x.class ≤ y.class
 
@@ -47,7 +47,7 @@ below_across (z ∷ zs) ys h x y j k = elim (Contains-cons_cases z zs x j) [
       below_across zs ys (AllPairs-tail (λ (a b : Item). a.class ≤ b.class) z (zs ++ ys) h) x y later k
 ]
 
--- lists of the classes of items that are not below the least
+-- lists of the classes of items that are not below `least`
 rise_from_least : (least : ℕ) (ys : List Item) (ms : List ClassSteps)
     → ((y : Item) → Contains ys y → least ≤ y.class) → AreOfItems ys ms → RisesFrom 0 ms → RisesFrom least ms
 rise_from_least least ys [] above are r = tt
@@ -64,9 +64,9 @@ rise_behind least xs ys (l ∷ ls) ms above below a b r s = (
       (λ y k. subst (λ (n : ℕ). n ≤ y.class) a.0.class_is (below a.0.item y a.0.item_in k)) below a.1 b r.1 s,
 )
 
--- ---- shares of the items by their places
+-- ---- partitions of the items by index
 
--- items by rising class, a range of places of them
+-- a partition of items in ascending order of class is in that order
 pub piece_rises : (places : Range ℕ) (items : List Item) → Rise items → Rise (piece places items)
 piece_rises places items rise = behind places.from (piece_before places.before items) (front places.before items rise)
   where
@@ -78,7 +78,7 @@ piece_rises places items rise = behind places.from (piece_before places.before i
     behind None xs h = h
     behind (Some n) xs h = AllPairs-behind (take n xs) (drop n xs) (subst Rise (sym (take-append-drop n xs)) h)
 
--- lists of steps of items, and of others that stand behind them
+-- the lists of steps of items, followed by those of later items
 lists_more : (xs ys : List Item) (ls ms : List ClassSteps) → Rise (xs ++ ys) → AreStepLists xs ls → AreStepLists ys ms
     → AreStepLists (xs ++ ys) (ls ++ ms)
 lists_more xs ys ls ms grouped one other = record {
@@ -88,7 +88,7 @@ lists_more xs ys ls ms grouped one other = record {
   classes = of_items_more xs ys ls ms one.classes other.classes;
 }
 
--- what each share of the items gives, one behind another, is what all give
+-- the lists of all partitions together are the lists of all items
 pub shares-lists : (items : List Item) (post : Range ℕ → ℕ → Result (Vec ClassSteps) AllocError → Type 0)
     (cuts : List (Cut ℕ)) (shares : List (Vec ClassSteps)) → Rise items
     → ((places : Range ℕ) (n : ℕ) (lists : Vec ClassSteps) → post places n (Ok lists)

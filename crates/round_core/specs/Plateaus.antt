@@ -1,4 +1,4 @@
--- What the items of each class come to, as the longest periods of one value.
+-- The constant intervals of the items of each class.
 use Rattle.std.specs.Prelude.{◌≡◌, ◌==◌, ◌⊎◌, ℕ, ◌<◌, Some, List, ℤ, pos, ◌<ℤ◌}
 use Rattle.std.specs.List.{filter}
 use Rattle.dip_core.specs.declared.item.Item.{Item}
@@ -10,31 +10,31 @@ use Rattle.round_core.specs.declared.measure.Measure.{Measure}
 use Rattle.round_core.specs.declared.measure.Measure.TheVariants.{Count, Sum, Min, Max}
 use Rattle.round_core.specs.declared.plateau.Plateau.{Plateau}
 
--- what is asked of a tally
+-- The measured value of a tally.
 abbrev pub measured : Measure → Tally → ℤ
 measured Count tally = pos tally.count
 measured Sum tally = tally.sum
 measured Min tally = tally.min
 measured Max tally = tally.max
 
--- the items of that class
+-- The items of the class.
 abbrev pub of_class : ℕ → List Item → List Item
 of_class class items = filter (λ (x : Item). x.class == class) items
 
--- some items hold t, and they come to that value
+-- Some items hold `t`, and `value` is their measured value.
 pub record HasValue (measure : Measure) (items : List Item) (value t : ℤ) : Type 0 where
   pub tally : Tally
   pub is : IsTallyAt items t (Some tally)
   pub gives : measured measure tally ≡ value
 
--- a class, and a period at each instant of which its items come to that value, as long as can be
+-- A constant interval: a class with a maximal period in which its items have the measured value.
 pub record IsPlateau (measure : Measure) (items : List Item) (plateau : Plateau) : Type 0 where
   pub maximal : IsMaximal (HasValue measure (of_class plateau.class items) plateau.value) plateau.period
 
--- the order by class and start
+-- The order by class and start.
 abbrev pub PlateauBefore : Plateau → Plateau → Type 0
 PlateauBefore a b = (a.class < b.class) ⊎ ((a.class ≡ b.class) × (a.period.from <ℤ b.period.from))
 
--- all plateaus of some items, each once, by class and start
+-- All constant intervals of some items, each once, by class and start.
 abbrev pub ArePlateaus : Measure → List Item → List Plateau → Type 0
 ArePlateaus measure items plateaus = IsListOf PlateauBefore (IsPlateau measure items) plateaus

@@ -1,21 +1,21 @@
--- A round: which lists go in twos, which are put aside, and where the values of the twos come.
+-- A round: which lists are added in twos, which are set aside, and where the sums go.
 use Rattle.std.specs.Prelude.{◌+◌, ℕ, List, [], ◌∷◌}
 use Rattle.merge_core.specs.Steps.{StepList, IsBoth}
 use Rattle.round_core.specs.declared.class_steps.ClassSteps.{ClassSteps}
 use Rattle.round_core.specs.declared.round.Slot.{Slot}
 use Rattle.round_core.specs.declared.round.Slot.TheVariants.{Aside, OfTwo}
 
--- steps of a class
+-- The steps of a class.
 abbrev pub of : ℕ → StepList → ClassSteps
 of class steps = record { class = class; steps = steps }
 
--- how many slots wait for the value of two
+-- How many slots wait for the sum of two lists.
 abbrev pub twos_in : List Slot → ℕ
 twos_in [] = 0
 twos_in (Aside list ∷ slots) = twos_in slots
 twos_in (OfTwo class ∷ slots) = 1 + twos_in slots
 
--- the lists that were sorted into these slots and twos
+-- The lists that were sorted into these slots and twos.
 abbrev pub sorted_lists : List Slot → List StepList → List ClassSteps
 sorted_lists [] twos = []
 sorted_lists (Aside list ∷ slots) twos = list ∷ sorted_lists slots twos
@@ -23,14 +23,14 @@ sorted_lists (OfTwo class ∷ slots) [] = []
 sorted_lists (OfTwo class ∷ slots) (a ∷ []) = []
 sorted_lists (OfTwo class ∷ slots) (a ∷ (b ∷ twos)) = of class a ∷ (of class b ∷ sorted_lists slots twos)
 
--- the lists that come of these slots and the values of the twos
+-- The lists of these slots with the sums of the twos.
 abbrev pub filled : List Slot → List StepList → List ClassSteps
 filled [] made = []
 filled (Aside list ∷ slots) made = list ∷ filled slots made
 filled (OfTwo class ∷ slots) [] = []
 filled (OfTwo class ∷ slots) (o ∷ made) = of class o ∷ filled slots made
 
--- each two lists have one value
+-- Each value is the sum of the next two lists.
 abbrev pub AreBoths : List StepList → List StepList → Type 0
 AreBoths [] [] = Unit {0}
 AreBoths [] (o ∷ made) = ⊥

@@ -1,4 +1,4 @@
--- Lists of steps in twos are numbered pairs: names and numbers go with one another.
+-- Lists of steps in twos are numbered pairs: each name has one number, and each number one name.
 use Rattle.std.proofs.Common.{◌≡◌, ℕ, ◌+◌, ◌*◌, ◌/◌, ◌<◌, ◌≤◌, Bool, true, ◌&&◌, Option, Some, None, refl, ap, ◌∙◌, arith}
 use Rattle.std.specs.Prelude.{nat_lt, nat_eq, if◌then◌else◌}
 use Rattle.std.proofs.Props.{props}
@@ -12,11 +12,11 @@ use Rattle.work_core.specs.declared.name.PairName.{PairName}
 use Rattle.work_core.specs.Limits.{pair_limit}
 use Rattle.round_core.specs.Twos.{has_two_name, two_name, two_place}
 
--- what stands under a test that holds
+-- the value if the test holds
 tested : (a : Bool) (x : Option ℕ) → a ≡ true → (if a then x else None) ≡ x
 tested a x p = rw p refl
 
--- there are no more pairs than a job may have
+-- there are at most as many pairs as a job may have
 pub few_twos : (n : ℕ) → n ≤ item_limit → n / 2 ≤ pair_limit
 few_twos n h = omega arith
 
@@ -24,7 +24,7 @@ few_twos n h = omega arith
 both_hold : {a b : Bool} → a ≡ true → b ≡ true → (a && b) ≡ true
 both_hold p q = rw (p, q) refl
 
--- the numbers of a pair's name, by its number
+-- the numbers in a pair's name, by its number
 left_of : (left half i : ℕ) → left ≡ half * 2 → half ≡ i → i * 2 ≡ left
 left_of left half i a b = omega arith
 
@@ -45,7 +45,7 @@ two_placed n i h =
     (eq-eqb (i * 2 + 1) ((i * 2 + 1) / 2 * 2 + 1) (omega arith)))) in
     whole ∙ ap (λ (j : ℕ). Some j) half
 
--- what is found is the pair of that name
+-- the pair that is found has that name
 pub two_named : (n : ℕ) (p : PairName) (i : ℕ) → two_place n p ≡ Some i → (i < n / 2) × (two_name i ≡ p)
 two_named n p i e =
     let t = cond_some (nat_lt (p.right / 2) (n / 2) && has_two_name (p.right / 2) p) (p.right / 2) i e in
@@ -64,7 +64,7 @@ Tallies-set = hlevel props
 number_prop : (a b : ℕ) → IsProp (a ≡ b)
 number_prop a b = hlevel props
 
--- that a list is both of two holds in one way
+-- being the sum of two lists is a proposition
 pub both_prop : (one other list : StepList) → IsProp (IsBoth one other list)
 both_prop one other list v w = λ k. record {
   tallies = λ t.

@@ -1,8 +1,8 @@
-//! Steps of a class.
+//! The steps of a class.
 
 use merge_core::Steps;
 
-/// What some items of a class come to at each instant.
+/// The tally of some items of a class at each instant.
 #[derive(Drop)]
 pub(crate) struct ClassSteps {
     pub class: u64,

@@ -1,4 +1,4 @@
-//! Steps closed up to plateaus.
+//! Coalescing steps into constant intervals ("plateaus").
 
 ghost use Rattle.std.specs.Prelude.{◌≡◌, MatchOption, IfOk, OnOk};
 ghost use Rattle.list_core.specs.Wanted.{AddsAll, IsListOf};
@@ -15,7 +15,7 @@ use period_core::{NoMemory, Period};
 use std::alloc::Global;
 use std::collections::VecDeque;
 
-/// What is asked of a tally.
+/// Returns the measured value of a tally.
 fn measured(measure: Measure, tally: &Tally) -> i128
     ensures { result ≡ measured measure tally.now }
 {
@@ -27,7 +27,7 @@ fn measured(measure: Measure, tally: &Tally) -> i128
     }
 }
 
-/// What a step says of the value that is asked for.
+/// Returns a step as a constant interval of the measured value.
 fn plateau_of(measure: Measure, class: u64, step: &Step) -> Plateau
     ensures { result ≡ valued_step measure class step.now }
 {
@@ -38,7 +38,7 @@ fn plateau_of(measure: Measure, class: u64, step: &Step) -> Plateau
     }
 }
 
-/// Both as one, where the second starts where the first ends, with the same value.
+/// Returns both intervals as one if the second starts where the first ends and has the same value.
 pub(crate) fn joined(one: &Plateau, next: &Plateau) -> Option<Plateau>
     ensures { MatchOption result (Continues one.now next.now → ⊥)
         (λ joined. Continues one.now next.now × IsJoined one.now next.now joined) }
@@ -55,12 +55,12 @@ pub(crate) fn joined(one: &Plateau, next: &Plateau) -> Option<Plateau>
     None
 }
 
-/// Adds the constant intervals of a class, by start, from what its items come to at each instant, which `Steps::steps`
-/// returns: two steps that touch and have the same value are one interval.
+/// Adds the constant intervals of a class, by start, from steps as `Steps::steps` returns them. Two steps that touch
+/// and have the same value are one interval.
 ///
 /// # Errors
 ///
-/// `NoMemory` if a growth is refused.
+/// `NoMemory` if an allocation is refused.
 pub fn add_plateaus(
     measure: Measure,
     class: u64,
@@ -90,7 +90,7 @@ pub fn add_plateaus(
     Ok(())
 }
 
-/// The plateaus of lists of which no two are of one class.
+/// Returns the constant intervals of lists of different classes.
 pub(crate) fn plateaus_in(
     alloc: Global,
     measure: Measure,
@@ -105,7 +105,7 @@ pub(crate) fn plateaus_in(
     let mut plateaus = Vec::new(alloc);
     'lists: while let Some(list) = lists.pop_front() {
         let steps = list.steps.steps();
-        // Each step begins at most one plateau.
+        // Each step begins at most one constant interval.
         plateaus.reserve(steps.len())?;
         add_plateaus(measure, list.class, steps, &mut plateaus)?;
     }

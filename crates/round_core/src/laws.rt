@@ -1,4 +1,4 @@
-//! Laws of plateaus.
+//! Laws on constant intervals.
 
 ghost use Rattle.std.specs.Prelude.{◌≡◌, List};
 ghost use Rattle.dip_core.specs.declared.item.Item.{Item};
@@ -6,7 +6,7 @@ ghost use Rattle.round_core.specs.declared.measure.Measure.{Measure as AnyMeasur
 ghost use Rattle.round_core.specs.declared.plateau.Plateau.{Plateau as AnyPlateau};
 ghost use Rattle.round_core.specs.Plateaus.{ArePlateaus};
 
-/// Any items have exactly one list of plateaus, by each measure.
+/// Any items have exactly one list of constant intervals by each measure.
 pub fn classes_have_one_list()
     ensures exists { (measure : AnyMeasure) (items : List Item)
         → (plateaus : List AnyPlateau) × ArePlateaus measure items plateaus }

@@ -1,7 +1,8 @@
 #![tactic(auto)]
 
-//! What the items of each class come to, instant by instant, as the longest periods of one value: the items of a
-//! class are divided, each part is a list of steps, and many workers take the lists together, two by two in rounds.
+//! Finds the constant intervals of the items of each class: the maximal periods in which their count, sum, minimum or
+//! maximum is constant. The items of a class are divided, each part becomes a list of steps, and workers add the lists
+//! in rounds, two at a time.
 
 mod class_steps;
 mod closing;

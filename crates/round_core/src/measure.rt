@@ -1,9 +1,9 @@
-//! What is asked of a tally.
+//! Measures of a tally.
 
-/// What an aggregate asks of a tally.
+/// The value that an aggregate takes from a tally.
 #[derive(Clone, Copy)]
 pub enum Measure {
-    /// How many the items are.
+    /// The number of items.
     Count,
     /// The sum of their amounts.
     Sum,

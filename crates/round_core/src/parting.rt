@@ -1,18 +1,18 @@
-//! The instant at which what periods hold is cut in two.
+//! The instant at which periods are cut in two.
 
 ghost use Rattle.std.specs.Prelude.{◌≡◌, Contains, IfOk, IfSome, map};
 
 use period_core::{NoMemory, Period, Point};
 use std::alloc::Global;
 
-/// The periods' starts.
+/// Returns the starts of the periods.
 fn starts_of(alloc: Global, periods: &[Period]) -> Result<Vec<Point>, NoMemory>
     ensures { IfOk result (λ starts. starts.items ≡ map (λ p. p.from) periods.now) }
 {
     periods.iter().map(|period| period.from).collect(alloc)
 }
 
-/// The middle one of the periods' starts.
+/// Returns the median start of the periods, or `None` without periods.
 fn middle_start(alloc: Global, periods: &[Period]) -> Result<Option<Point>, NoMemory>
     ensures { IfOk result (λ middle.
         IfSome middle (λ at. Contains (map (λ p. p.from) periods.now) at)) }
@@ -25,15 +25,16 @@ fn middle_start(alloc: Global, periods: &[Period]) -> Result<Option<Point>, NoMe
     }
 }
 
-/// Whether a cut leaves neither side with most of the periods: those that hold instants of both count on both.
+/// Returns whether each side of a cut has at most about three quarters of the periods. A period with instants on both
+/// sides counts on both.
 fn parts_well(periods: &[Period], at: Point) -> bool {
     let early = periods.iter().filter(|period| period.from < at).count();
     let late = periods.iter().filter(|period| at < period.to).count();
     early.max(late) <= periods.len() / 4 * 3
 }
 
-/// The middle one of the periods' starts, at which what they hold is cut in two. None where there are no periods, and where
-/// one side of the cut would have more than about three quarters of them.
+/// Returns the median start of the periods as the instant to cut at. Returns `None` without periods, or if one side
+/// would have more than about three quarters of them.
 pub(crate) fn parting_instant(alloc: Global, periods: &[Period]) -> Result<Option<Point>, NoMemory>
     ensures { IfOk result (λ parting.
         IfSome parting (λ at. Contains (map (λ p. p.from) periods.now) at)) }

@@ -1,18 +1,18 @@
-//! Plateaus.
+//! Constant intervals.
 
 use list_core::ChunkedList;
 use period_core::Period;
 
-/// A class, and a maximal period at each instant of which it has an item and its items come to one value.
+/// A class, and a maximal period in which it always has an item and its measured value is constant.
 #[derive(Clone, Copy)]
 pub struct Plateau {
     /// The class.
     pub class: u64,
-    /// When it has the value.
+    /// The period with this value.
     pub period: Period,
-    /// What its items that hold an instant of the period come to, by the measure that was asked for.
+    /// The measured value of the class's items at each instant of the period.
     pub value: i128,
 }
 
-/// Plateaus, in chunks that were found apart.
+/// Constant intervals, in chunks that were found separately.
 pub type Plateaus = ChunkedList<Plateau>;

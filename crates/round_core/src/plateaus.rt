@@ -1,4 +1,4 @@
-//! The plateaus of all classes.
+//! The constant intervals of all classes.
 
 ghost use Rattle.std.specs.Prelude.{◌<◌, ◌≤◌, length, AllPairs, IfOk};
 ghost use Rattle.std.specs.Thread.{IsSync};
@@ -21,7 +21,7 @@ use std::collections::VecDeque;
 use std::thread::Threads;
 use work_core::{Crew, Gate};
 
-/// The plateaus of all classes, whose lists go through the rounds together.
+/// Returns the constant intervals of all classes, whose lists go through the rounds together.
 pub(crate) fn plateaus_by_rounds<R: Threads + Sync, G: Gate>(
     crew: &Crew<'_, R, G>,
     measure: Measure,
@@ -37,15 +37,13 @@ pub(crate) fn plateaus_by_rounds<R: Threads + Sync, G: Gate>(
     Plateaus::of(crew.alloc, plateaus)
 }
 
-/// The plateaus of all classes, by class and start: the same for every number of workers. The items of a class
-/// stand together, by rising class. The gate is called before and after each two lists of steps that are taken
-/// together, which tests show.
-///
-/// Workers share the classes out, where there are enough items of several.
+/// Returns the constant intervals of all classes, by class and start. They are the same for every number of workers.
+/// The items must be in ascending order of class. If there are enough items of several classes, the workers partition
+/// the classes. The gate is called before and after each addition of two lists of steps, which tests show.
 ///
 /// # Errors
 ///
-/// `NoMemory` where a growth is refused.
+/// `NoMemory` if an allocation is refused.
 pub fn plateaus_of<R: Threads + Sync, G: Gate>(
     crew: &Crew<'_, R, G>,
     measure: Measure,

@@ -1,4 +1,5 @@
-//! One round: of the lists of each class two neighbours go to the workers together, and one that is left is put aside.
+//! One round: of each class's lists, neighbours go to the workers in twos, and a list without a neighbour is set
+//! aside.
 
 ghost use Rattle.std.specs.Prelude.{◌≡◌, ◌≤◌, ◌+◌, ◌*◌, ◌++◌, List, [], ◌∷◌, length, IfOk, MatchOption};
 ghost use Rattle.std.specs.Option.{option_to_list};
@@ -14,25 +15,25 @@ use std::alloc::Global;
 use std::collections::VecDeque;
 use std::vec::IntoIter;
 
-/// What comes in the place of one list or of two.
+/// The next list after a round.
 #[derive(Drop)]
 pub(crate) enum Slot {
-    /// A list that has no neighbour to go with.
+    /// A list without a neighbour.
     Aside(ClassSteps),
-    /// What the next two lists that go come to, both of this class.
+    /// The sum of the next two lists; both are of this class.
     OfTwo(u64),
 }
 
-/// The lists of a round, sorted out.
+/// The lists of a round, sorted into slots and twos.
 #[derive(Drop)]
 pub(crate) struct Round {
-    /// What comes next, by rising class.
+    /// The next lists, in ascending order of class.
     pub slots: VecDeque<Slot>,
-    /// The lists that go, two by two.
+    /// The lists to add, in twos.
     pub twos: Vec<Steps>,
 }
 
-/// Takes the first list if it is of that class.
+/// Takes the first list if it is of the class.
 fn take_neighbour(lists: &mut VecDeque<ClassSteps>, class: u64) -> Option<ClassSteps>
     ensures split { lists.old.items ≡ option_to_list result ++ lists.new.items }
     ensures class { MatchOption result (StartsOtherwise class lists.new.items)
@@ -46,7 +47,8 @@ fn take_neighbour(lists: &mut VecDeque<ClassSteps>, class: u64) -> Option<ClassS
     }
 }
 
-/// Sorts the lists out, from the first on: two neighbours of one class go, and another list is put aside.
+/// Sorts the lists into slots and twos, from the first on. Two neighbours of one class will be added, any other list
+/// is set aside.
 pub(crate) fn sort_out(alloc: Global, lists: VecDeque<ClassSteps>) -> Result<Round, NoMemory>
     ensures lists { IfOk result (λ round.
         sorted_lists round.slots.items round.twos.items ≡ lists.items) }
@@ -69,7 +71,7 @@ pub(crate) fn sort_out(alloc: Global, lists: VecDeque<ClassSteps>) -> Result<Rou
     Ok(Round { slots, twos })
 }
 
-/// The list that comes in a slot, which may be the next that was made.
+/// Returns the list for a slot, which may be the next sum.
 fn list_of(slot: Slot, made: &mut IntoIter<Steps>) -> ClassSteps
     requires { twos_in (slot ∷ []) ≤ length (into_iter_items made.old) }
     ensures list { (later : List AnySlot) → filled (slot ∷ later) (into_iter_items made.old)
@@ -88,7 +90,7 @@ fn list_of(slot: Slot, made: &mut IntoIter<Steps>) -> ClassSteps
     }
 }
 
-/// The lists that are put aside, and among them what each two come to.
+/// Returns the lists that were set aside, and the sum of each two lists in its slot.
 pub(crate) fn fill(
     alloc: Global,
     slots: VecDeque<Slot>,

@@ -1,4 +1,4 @@
-//! All lists of a class as one, two by two in rounds.
+//! Adding all lists of a class, two at a time in rounds.
 
 ghost use Rattle.std.specs.Prelude.{◌≡◌, ◌⊎◌, ◌%◌, ◌<◌, ◌≤◌, length, IfOk, IsTrue};
 ghost use Rattle.dip_core.specs.Item.{item_limit};
@@ -19,11 +19,11 @@ use work_core::{Crew, Gate, run_pairs};
 #[derive(Drop)]
 struct Rounded {
     lists: VecDeque<ClassSteps>,
-    /// Whether no two of them are of one class.
+    /// Whether no two lists are of one class.
     done: bool,
 }
 
-/// Each two lists as one, by many workers. No thread is started where there are none.
+/// Returns the sum of each two lists, made by the workers. Starts no thread if `twos` is empty.
 fn combine_twos<R: Threads + Sync, G: Gate>(
     crew: &Crew<'_, R, G>,
     twos: &[Steps],
@@ -41,7 +41,7 @@ fn combine_twos<R: Threads + Sync, G: Gate>(
     outs.into_vec(crew.alloc)
 }
 
-/// One round.
+/// Runs one round.
 fn round<R: Threads + Sync, G: Gate>(
     crew: &Crew<'_, R, G>,
     lists: VecDeque<ClassSteps>,
@@ -61,7 +61,7 @@ fn round<R: Threads + Sync, G: Gate>(
     Ok(Rounded { lists, done })
 }
 
-/// One list for each class, which gives what all lists of the class come to together.
+/// Returns one list per class: the sum of all its lists.
 pub(crate) fn combine_all<R: Threads + Sync, G: Gate>(
     crew: &Crew<'_, R, G>,
     lists: VecDeque<ClassSteps>,

@@ -1,5 +1,5 @@
-//! Items of one class, cut at an instant: half of the workers find the plateaus of what the items hold before it, and the
-//! others those of what they hold from it on. One worker cuts many items too, and finds the one after the other.
+//! Items of one class, cut at an instant. Half of the workers find the constant intervals before the instant, and the
+//! others find the rest. A single worker also cuts many items, and finds one side after the other.
 
 ghost use Rattle.std.specs.Prelude.{◌<◌, ◌≤◌, IfOk, IfSome, None, Some, length};
 ghost use Rattle.std.specs.Thread.{IsSync};
@@ -23,20 +23,20 @@ use std::alloc::Global;
 use std::thread::{Threads, join};
 use work_core::{Crew, Gate};
 
-/// Of fewer items one span would be over before the other span's thread has started.
+/// With fewer items, one side would be complete before the other side's thread has started.
 const ITEMS_FOR_SPANS: usize = 16_384;
 
-/// Items of a span, of which one worker cuts no fewer: the steps of so many are still in the processor's cache when they are
-/// taken together, and the memory of one span serves the next.
+/// A single worker cuts only at least this many items. Then the steps of a span are still in the processor's cache
+/// when they are added, and the next span reuses its memory.
 const ITEMS_OF_SPAN: usize = 65_536;
 
-/// Items are cut so often at most: into a span for each of the most workers.
+/// The greatest depth of cuts. It makes at most 64 spans, one for each of at most 64 workers.
 pub(crate) const CUTS: u32 = 6;
 
-/// A middle instant is found among so many items, or somewhat fewer.
+/// The number of items in the sample for a median instant.
 const SAMPLE: usize = 1_023;
 
-/// Fewer items are left as they are.
+/// Returns the least number of items that are cut.
 fn least_to_cut(workers: u32) -> usize {
     if workers < 2 {
         ITEMS_OF_SPAN
@@ -45,7 +45,7 @@ fn least_to_cut(workers: u32) -> usize {
     }
 }
 
-/// The periods of some items.
+/// Returns the periods of `SAMPLE` items at even distances.
 fn sample_of(alloc: Global, items: &[Item]) -> Result<Vec<Period>, NoMemory> {
     let step = items.len() / SAMPLE;
     let mut sample = Vec::with_capacity(alloc, SAMPLE)?;
@@ -57,8 +57,8 @@ fn sample_of(alloc: Global, items: &[Item]) -> Result<Vec<Period>, NoMemory> {
     Ok(sample)
 }
 
-/// The instant at which items are cut, which may be done so often. None where items are few, of several classes, or most of
-/// them would be on both sides.
+/// Returns the instant at which to cut items, if `cuts` more cuts are allowed. Returns `None` for few items, items of
+/// several classes, or if most items would be on both sides.
 fn middle_instant(
     alloc: Global,
     items: &[Item],
@@ -78,7 +78,7 @@ fn middle_instant(
     parting_instant(alloc, &sample)
 }
 
-/// The plateaus of what items of one class hold in a span.
+/// Returns the constant intervals of items of one class, clipped to a span.
 #[cycle(spans)]
 fn plateaus_within<R: Threads + Sync, G: Gate>(
     crew: &Crew<'_, R, G>,
@@ -95,8 +95,7 @@ fn plateaus_within<R: Threads + Sync, G: Gate>(
     plateaus_of_spans(crew, measure, &cut, cuts)
 }
 
-/// The plateaus of all classes. Where all items are of one class, and many, they are cut at an instant; they may be cut so
-/// often.
+/// Returns the constant intervals of all classes. Many items of one class are cut at an instant, up to `cuts` times.
 #[cycle(spans)]
 pub(crate) fn plateaus_of_spans<R: Threads + Sync, G: Gate>(
     crew: &Crew<'_, R, G>,
@@ -114,7 +113,7 @@ pub(crate) fn plateaus_of_spans<R: Threads + Sync, G: Gate>(
     }
 }
 
-/// The plateaus of what items of one class hold before an instant.
+/// Returns the constant intervals of items of one class before an instant.
 #[cycle(spans)]
 fn plateaus_before<R: Threads + Sync, G: Gate>(
     crew: &Crew<'_, R, G>,
@@ -135,7 +134,7 @@ fn plateaus_before<R: Threads + Sync, G: Gate>(
     plateaus_within(crew, measure, items, &span, cuts)
 }
 
-/// The plateaus of what items of one class hold from an instant on.
+/// Returns the constant intervals of items of one class from an instant on.
 #[cycle(spans)]
 fn plateaus_from<R: Threads + Sync, G: Gate>(
     crew: &Crew<'_, R, G>,
@@ -156,8 +155,8 @@ fn plateaus_from<R: Threads + Sync, G: Gate>(
     plateaus_within(crew, measure, items, &span, cuts)
 }
 
-/// The plateaus of items of one class, cut at an instant: where there are several workers, half of them find those before
-/// it, and the others those from it on. They may be cut so often again.
+/// Returns the constant intervals of items of one class, cut at an instant. With several workers, half of them take
+/// the side before it, the others the side from it on. Each side may be cut `cuts` times again.
 #[cycle(spans)]
 fn plateaus_cut_at<R: Threads + Sync, G: Gate>(
     crew: &Crew<'_, R, G>,
@@ -178,7 +177,8 @@ fn plateaus_cut_at<R: Threads + Sync, G: Gate>(
     both_spliced(early, late)
 }
 
-/// The same by several workers, half of them on either side of the instant.
+/// Returns the constant intervals of items of one class, cut at an instant, with half of the workers on each side of
+/// it.
 #[cycle(spans)]
 fn plateaus_of_halves<R: Threads + Sync, G: Gate>(
     crew: &Crew<'_, R, G>,

@@ -1,4 +1,4 @@
-//! Plateaus of what items hold in two spans that meet, put together.
+//! Joining the constant intervals of two adjacent spans.
 
 ghost use Rattle.std.specs.Prelude.{ℤ, IfOk, List, MatchOption, None, Some};
 ghost use Rattle.dip_core.specs.declared.item.Item.{Item as AnyItem};
@@ -11,7 +11,7 @@ use crate::closing::joined;
 use crate::plateau::{Plateau, Plateaus};
 use period_core::NoMemory;
 
-/// The last of one list and the first of another as one, where this continues that.
+/// Returns the last interval of one list and the first of another as one, if the second continues the first.
 fn joint(early: &Plateaus, late: &Plateaus) -> Option<Plateau>
     ensures { MatchOption result (HaveNoJoint early.now late.now) (IsJoint early.now late.now) }
 {
@@ -20,8 +20,8 @@ fn joint(early: &Plateaus, late: &Plateaus) -> Option<Plateau>
     joined(last, first)
 }
 
-/// One list behind the other: where the second begins with what continues the last of the first, both are one. So from the
-/// plateaus of items that end by an instant, and of items of their class that start from it on, come those of all.
+/// Returns both lists as one. If the second list's first interval continues the first list's last one, they become
+/// one. So the intervals before an instant, and from it on, become the intervals of all items of a class.
 fn spliced(early: Plateaus, late: Plateaus) -> Result<Plateaus, NoMemory>
     ensures { IfOk result (λ plateaus. AreSpliced early late plateaus) }
 {
@@ -31,7 +31,7 @@ fn spliced(early: Plateaus, late: Plateaus) -> Result<Plateaus, NoMemory>
     early.without_last()?.followed_by(late.with_first(both))
 }
 
-/// The plateaus of items of one class, from those of what they hold before an instant and from it on.
+/// Returns the constant intervals of items of one class, from the intervals before an instant and from it on.
 pub(crate) fn both_spliced(
     early: Result<Plateaus, NoMemory>,
     late: Result<Plateaus, NoMemory>,

@@ -49,7 +49,7 @@ fn push_parts(
     Ok(())
 }
 
-/// Adds the steps of the items of a class, which are divided unless they are a part as they are.
+/// Adds the steps of a class's items. They are divided unless they are a part already.
 fn push_run<R: Threads + Sync, G>(
     crew: &Crew<'_, R, G>,
     class: u64,
@@ -67,7 +67,7 @@ fn push_run<R: Threads + Sync, G>(
     push_parts(crew.alloc, class, &division, lists)
 }
 
-/// How many of the items, from the first on, are of the class.
+/// Returns how many items of the class the list begins with.
 fn run_len(class: u64, items: &[Item]) -> usize
     ensures inside { result ≤ length items.now }
     ensures own { All (λ x. x.class ≡ class) (take result items.now) }
@@ -79,7 +79,7 @@ fn run_len(class: u64, items: &[Item]) -> usize
     len
 }
 
-/// Lists of steps for the items of each class, by rising class.
+/// Returns lists of steps for the items of each class, in ascending order of class.
 fn class_lists<R: Threads + Sync, G>(
     crew: &Crew<'_, R, G>,
     items: &[Item],
@@ -100,8 +100,8 @@ fn class_lists<R: Threads + Sync, G>(
     Ok(lists)
 }
 
-/// Lists of steps for the items of each class, by rising class. Workers share the items out by their places; the items of
-/// a class may then be divided in several shares.
+/// Returns lists of steps for the items of each class, in ascending order of class. The workers partition the items by
+/// index, so a class's items may be in several partitions, and each is divided separately.
 pub(crate) fn shared_lists<R: Threads + Sync, G: Gate>(
     crew: &Crew<'_, R, G>,
     items: &[Item],

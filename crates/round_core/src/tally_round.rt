@@ -12,8 +12,8 @@ use period_core::NoMemory;
 use std::alloc::Global;
 use work_core::{PairName, PairWork};
 
-/// At most 1,000,000 lists of steps, of as many items in all, in twos: pair i is lists 2i and 2i + 1, and its
-/// value is both taken together. An odd last list is in no pair.
+/// At most 1,000,000 lists of steps, with at most 1,000,000 items in total, in twos. Pair i is lists 2i and 2i + 1,
+/// and its value is their sum. An odd last list is in no pair.
 #[derive(Clone, Copy)]
 pub struct TallyRound<'a> {
     /// The lists.
@@ -23,7 +23,7 @@ pub struct TallyRound<'a> {
 }
 
 impl<'a> TallyRound<'a> {
-    /// These lists in twos.
+    /// Returns the lists in twos.
     pub fn new(lists: &'a [Steps]) -> TallyRound<'a>
         requires few { length lists.now ≤ item_limit }
         requires light { all_weight lists.now ≤ item_limit }
@@ -89,7 +89,7 @@ impl<'a> PairWork for TallyRound<'a> {
     }
 }
 
-/// Two of the lists, taken together.
+/// Returns the sum of two of the lists.
 fn combine_two(alloc: Global, lists: &[Steps], pair: PairName) -> Result<Steps, NoMemory>
     requires light { all_weight lists.now ≤ item_limit }
     requires order { pair.left < pair.right }
@@ -103,7 +103,7 @@ fn combine_two(alloc: Global, lists: &[Steps], pair: PairName) -> Result<Steps, 
     )
 }
 
-/// Whether the lists at a place are one.
+/// Returns whether both sides have the same list at index `place`.
 fn same_at(some: &[Steps], others: &[Steps], place: u32) -> bool
     requires some { place < length some.now }
     requires others { place < length others.now }
@@ -112,14 +112,14 @@ fn same_at(some: &[Steps], others: &[Steps], place: u32) -> bool
     same_list(&some[place as usize], &others[place as usize])
 }
 
-/// Whether two lists of steps are one.
+/// Returns whether two lists of steps are equal.
 fn same_list(one: &Steps, other: &Steps) -> bool
     ensures { IsTrue result ↔ (one.now ≡ other.now) }
 {
     one.weight() == other.weight() && same_steps(one.steps(), other.steps())
 }
 
-/// Whether steps are equal, one by one.
+/// Returns whether steps are equal, one by one.
 fn same_steps(some: &[Step], others: &[Step]) -> bool
     ensures { IsTrue result ↔ (some.now ≡ others.now) }
 {

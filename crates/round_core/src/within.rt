@@ -1,4 +1,4 @@
-//! What items hold in a span of instants.
+//! Items clipped to a span of instants.
 
 ghost use Rattle.std.specs.Prelude.{◌↔◌, ℤ, ◌<ℤ◌, ◌≤ℤ◌, IfOk, MatchOption};
 ghost use Rattle.round_core.specs.Spans.{AreWithin, IsBefore, IsFrom, IsPartWithin, IsWithin, Misses};
@@ -9,7 +9,7 @@ use period_core::{NoMemory, Period, Point};
 use share_core::Range;
 use std::alloc::Global;
 
-/// The first instant of a period that a span may have.
+/// Returns the start of a period clipped to a span.
 fn start_within(period: &Period, span: &Range<Point>) -> Point
     ensures { (t : ℤ) → (result ≤ℤ t) ↔ ((period.now.from ≤ℤ t) × IsFrom span.now t) }
 {
@@ -19,7 +19,7 @@ fn start_within(period: &Period, span: &Range<Point>) -> Point
     }
 }
 
-/// The first instant behind those of a period that a span may have.
+/// Returns the end of a period clipped to a span.
 fn end_within(period: &Period, span: &Range<Point>) -> Point
     ensures { (t : ℤ) → (t <ℤ result) ↔ ((t <ℤ period.now.to) × IsBefore span.now t) }
 {
@@ -29,7 +29,7 @@ fn end_within(period: &Period, span: &Range<Point>) -> Point
     }
 }
 
-/// What a period holds in a span, where it holds something.
+/// Returns a period clipped to a span, or `None` if they share no instant.
 fn period_within(period: &Period, span: &Range<Point>) -> Option<Period>
     ensures { MatchOption result (Misses span.now period.now) (IsPartWithin span.now period.now) }
 {
@@ -41,7 +41,7 @@ fn period_within(period: &Period, span: &Range<Point>) -> Option<Period>
     Some(Period { from, to })
 }
 
-/// What an item holds in a span.
+/// Returns an item clipped to a span, or `None` if they share no instant.
 fn item_within(item: &Item, span: &Range<Point>) -> Option<Item>
     ensures { MatchOption result (Misses span.now item.now.period) (IsWithin span.now item.now) }
 {
@@ -49,7 +49,7 @@ fn item_within(item: &Item, span: &Range<Point>) -> Option<Item>
     Some(Item { period, ..*item })
 }
 
-/// What items hold in a span, which is about half of what they hold.
+/// Returns the items clipped to a span. The capacity assumes that about half of them remain.
 pub(crate) fn items_within(
     alloc: Global,
     items: &[Item],

@@ -1,4 +1,4 @@
--- When values fit.
+-- Which values fit the columns.
 use Rattle.std.proofs.Common.{◌≡◌, ◌≢◌, ℕ, ◌+◌, ◌<◌, List, [], ◌∷◌, Bool, true, false, ◌&&◌, length, drop, get_or, refl, arith, sym, ◌∙◌, ap}
 use Rattle.std.proofs.lemmas.List.{drop_more}
 use Rattle.std.proofs.Math.Bool.{and-false}
@@ -8,11 +8,11 @@ use Rattle.row_core.specs.declared.schema.Column.{Column}
 use Rattle.row_core.specs.Schema.{fits}
 use Rattle.row_core.specs.Value.{same_kind, kind_of}
 
--- a value is its column's
+-- a value is of its column's kind
 abbrev pub is_fit : Column → Value → Bool
 is_fit column value = same_kind column.kind (kind_of value)
 
--- values that are not as many as the columns do not fit
+-- values don't fit if their number differs from the number of columns
 pub fits-lengths : (cs : List Column) (vs : List Value) → length cs ≢ length vs → fits cs vs ≡ false
 fits-lengths [] [] h = absurd (h refl)
 fits-lengths [] (v ∷ vs) h = refl
@@ -21,7 +21,7 @@ fits-lengths (c ∷ cs) (v ∷ vs) h =
     ap (λ b. same_kind c.kind (kind_of v) && b) (fits-lengths cs vs (λ e. h (omega (arith, e))))
     ∙ and-false (same_kind c.kind (kind_of v))
 
--- ---- one column on, of values or of their kinds
+-- ---- one column further, for values or for their kinds
 
 module _ {X Y : Type 0} (test : X → Y → Bool) where
   fits-drop : (xs : List X) (ys : List Y) (i : ℕ) (x : X) (y : Y) → i < length xs → i < length ys

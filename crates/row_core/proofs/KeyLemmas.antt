@@ -1,4 +1,4 @@
--- Keys: as many columns as names, each at the place of its name.
+-- Keys: one column for each name, at the index of its name.
 use Rattle.std.proofs.Common.{◌≡◌, ◌≢◌, ℕ, zero, suc, ◌+◌, ◌<◌, List, [], ◌∷◌, ◌++◌, Bool, true, false, ◌||◌, not, cond, length, map, get_or, Option, Some, None, refl, sym, ap, ◌∙◌, arith, append_assoc}
 use Rattle.std.specs.Prelude.{bytes_eq, All, AllPairs, IsSome, count_by, is_some, nat_eq, position, slice_get}
 use Rattle.std.specs.Cmp.Lexicographic.{bytes_decides}
@@ -26,7 +26,7 @@ same-flips a b = by_tests (bytes_eq a b) (bytes_eq b a) refl refl where
   by_tests true false e f = let back = (bytes_decides b a).1 (sym ((bytes_decides a b).0 e)) in absurd (cc)
   by_tests false true e f = let there = (bytes_decides a b).1 (sym ((bytes_decides b a).0 f)) in absurd (cc)
 
--- the name is among those
+-- the name is one of the names
 abbrev pub among : List (List ℕ) → List ℕ → Bool
 among names name = list_any (λ other. bytes_eq other name) names
 
@@ -36,7 +36,7 @@ some-from p at (x ∷ xs) =
     elim (p x) as (λ b. is_some (cond b (Some at) (position_from p (at + 1) xs)) ≡ (b || list_any p xs))
     [ true ↦ refl | false ↦ some-from p (at + 1) xs ]
 
--- a first place is there where some element passes
+-- `position` finds an index if some element passes the test
 some-position : {X : Type 0} (p : X → Bool) (xs : List X) → is_some (position p xs) ≡ list_any p xs
 some-position p xs = ap is_some (position_from-zero p xs) ∙ some-from p 0 xs
 
@@ -58,14 +58,14 @@ differs a b h = by_test (bytes_eq a b) refl where
   by_test false e = refl
   by_test true e = absurd (h ((bytes_decides a b).0 e))
 
--- ---- what the tests of names leave
+-- ---- consequences of the tests of names
 
--- no name stands twice
+-- no name occurs twice
 abbrev AreDistinct : List (List ℕ) → Type 0
 AreDistinct [] = Unit {0}
 AreDistinct (name ∷ names) = AllByRecursion (λ other. bytes_eq name other ≡ false) names × AreDistinct names
 
--- each name is a column's, none stands twice, and none is among the others
+-- each name is a column's, no name occurs twice, and no name is one of the others
 record AreNew (columns : List Column) (others names : List (List ℕ)) : Type 0 where
   pub found : AllByRecursion (λ name. is_some (column_of columns name) ≡ true) names
   pub fresh : AllByRecursion (λ name. among others name ≡ false) names
@@ -122,7 +122,7 @@ counts names (c ∷ cs) =
     ∙ ap (λ n. cond (among names c.name) (1 + n) n) (counts names cs)
 
 module _ (others : List (List ℕ)) (name : List ℕ) where
-  -- columns of other names are named as before
+  -- a new name doesn't change the count among columns with other names
   none-more : (columns : List Column) → All (λ (c : Column). name ≢ c.name) columns
       → count_named (others ++ name ∷ []) columns ≡ count_named others columns
   none-more [] h = refl
@@ -133,7 +133,7 @@ module _ (others : List (List ℕ)) (name : List ℕ) where
       ∙ or-false (among others c.name))
       ∙ ap (λ n. cond (among others c.name) (1 + n) n) (none-more cs (λ k d lt. h (suc k) d (omega arith)))
 
-  -- one column has a new name that is a column's
+  -- a column's name that is new adds one to the count
   one-more : (columns : List Column) → AllPairs (λ (one other : Column). one.name ≢ other.name) columns
       → list_any (λ c. bytes_eq c.name name) columns ≡ true → among others name ≡ false
       → count_named (others ++ name ∷ []) columns ≡ count_named others columns + 1
@@ -167,7 +167,7 @@ module _ (others : List (List ℕ)) (name : List ℕ) where
           (rest (sym (ap (λ b. b || list_any (λ d. bytes_eq d.name name) cs) e) ∙ found))
           ∙ one_out (among others c.name) (count_named others cs)
 
--- columns that are in no key
+-- columns without a key
 count-keyless : (pairs : List (List ℕ × Kind)) → count_keyed (columns_of pairs) ≡ 0
 count-keyless [] = refl
 count-keyless (pair ∷ pairs) = count-keyless pairs
@@ -179,7 +179,7 @@ count-nothing : (columns : List Column) → count_named [] columns ≡ 0
 count-nothing [] = refl
 count-nothing (c ∷ cs) = count-nothing cs
 
--- as many columns are named as there are new names, and those that others name
+-- the columns with one of the names are the columns with one of the others, and one for each new name
 count-new : (columns : List Column) (others names : List (List ℕ))
     → AllPairs (λ (one other : Column). one.name ≢ other.name) columns
     → first_of (key_tests columns others names) ≡ None
@@ -203,7 +203,7 @@ count-keyed columns names distinct h =
     sym (is_count_by count_keyed is_in_key refl (λ _ _. refl) (keyed columns names)) ∙ counts names columns
     ∙ count-new columns [] names distinct h ∙ ap (λ n. n + length names) (count-nothing columns) ∙ omega arith
 
--- ---- where the columns of a key stand
+-- ---- the indexes of a key's columns
 
 later-place : {X : Type 0} (p : X → Bool) (xs : List X) (at j : ℕ) → j < at
     → option_eq nat_eq (position_from p at xs) (Some j) ≡ false
@@ -218,7 +218,7 @@ none-same name [] j d h all = absurd (omega arith)
 none-same name (other ∷ names) zero d h all = same-flips other name ∙ all.0
 none-same name (other ∷ names) (suc j) d h all = none-same name names j d (omega arith) all.1
 
--- a name's first place among distinct names is j exactly where it is the one at j
+-- among distinct names, a name's first index is `j` if and only if it is the name at `j`
 first-place : (name : List ℕ) (names : List (List ℕ)) (at j k : ℕ) (d : List ℕ) → AreDistinct names → j < length names
     → at + j ≡ k
     → option_eq nat_eq (position_from (λ other. bytes_eq other name) at names) (Some k)
@@ -245,7 +245,7 @@ first-place name (other ∷ names) at (suc j) k d distinct h e =
         ∙ none-same other names j d (omega arith) distinct.0)
     by_test false same rest = rest
 
--- a place is one where the tests are one
+-- `position` in a mapped list
 position-map : {X Y : Type 0} (f : X → Y) (p : Y → Bool) (q : X → Bool) (at : ℕ) (xs : List X)
     → ((x : X) → p (f x) ≡ q x) → position_from p at (map f xs) ≡ position_from q at xs
 position-map f p q at [] h = refl
@@ -253,7 +253,7 @@ position-map f p q at (x ∷ xs) h =
     ap (λ b. cond b (Some at) (position_from p (at + 1) (map f xs))) (h x)
     ∙ ap (cond (q x) (Some at)) (position-map f p q (at + 1) xs h)
 
--- in the key stands at the place j the column of the name at j
+-- the column at index `j` of the key is the column with the name at `j`
 key-place : (columns : List Column) (names : List (List ℕ)) (j : ℕ) (d : List ℕ) → AreDistinct names → j < length names
     → key_place (keyed columns names) j ≡ column_of columns (get_or names j d)
 key-place columns names j d distinct h =
@@ -296,7 +296,7 @@ module _
     (distinct : AllPairs (λ (one other : Column). one.name ≢ other.name) columns)
     (accepted : first_of (key_tests columns [] names) ≡ None)
   where
-    -- each place of the key has its column
+    -- each index of the key has its column
     pub keyed-places : (i : ℕ) → i < count_by is_in_key (keyed columns names)
         → IsSome (key_place (keyed columns names) i)
     keyed-places i h =
@@ -305,7 +305,7 @@ module _
         ap is_some (key-place columns names i [] new.distinct (omega arith))
         ∙ found-at columns names i new.found (omega arith)
 
-    -- the key's columns are those of the names, in their order
+    -- the key's columns are the named ones, in order
     pub key_of-keyed : map Some (key_of (keyed columns names)) ≡ map (column_of columns) names
     key_of-keyed =
         let new = are-new columns [] names accepted in
@@ -317,7 +317,7 @@ module _
         (λ j k lt e. ap (key_place (keyed columns names)) (sym e ∙ omega arith)
         ∙ key-place columns names j [] new.distinct lt)
 
--- ---- the places of a key's columns
+-- ---- the list of a key's columns
 
 all-kept : (f : ℕ → Option ℕ) (at n : ℕ) → ((j : ℕ) → at < j + 1 → j < at + n → is_some (f j) ≡ true)
     → length (filter_map f (range_with_len at n)) ≡ n
@@ -329,7 +329,7 @@ all-kept f at (suc n) h =
       by_first None e rest = let some = sym (h at (omega arith) (omega arith)) ∙ ap is_some e in absurd (cc)
       by_first (Some x) e rest = rw e (omega (arith, rest))
 
--- a key has as many columns as are in it
+-- its length is the number of columns in the key
 pub length-key_of : (columns : List Column) → IsSchema columns → length (key_of columns) ≡ count_by is_in_key columns
 length-key_of columns s =
     all-kept (key_place columns) 0 (count_by is_in_key columns) (λ j low high. s.keyed j (omega arith))
@@ -349,7 +349,7 @@ kept-at f at (suc n) (suc j) k h lt e =
       by_first None f_at rest = let some = sym (h at (omega arith) (omega arith)) ∙ ap is_some f_at in absurd (cc)
       by_first (Some x) f_at rest = rw f_at rest
 
--- the column at a place of the key
+-- the column at an index of the key
 pub slice_get-key_of : (columns : List Column) (i : ℕ) → IsSchema columns → i < length (key_of columns)
     → slice_get (key_of columns) i ≡ key_place columns i
 slice_get-key_of columns i s h =

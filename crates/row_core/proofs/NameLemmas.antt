@@ -1,4 +1,4 @@
--- Names and the zeros behind them.
+-- Names and their padding.
 use Rattle.std.proofs.Common.{◌≡◌, ℕ, zero, suc, ◌+◌, ◌-◌, ◌<◌, ◌≤◌, List, [], ◌∷◌, ◌++◌, true, ◌&&◌, cond, not, ◌==◌, length, drop, take, refl, sym, ◌∙◌, ap, arith, ◌≢◌}
 use Rattle.std.specs.Prelude.{replicate, nat_le}
 use Rattle.std.specs.List.{list_all, prefix_len}
@@ -26,12 +26,12 @@ prefix_len-padded (c ∷ cs) k h =
     ap (λ b. cond (not b) (1 + rest) 0) (ne_eqb c 0 (name_byte-not_zero c both.0))
     ∙ (omega (arith, prefix_len-padded cs k both.1))
 
--- the zeros behind a name fall away
+-- removing the padding returns the name
 unpadded-append : (text : List ℕ) (k : ℕ) → list_all is_name_byte text ≡ true → unpadded (text ++ replicate k 0) ≡ text
 unpadded-append text k h =
     ap (λ n. take n (text ++ replicate k 0)) (prefix_len-padded text k h) ∙ take-append_seam text (replicate k 0)
 
--- a name is of name's bytes, and short
+-- a name has only name bytes, and isn't too long
 name-parts : (text : List ℕ) → is_name text ≡ true → (list_all is_name_byte text ≡ true) × (length text ≤ 32)
 name-parts text h =
     let one = and_parts (starts_with_letter text)
@@ -40,7 +40,7 @@ name-parts text h =
     let three = and_parts (list_all is_name_byte text) (not (is_reserved text)) two.1 in
     (three.0, let short = two.0 in grind (arith, nat_tests))
 
--- what is kept of a name
+-- the same of a name as it is stored
 pub unpadded-kept : (text kept : List ℕ) → is_name text ≡ true
     → kept ≡ text ++ drop {A = ℕ} (length text) (replicate 32 0) → unpadded kept ≡ text
 unpadded-kept text kept name same =

@@ -1,4 +1,4 @@
--- What `parse` reads, against what is printed.
+-- The numbers that `parse` accepts, compared with printed numbers.
 use Rattle.std.proofs.Common.{◌≡◌, ◌≢◌, ℕ, zero, suc, ◌<◌, ◌^◌, List, [], ◌∷◌, Bool, true, false, ◌&&◌, ◌||◌, cond, ◌==◌, ℤ, pos, negsuc, neg_ℤ, length, get_or, drop, refl, sym, ◌∙◌, ap, subst, arith, Some, None, inl, inr}
 use Rattle.std.specs.Prelude.{Result, Ok, Err, nat_eq, FitsSigned, MatchResult, is_ok}
 use Rattle.std.specs.Int.{w64}
@@ -17,7 +17,7 @@ use Rattle.std.proofs.lemmas.Fmt.{decimal-digits_value, decimal_digit, IsAscii-s
 use lib.Signed.{mag}
 use Rattle.row_core.specs.Number.{is_number, number_text, number_of, is_leading, is_plain}
 
--- std's words for digits and their value
+-- std's definitions of digits and their value
 own : IsNumeralModel (AllDigits 10) (digits_value 10)
 own = numerals_by_value (AllDigits 10) tells_digits
 
@@ -33,7 +33,7 @@ none_from : (z : ℤ) (test : Bool) → (test ≡ true → ⊥) → cond test (S
 none_from z true h = absurd (h refl)
 none_from z false h = refl
 
--- what is no number's text has no number
+-- a text that isn't the printed form of a number has no number
 pub number_of-none : (text : List ℕ) → ((z : ℤ) → is_number z ≡ true → text ≢ number_text z) → number_of text ≡ None
 number_of-none text h =
     let z = signed_digits_value 10 text in
@@ -41,7 +41,7 @@ number_of-none text h =
     let both = and_parts (is_number z) (pointwise nat_eq (number_text z) text) e in
     h z both.0 (sym ((bytes_decides (number_text z) text).0 both.1)))
 
--- the number that is printed so
+-- a number's printed form has this number
 number_of-some : (text : List ℕ) → is_number (signed_digits_value 10 text) ≡ true
     → number_text (signed_digits_value 10 text) ≡ text → number_of text ≡ Some (signed_digits_value 10 text)
 number_of-some text fits same =
@@ -49,7 +49,7 @@ number_of-some text fits same =
     ap (λ b. cond (b && pointwise nat_eq (number_text z) text) (Some z) None) fits
     ∙ ap (λ b. cond b (Some z) None) ((bytes_decides (number_text z) text).1 same)
 
--- with no sign in front the digits are the whole text
+-- without a sign, the digits are the whole text
 unsigned : (first : ℕ) (rest : List ℕ) → first ≢ 45 → first ≢ 43 → without_leading_sign (first ∷ rest) ≡ first ∷ rest
 unsigned first rest minus plus =
     ap (λ b. cond b rest (without_leading_plus (first ∷ rest))) (ne_eqb first 45 minus)
@@ -62,7 +62,7 @@ unsigned_value first rest minus plus =
     (pos (digits_value 10 (without_leading_sign (first ∷ rest))))) (ne_eqb first 45 minus)
     ∙ ap (λ bs. pos (digits_value 10 bs)) (unsigned first rest minus plus)
 
--- such digits are printed as they stand
+-- such digits are printed unchanged
 unsigned_text : (first : ℕ) (rest : List ℕ) → first ≢ 45 → first ≢ 43 → (first ≡ 48 → length (first ∷ rest) ≡ 1)
     → IsNumeral 10 (without_leading_sign (first ∷ rest)) → is_number (signed_digits_value 10 (first ∷ rest)) ≡ true
     → number_text (signed_digits_value 10 (first ∷ rest)) ≡ first ∷ rest
@@ -84,7 +84,7 @@ small_negative : (n : ℕ) → is_number (neg_ℤ (pos n)) ≡ true → n < 2 ^ 
 small_negative zero fits = omega arith
 small_negative (suc n) fits = let h : n < 2 ^ 63 = is_number-mag (negsuc n) fits in omega arith
 
--- so are a minus and digits that begin with no zero
+-- so are a minus and digits without a leading zero
 signed_text : (first : ℕ) (rest : List ℕ) → is_leading first ≡ true → IsNumeral 10 (first ∷ rest)
     → is_number (signed_digits_value 10 (45 ∷ first ∷ rest)) ≡ true
     → number_text (signed_digits_value 10 (45 ∷ first ∷ rest)) ≡ 45 ∷ first ∷ rest
@@ -107,7 +107,7 @@ with_minus first second rest e =
     let it : P 45 = λ plain numeral fits. signed_text second rest plain numeral fits in
     subst P (sym e) it
 
--- a plain text is what is printed of its value
+-- a plain text is the printed form of its value
 plain_text : (text : List ℕ) → is_plain text ≡ true → IsNumeral 10 (without_leading_sign text)
     → is_number (signed_digits_value 10 text) ≡ true → number_text (signed_digits_value 10 text) ≡ text
 plain_text [] plain numeral fits = absurd (cc)
@@ -132,7 +132,7 @@ plain_text (first ∷ second ∷ rest) plain numeral fits =
 leading : (c : ℕ) → 48 < c → digit_value c < 10 → is_leading c ≡ true
 leading c low digit = let range = digit_from_value c digit in grind (arith, nat_tests)
 
--- digits that begin with none that is zero are plain, and so with a minus
+-- digits without a leading zero are plain, and with a minus too
 plain_digits : (ds : List ℕ) → 0 < length ds → 48 < get_or ds 0 0 → AllDigits 10 ds → (is_plain ds ≡ true)
     × (is_plain (45 ∷ ds) ≡ true)
 plain_digits [] some low digits = absurd (omega arith)
@@ -149,7 +149,7 @@ plain_decimal n some small =
     plain_digits (decimal n) (decimal_nonempty n small) (first_decimal n some small)
     ((decimal_is_IsNumeral n small).0.1)
 
--- what is printed is plain
+-- printed numbers are plain
 pub number_text-plain : (z : ℤ) → is_number z ≡ true → is_plain (number_text z) ≡ true
 number_text-plain (pos zero) h = ap is_plain (decimal_digit 0 (omega arith))
 number_text-plain (pos (suc n)) h =
@@ -159,14 +159,14 @@ number_text-plain (negsuc n) h =
     let small : n < 2 ^ 63 = is_number-mag (negsuc n) h in
     (plain_decimal (suc n) (omega arith) (omega arith)).1
 
--- what is printed is text
+-- printed numbers are UTF-8
 pub number_text-utf8 : (z : ℤ) → is_number z ≡ true → IsUtf8 (number_text z)
 number_text-utf8 z h = IsUtf8-from_ascii (number_text z) (IsAscii-signed z (is_number-mag z h))
 
 fits_signed : (z : ℤ) → is_number z ≡ true → FitsSigned w64 z
 fits_signed z h = record { sfits = is_number-mag z h }
 
--- what the parser answers to a plain text is its number, and an error where it is no number's
+-- for a plain text, `parse` returns its number, or an error if it isn't the printed form of a number
 number-from_parse : {E : Type 0} (text : List ℕ) (r : Result ℤ E) → is_plain text ≡ true → ParsesSigned w64 10 text r
     → MatchResult r (λ z. (text ≡ number_text z) × (number_of text ≡ Some z))
     (λ e. (z : ℤ) → is_number z ≡ true → text ≢ number_text z)
@@ -180,7 +180,7 @@ number-from_parse {E} text (Err e) plain parses = λ z h same.
     parse-signed_decimal w64 z text (Err e) (fits_signed z h) (is_number-mag z h) same parses in
     absurd (cc)
 
--- the same of a result that hands the number on
+-- the same of a result that passes the number on
 pub number-handed_on : {E F : Type 0} (text : List ℕ) (r : Result ℤ E) (q : Result ℤ F) (P : E → Type 0)
     → is_plain text ≡ true → ParsesSigned w64 10 text r → MatchResult r (λ z. q ≡ Ok z) P → is_ok q ≡ is_ok r
     → MatchResult q (λ z. (text ≡ number_text z) × (number_of text ≡ Some z))
@@ -194,7 +194,7 @@ number-handed_on {E} {F} text (Ok z) q P plain parses same ok =
 number-handed_on text (Err e) (Ok z) P plain parses same ok = absurd (cc)
 number-handed_on text (Err e) (Err f) P plain parses same ok = number-from_parse text (Err e) plain parses
 
--- the number of what is answered
+-- the number in the result
 pub result_ok-number : {F : Type 0} (text : List ℕ) (q : Result ℤ F)
     → MatchResult q (λ z. (text ≡ number_text z) × (number_of text ≡ Some z))
     (λ e. (z : ℤ) → is_number z ≡ true → text ≢ number_text z) → result_ok q ≡ number_of text

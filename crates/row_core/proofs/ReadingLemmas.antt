@@ -1,4 +1,4 @@
--- Values that are read one column after another.
+-- Values that are read column by column.
 use Rattle.std.proofs.Common.{◌≡◌, ℕ, ◌+◌, ◌<◌, ◌≤◌, List, [], ◌∷◌, ◌++◌, length, drop, get_or, refl, sym, ◌∙◌, ap, append_assoc, append-nil, arith}
 use Rattle.std.specs.Prelude.{Result, Ok, Err, Some, None}
 use Rattle.std.specs.Result.{result_err}
@@ -14,7 +14,7 @@ use Rattle.row_core.specs.declared.value.Kind.{Kind}
 use Rattle.row_core.specs.declared.value.Value.{Value}
 use Rattle.row_core.specs.declared.value.ValueRefused.{ValueRefused}
 
--- the field of a column lies behind the two points, and is there
+-- a column's field comes two fields later, after the points
 pub field-at : (fs : List (List ℕ)) (i : ℕ) (field : List ℕ) → field ≡ get_or fs (i + 2) []
     → get_or (drop 2 fs) i [] ≡ field
 field-at fs i field e =
@@ -24,7 +24,7 @@ field-at fs i field e =
 pub field-there : (fs : List (List ℕ)) (i count : ℕ) → i < count → count + 2 ≤ length fs → i < length (drop 2 fs)
 field-there fs i count h k = omega (arith, length-drop 2 fs, h, k)
 
--- one column on
+-- one column further
 values_of-drop : (cs : List Column) (fs : List (List ℕ)) (i : ℕ) (c : Column) (f : List ℕ) → i < length cs
     → i < length fs
     → values_of (drop i cs) (drop i fs) ≡ and_then (field_of (get_or cs i c).kind (get_or fs i f))
@@ -33,19 +33,19 @@ values_of-drop cs fs i c f h k =
     ap (λ l. values_of l (drop i fs)) (drop_more cs i c h)
     ∙ ap (values_of (get_or cs i c ∷ drop (i + 1) cs)) (drop_more fs i f k)
 
--- what stands before the rest, and one value more
+-- one value moves from the remaining values to the first ones
 map_both-push : {E : Type 0} (done : List Value) (v : Value) (r : Result (List Value) E)
     → map_ok (λ rest. done ++ rest) (map_ok (λ rest. v ∷ rest) r) ≡ map_ok (λ rest. (done ++ v ∷ []) ++ rest) r
 map_both-push done v (Ok rest) = ap Ok (sym (append_assoc done (v ∷ []) rest))
 map_both-push done v (Err e) = refl
 
--- nothing stands before all values
+-- at the start there are no first values
 pub append-none : (done : List Value) (r : Result (List Value) RowRefused) → done ≡ []
     → r ≡ map_ok (λ rest. done ++ rest) r
 append-none done (Ok rest) none = ap (λ l. Ok (l ++ rest)) (sym none)
 append-none done (Err e) none = refl
 
--- behind the last column stands no value
+-- after the last column there are no remaining values
 pub values_of-none : (cs : List Column) (fs : List (List ℕ)) (i : ℕ) (done : List Value) → length cs ≤ i
     → values_of cs fs ≡ map_ok (λ rest. done ++ rest) (values_of (drop i cs) (drop i fs)) → values_of cs fs ≡ Ok done
 values_of-none cs fs i done past e =
@@ -60,7 +60,7 @@ field_of-err : (kind : Kind) (field : List ℕ) (e : ValueRefused) → value_of 
     → field_of kind field ≡ Err (refusal_of_value e)
 field_of-err kind field e h = ap (map_err refusal_of_value) h
 
--- one value more
+-- one value more is read
 pub values_of-push : (cs : List Column) (fs : List (List ℕ)) (i : ℕ) (done : List Value) (c : Column) (f : List ℕ)
     (v : Value) → i < length cs → i < length fs → value_of (get_or cs i c).kind (get_or fs i f) ≡ Ok v
     → values_of cs fs ≡ map_ok (λ rest. done ++ rest) (values_of (drop i cs) (drop i fs))
@@ -73,7 +73,7 @@ values_of-push cs fs i done c f v h k given e =
     (field_of-ok (get_or cs i c).kind (get_or fs i f) v given))
     ∙ map_both-push done v rest
 
--- the first that is refused
+-- the first field that is refused
 values_of-refused : (cs : List Column) (fs : List (List ℕ)) (i : ℕ) (done : List Value) (c : Column) (f : List ℕ)
     (e : RowRefused) → i < length cs → i < length fs → field_of (get_or cs i c).kind (get_or fs i f) ≡ Err e
     → values_of cs fs ≡ map_ok (λ rest. done ++ rest) (values_of (drop i cs) (drop i fs)) → values_of cs fs ≡ Err e
@@ -83,7 +83,7 @@ values_of-refused cs fs i done c f e h k given same =
     (values_of-drop cs fs i c f h k
     ∙ ap (λ read. and_then read (λ first. map_ok (λ rest. first ∷ rest) rest)) given)
 
--- the next value fails: it is refused, or memory is
+-- reading the next value fails: the value is refused, or memory is
 pub values_of-failed : (cs : List Column) (fs : List (List ℕ)) (i : ℕ) (done : List Value) (c : Column)
     (f field : List ℕ) (e : Failure ValueRefused) → i < length cs → i < length fs → get_or fs i f ≡ field
     → IsAnswer {T = Value} (value_of (get_or cs i c).kind field) (Err e)
@@ -112,7 +112,7 @@ result_err-stop : (rest : Result (List Value) RowRefused) (read : Result Value V
 result_err-stop rest (Ok v) e h = absurd (cc)
 result_err-stop rest (Err d) e h = let same : e ≡ d = cc in ap (λ x. Some (refusal_of_value x)) (sym same)
 
--- a field that is not refused leaves the refusal to the rest
+-- if a field isn't refused, the remaining fields decide
 pub result_err-next : (cs : List Column) (fs : List (List ℕ)) (i : ℕ) (c : Column) (f : List ℕ) → i < length cs
     → i < length fs → None ≡ result_err (value_of (get_or cs i c).kind (get_or fs i f))
     → result_err (values_of (drop i cs) (drop i fs)) ≡ result_err (values_of (drop (i + 1) cs) (drop (i + 1) fs))
@@ -121,7 +121,7 @@ result_err-next cs fs i c f h k none =
     ∙ result_err-then (values_of (drop (i + 1) cs) (drop (i + 1) fs))
     (value_of (get_or cs i c).kind (get_or fs i f)) none
 
--- one that is refused is the first
+-- a refused field is the first one
 pub result_err-here : (cs : List Column) (fs : List (List ℕ)) (i : ℕ) (c : Column) (f : List ℕ) (e : ValueRefused)
     → i < length cs → i < length fs → Some e ≡ result_err (value_of (get_or cs i c).kind (get_or fs i f))
     → result_err (values_of (drop i cs) (drop i fs)) ≡ Some (refusal_of_value e)

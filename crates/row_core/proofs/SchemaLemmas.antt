@@ -1,4 +1,4 @@
--- Columns of different names.
+-- Columns with different names.
 use Rattle.std.proofs.Common.{◌≡◌, ◌≢◌, ℕ, ◌≤◌, List, [], ◌∷◌, Bool, true, false, length, take, drop, get_or, suc, Some, None, sym, ap, ◌∙◌, ◌+◌, ◌<◌, ◌++◌, refl, arith}
 use Rattle.std.specs.List.{list_any}
 use Rattle.std.specs.Prelude.{bytes_eq, is_none, is_some, position}
@@ -19,7 +19,7 @@ use Rattle.row_core.proofs.KeyLemmas.{keyed-places, keyless}
 named_other : (a b : List ℕ) → bytes_eq a b ≡ false → a ≢ b
 named_other a b h e = let same = (bytes_decides a b).1 e in absurd (cc)
 
--- a name that none has
+-- a name that no column has
 others : (name : List ℕ) (pairs : List (List ℕ × Kind)) → list_any (λ other. bytes_eq name other.0) pairs ≡ false
     → All (λ (other : Column). name ≢ other.name) (columns_of pairs)
 others name [] h = λ k d lt. absurd (omega arith)
@@ -28,7 +28,7 @@ others name (pair ∷ pairs) h =
     All-cons (λ (other : Column). name ≢ other.name) (record { name = pair.0; kind = pair.1; key = None })
     (columns_of pairs) (named_other name pair.0 both.0) (others name pairs both.1)
 
--- columns of which no two have one name
+-- columns without equal names
 columns_of-distinct : (pairs : List (List ℕ × Kind)) → has_twins pairs ≡ false
     → AllPairs (λ (one other : Column). one.name ≢ other.name) (columns_of pairs)
 columns_of-distinct [] h = λ i j d lt end. absurd (omega arith)
@@ -54,7 +54,7 @@ columns_of-schema pairs columns e few h =
 
 -- ---- keys
 
--- the tests of the names that are left, one on
+-- the tests of the remaining names, one name further
 key_tests-step : (columns : List Column) (names : List (List ℕ)) (i : ℕ) (name : List ℕ) → i < length names
     → name ≡ get_or names i name
     → key_tests columns (take i names) (drop i names) ≡ (is_none (column_of columns name), NoColumn) ∷

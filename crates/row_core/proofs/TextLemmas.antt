@@ -15,7 +15,7 @@ both : (bytes : List ℕ) (test : Bool)
 both bytes true = refl
 both bytes false = refl
 
--- the text of bytes that are few enough
+-- the text of bytes that aren't too many
 decided : (bytes : List ℕ) (test : Bool) → length bytes ≤ text_limit → is_utf8 bytes ≡ test
     → text_of bytes ≡ cond test (Ok bytes) (Err BadUtf8)
 decided bytes test few e =

@@ -1,4 +1,4 @@
--- The orders of values are total, what ties is one, and the tests of two values decide whether they are one.
+-- The orders of values are total, `Equal` means equal, and the tests of equality decide it.
 use Rattle.std.proofs.Common.{◌≡◌, true, Option, Some, None, refl, sym, ap, subst, ◌∙◌}
 use Rattle.std.specs.Bool.{Decides}
 use Rattle.std.specs.declared.cmp.Ordering.TheVariants.{Less, Equal}
@@ -48,33 +48,33 @@ value_total = record {
     congr (Text a) (Text b) (Int c) e = refl
     congr (Text a) (Text b) (Text c) e = nat_list_cmp_total.congr a b c e
 
--- values that tie are one
+-- values that compare as `Equal` are equal
 value_exact : (x y : Value) → value_cmp x y ≡ Equal → x ≡ y
 value_exact (Int a) (Int b) e = ap Int (exact_signed a b e)
 value_exact (Int a) (Text b) e = cc
 value_exact (Text a) (Int b) e = cc
 value_exact (Text a) (Text b) e = ap Text (exact_bytes a b e)
 
--- values that the test finds to be one are
+-- values are equal if the test says so
 pub same_value_is : (a b : Value) → same_value a b ≡ true → a ≡ b
 same_value_is (Int a) (Int b) e = ap Int ((Decides-int_eq a b).0 e)
 same_value_is (Int a) (Text b) e = cc
 same_value_is (Text a) (Int b) e = cc
 same_value_is (Text a) (Text b) e = ap Text ((bytes_decides a b).0 e)
 
--- a value is one with itself
+-- the test says that a value equals itself
 same_value_self : (a : Value) → same_value a a ≡ true
 same_value_self (Int a) = (Decides-int_eq a a).1 refl
 same_value_self (Text a) = (bytes_decides a a).1 refl
 
--- values that tie are found to be one
+-- if values compare as `Equal`, the test says that they are equal
 value-same : (a b : Value) → value_cmp a b ≡ Equal → same_value a b ≡ true
 value-same (Int a) (Int b) e = ap is_eq e
 value-same (Int a) (Text b) e = cc
 value-same (Text a) (Int b) e = cc
 value-same (Text a) (Text b) e = (bytes_decides a b).1 (exact_bytes a b e)
 
--- values that are one tie
+-- and conversely
 value-tie : (a b : Value) → same_value a b ≡ true → value_cmp a b ≡ Equal
 value-tie (Int a) (Int b) e =
     ap (λ n. value_cmp (Int a) (Int n)) (sym ((Decides-int_eq a b).0 e)) ∙ tied_itself value_total (Int a)
@@ -83,7 +83,7 @@ value-tie (Text a) (Int b) e = cc
 value-tie (Text a) (Text b) e =
     ap (λ n. value_cmp (Text a) (Text n)) (sym ((bytes_decides a b).0 e)) ∙ tied_itself value_total (Text a)
 
--- ---- values that there may be
+-- ---- optional values
 
 -- their order is total
 pub maybe_total : IsTotalOrder maybe_cmp
@@ -114,38 +114,38 @@ maybe_total = record {
     congr (Some a) (Some b) None e = refl
     congr (Some a) (Some b) (Some c) e = value_total.congr a b c e
 
--- those that tie are one
+-- optional values that compare as `Equal` are equal
 pub maybe_exact : (a b : Option Value) → maybe_cmp a b ≡ Equal → a ≡ b
 maybe_exact None None e = refl
 maybe_exact None (Some b) e = cc
 maybe_exact (Some a) None e = cc
 maybe_exact (Some a) (Some b) e = ap Some (value_exact a b e)
 
--- those that the test finds to be one are
+-- they are equal if the test says so
 same_maybe_is : (a b : Option Value) → same_maybe a b ≡ true → a ≡ b
 same_maybe_is None None e = refl
 same_maybe_is None (Some b) e = cc
 same_maybe_is (Some a) None e = cc
 same_maybe_is (Some a) (Some b) e = ap Some (same_value_is a b e)
 
--- each is one with itself
+-- the test says that each equals itself
 same_maybe_self : (a : Option Value) → same_maybe a a ≡ true
 same_maybe_self None = refl
 same_maybe_self (Some a) = same_value_self a
 
--- the test of two decides whether they are one
+-- the test decides equality
 pub maybe_decides : (a b : Option Value) → Decides (same_maybe a b) (a ≡ b)
 maybe_decides a b =
     (same_maybe_is a b, λ e. subst (λ (v : Option Value). same_maybe a v ≡ true) e (same_maybe_self a))
 
--- those that tie are found to be one
+-- if they compare as `Equal`, the test says that they are equal
 pub maybe-same : (a b : Option Value) → maybe_cmp a b ≡ Equal → same_maybe a b ≡ true
 maybe-same None None e = refl
 maybe-same None (Some b) e = cc
 maybe-same (Some a) None e = cc
 maybe-same (Some a) (Some b) e = value-same a b e
 
--- those that are one tie
+-- and conversely
 pub maybe-tie : (a b : Option Value) → same_maybe a b ≡ true → maybe_cmp a b ≡ Equal
 maybe-tie None None e = refl
 maybe-tie None (Some b) e = cc

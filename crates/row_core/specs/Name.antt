@@ -1,4 +1,4 @@
--- Names: 1 to 32 lower-case letters, digits and `_`, the first a letter, and no reserved word.
+-- Names: 1 to 32 lower-case letters, digits and `_`. The first is a letter, and reserved words aren't names.
 use Rattle.std.specs.Prelude.{ℕ, ◌-◌, List, [], ◌∷◌, ◌++◌, length, Bool, false, ◌&&◌, ◌||◌, ◌==◌, not, if◌then◌else◌, Option, Some, None, bytes_eq, nat_le, replicate, take_while, codes}
 use Rattle.std.specs.List.{list_all, list_any}
 use Rattle.row_core.specs.Limits.{name_limit}
@@ -16,7 +16,7 @@ abbrev pub starts_with_letter : List ℕ → Bool
 starts_with_letter [] = false
 starts_with_letter (first ∷ rest) = is_letter first
 
--- the words that scripts use at a place where a name may stand
+-- the words that scripts may have where a name is allowed
 abbrev pub reserved_words : List (List ℕ)
 reserved_words = codes "asof" ∷ codes "by" ∷ codes "key" ∷ codes "on" ∷ codes "set" ∷ codes "where" ∷ []
 
@@ -30,18 +30,18 @@ is_name text =
     starts_with_letter text &&
     (nat_le (length text) name_limit && (list_all is_name_byte text && not (is_reserved text)))
 
--- the name that a text is, if it is one
+-- the text, if it is a name
 abbrev pub name_of : List ℕ → Option (List ℕ)
 name_of text = if is_name text then Some text else None
 
--- a name as it is kept: zeros behind it, up to the limit
+-- a name as it is stored: padded with zeros to the limit
 abbrev pub padded : List ℕ → List ℕ
 padded text = text ++ replicate (name_limit - length text) 0
 
--- what stands before the zeros
+-- the bytes before the first zero
 abbrev pub unpadded : List ℕ → List ℕ
 unpadded bytes = take_while (λ byte. not (byte == 0)) bytes
 
--- the names of two columns, of which one is of a left table and one of a right
+-- the names of two columns: one of a left table and one of a right table
 abbrev pub NamePair : Type 0
 NamePair = List ℕ × List ℕ

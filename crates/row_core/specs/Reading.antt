@@ -1,4 +1,4 @@
--- Rows as they are read from their fields.
+-- How rows are read from their fields.
 use Rattle.std.specs.Prelude.{ℕ, List, ◌∷◌, length, ◌==◌, if◌then◌else◌, Result, Err}
 use Rattle.std.specs.List.{zip}
 use Rattle.std.specs.Option.{ok_or}
@@ -16,14 +16,14 @@ use Rattle.row_core.specs.declared.value.Value.{Value}
 use Rattle.row_core.specs.declared.value.ValueRefused.{ValueRefused}
 use Rattle.row_core.specs.declared.value.ValueRefused.TheVariants as value
 
--- a value's refusal as a row's
+-- a value's refusal, turned into a row's
 abbrev pub refusal_of_value : ValueRefused → RowRefused
 refusal_of_value value.BadNumber = row.BadNumber
 refusal_of_value value.TooLong = row.TooLong
 refusal_of_value value.BadUtf8 = row.BadUtf8
 
--- the period from one text's point on and before another's, or the first refusal by these names: the
--- start's, the end's, and then that of both
+-- the period from one text's point on and before another's, or the first refusal: the start's, the end's, and then
+-- `bad_period`
 abbrev pub period_by : {E : Type 0} → E → E → List ℕ → List ℕ → Result Period E
 period_by bad_point bad_period from to =
     and_then (ok_or (point_of from) bad_point) (λ start.
@@ -37,11 +37,11 @@ period_of from to = period_by row.BadPoint row.BadPeriod from to
 abbrev pub field_of : Kind → List ℕ → Result Value RowRefused
 field_of kind field = map_err refusal_of_value (value_of kind field)
 
--- each field's value in its column, or the first refusal from the left
+-- each field's value in its column, or the first refusal from left to right
 abbrev pub values_of : List Column → List (List ℕ) → Result (List Value) RowRefused
 values_of columns fields = read_each (λ pair. field_of pair.0.kind pair.1) (zip columns fields)
 
--- the row of the fields from, to and one for each column, or the first refusal
+-- the row of two points and a field for each column, or the first refusal
 abbrev pub row_of : List Column → List (List ℕ) → Result Draft RowRefused
 row_of columns (from ∷ to ∷ fields) =
     if length fields == length columns then

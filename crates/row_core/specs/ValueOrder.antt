@@ -1,4 +1,4 @@
--- When two values are one, and the order of values.
+-- Equality of values, and their order.
 use Rattle.std.specs.Prelude.{Bool, true, false, Option, Some, None, bytes_eq}
 use Rattle.std.specs.declared.cmp.Ordering.{Ordering}
 use Rattle.std.specs.declared.cmp.Ordering.TheVariants.{Less, Equal, Greater}
@@ -7,14 +7,14 @@ use Rattle.std.specs.Cmp.Lexicographic.{slice_cmp}
 use Rattle.row_core.specs.declared.value.Value.{Value}
 use Rattle.row_core.specs.declared.value.Value.TheVariants.{Int, Text}
 
--- two values are one
+-- two values are equal
 abbrev pub same_value : Value → Value → Bool
 same_value (Int a) (Int b) = int_eq a b
 same_value (Text a) (Text b) = bytes_eq a b
 same_value (Int a) (Text b) = false
 same_value (Text a) (Int b) = false
 
--- there is one value on both sides, or none on either
+-- both sides have the same value, or neither has one
 abbrev pub same_maybe : Option Value → Option Value → Bool
 same_maybe None None = true
 same_maybe None (Some b) = false
@@ -28,7 +28,7 @@ value_cmp (Int a) (Text b) = Less
 value_cmp (Text a) (Int b) = Greater
 value_cmp (Text a) (Text b) = slice_cmp nat_cmp a b
 
--- that order, with no value before any value
+-- the same order of optional values; `None` comes first
 abbrev pub maybe_cmp : Option Value → Option Value → Ordering
 maybe_cmp None None = Equal
 maybe_cmp None (Some b) = Less

@@ -1,4 +1,4 @@
-//! A row that is to be loaded.
+//! A row that isn't stored yet.
 
 use crate::NoMemory;
 use crate::value::Values;

@@ -1,4 +1,4 @@
-//! Why a call gives no value.
+//! Why a call returns no value.
 ghost use Rattle.std.specs.Prelude.{◌≡◌};
 ghost use Rattle.row_core.specs.declared.failure.Failure.TheVariants as failure;
 
@@ -6,15 +6,15 @@ use std::alloc::{AllocError, AllocFailed};
 use std::fmt::Display;
 use thiserror::Error;
 
-/// Why a call gives no value: what it is asked for is refused, or memory is. What a call should answer is
-/// defined without memory, so no definition speaks of the second.
+/// Why a call returns no value: the request is refused, or memory is. Definitions of what a call should return don't
+/// mention memory, so they only define the first case.
 #[derive(Clone, Copy, Debug, PartialEq, Eq, Error)]
 #[error_bound(E: Display)]
 pub enum Failure<E> {
-    /// What is asked for is refused.
+    /// The request is refused.
     #[error("{0}")]
     Refused(E),
-    /// A growth is refused.
+    /// An allocation is refused.
     #[error("out of memory")]
     NoMemory,
 }

@@ -1,19 +1,19 @@
-//! A record's fields, wherever they lie.
+//! The fields of a record, however they are stored.
 
 ghost use Rattle.std.specs.Prelude.{ℕ, ◌≡◌, ◌<◌, [], List, get_or, length, map};
 
 use std::convert::AsSlice;
 
-/// A record's fields, each of some bytes: a slice of them, or what has them somewhere else.
+/// The fields of a record: a slice of fields, or a type that stores their bytes elsewhere.
 pub trait Fields: Copy {
-    /// The bytes of each, in their order.
+    /// The bytes of each field, in order.
     ghost fields: { Self → List (List ℕ) };
 
-    /// How many there are.
+    /// Returns the number of fields.
     fn count(&self) -> usize
         ensures { result ≡ length (fields self.now) };
 
-    /// The bytes of the one at that place, from 0 on.
+    /// Returns the bytes of the field at the given index.
     fn field(&self, place: usize) -> &[u8]
         requires { place < length (fields self.now) }
         ensures { result.now ≡ get_or (fields self.now) place [] };

@@ -1,16 +1,16 @@
-//! What an aggregate asks of rows.
+//! The functions of an aggregate.
 
 use crate::name::Name;
 
-/// What an aggregate asks of the rows that hold an instant.
+/// What an aggregate computes of the rows that hold at an instant.
 #[derive(Clone, Copy, Debug)]
 pub enum Func {
-    /// How many they are.
+    /// The number of rows.
     Count,
-    /// The sum of their numbers in that column.
+    /// The sum of the numbers in a column.
     Sum(Name),
-    /// The least of their numbers in that column.
+    /// The least of the numbers in a column.
     Min(Name),
-    /// The greatest of their numbers in that column.
+    /// The greatest of the numbers in a column.
     Max(Name),
 }

@@ -22,14 +22,14 @@ use thiserror::Error;
 /// The most bytes of a name.
 const NAME_LIMIT: usize = 32;
 
-/// What a script has at a place where a name may stand.
+/// Words that a script may have where a name is allowed.
 const RESERVED: [&[u8]; 6] = [b"asof", b"by", b"key", b"on", b"set", b"where"];
 
-/// A name of a table or a column: 1 to 32 bytes of `a` to `z`, `0` to `9` and `_`, the first a
-/// letter, and no reserved word. Contracts see its text.
+/// A name of a table or a column: 1 to 32 bytes of `a` to `z`, `0` to `9` and `_`. The first byte is a letter, and
+/// reserved words aren't names. Contracts see its text.
 #[derive(Clone, Copy, Debug)]
 pub struct Name {
-    // Zeros stand behind the text.
+    // The text, padded with zeros.
     bytes: [u8; NAME_LIMIT],
 }
 
@@ -50,14 +50,13 @@ impl Model for Name {
     ghost inverse_ok = { λ name h. ap (λ bytes. record { bytes = bytes }) h.1 };
 }
 
-/// The bytes are no name.
+/// The bytes aren't a name.
 #[derive(Clone, Copy, Debug, PartialEq, Eq, Error)]
 #[error("no name")]
 pub struct BadName;
 
 impl Name {
-    /// The name with that text. The reserved words `asof`, `by`, `key`, `on`, `set` and `where`
-    /// are no names.
+    /// Parses a name. The reserved words `asof`, `by`, `key`, `on`, `set` and `where` aren't names.
     pub fn parse(text: &[u8]) -> Result<Name, BadName>
         ensures { result_ok result ≡ name_of text.now }
     {
@@ -69,7 +68,7 @@ impl Name {
         Ok(Name { bytes })
     }
 
-    /// The name's text.
+    /// Returns the name's text.
     pub fn as_bytes(&self) -> &[u8]
         ensures text { result.now ≡ self.now }
         ensures name { IsTrue (is_name result.now) }
@@ -93,7 +92,7 @@ impl Eq for Name {
     ghost laws = { nat_list_eq_equiv };
 }
 
-/// The name's text.
+/// Writes the name's text.
 impl fmt::Display for Name {
     ghost output = { λ name. Some name };
 
@@ -139,7 +138,7 @@ fn is_reserved(text: &[u8]) -> bool
     RESERVED.contains(&text)
 }
 
-// The place of the first zero.
+// Returns the index of the first zero.
 fn first_zero(bytes: &[u8]) -> Option<usize>
     ensures { result ≡ position (λ byte. byte == 0) bytes.now }
 {

@@ -1,4 +1,4 @@
-//! Numbers as they are printed.
+//! Numbers in their printed form.
 
 ghost use Rattle.std.specs.Prelude.{◌≡◌, ◌≢◌, ℤ, MatchResult, IsTrue};
 ghost use Rattle.std.specs.Result.{result_ok};
@@ -6,17 +6,16 @@ ghost use Rattle.row_core.specs.Number.{is_number, is_plain, is_leading, number_
 
 use thiserror::Error;
 
-/// The text is not what is printed of a number of 64 bits.
+/// The text isn't the printed form of a 64-bit number.
 #[derive(Clone, Copy, Debug, PartialEq, Eq, Error)]
 #[error("not what is printed of a number of 64 bits")]
 pub struct BadNumber;
 
-/// The number that is printed as the text: `0`, or an optional `-`, a digit from 1 to 9 and more
-/// digits.
+/// Parses the printed form of a number: `0`, or an optional `-`, a digit from 1 to 9 and more digits.
 pub fn read_number(text: &[u8]) -> Result<i64, BadNumber>
     ensures number { result_ok result ≡ number_of text.now }
 
-    // It is the number of that text; what is refused is the text of none.
+    // The text is the printed form of the number; a refused text isn't the printed form of any number.
     ensures text { MatchResult result (λ number. text.now ≡ number_text number)
         (λ _. (number : ℤ) → IsTrue (is_number number) → text.now ≢ number_text number) }
 {
@@ -29,7 +28,7 @@ pub fn read_number(text: &[u8]) -> Result<i64, BadNumber>
     text.parse().map_err(|_| BadNumber)
 }
 
-// Whether a number's text may begin so: with no plus, and no zero before another byte.
+// Returns whether a number's text may begin like this: no plus, and no zero before another byte.
 fn is_plain(text: &[u8]) -> bool
     ensures { result ≡ is_plain text.now }
 {

@@ -35,7 +35,7 @@ impl Model for Field {
 }
 
 impl Field {
-    /// A field of those bytes.
+    /// Returns a field with a copy of the bytes.
     pub fn new(alloc: Global, bytes: &[u8]) -> Result<Field, NoMemory>
         ensures { IfOk result (λ field. field ≡ bytes.now) }
     {
@@ -53,24 +53,24 @@ impl AsSlice<u8> for Field {
     }
 }
 
-/// Why a record's fields are no row, in the order of the tests; the values are tested from the left.
+/// Why a record's fields aren't a row, in the order of the tests. Values are tested from left to right.
 #[derive(Clone, Copy, Debug, PartialEq, Eq)]
 pub enum RowRefused {
-    /// There are not two fields more than columns.
+    /// The number of fields isn't the number of columns plus two.
     WrongWidth,
-    /// The first or the second field is no point.
+    /// The first or the second field isn't a point.
     BadPoint,
     /// The first point is not before the second.
     BadPeriod,
-    /// The field of a number column is not what is printed of a number of 64 bits.
+    /// The field of a number column isn't the printed form of a 64-bit number.
     BadNumber,
     /// The field of a text column has more than 4,096 bytes.
     TooLong,
-    /// It is no UTF-8.
+    /// The field of a text column isn't UTF-8.
     BadUtf8,
 }
 
-// By one call for all of them; a derive makes a call for each, and a proof twice as long.
+// Written by hand with one call for all variants; a derive makes a call for each, and the proof is twice as long.
 impl fmt::Display for RowRefused {
     fn fmt<W: fmt::Write>(&self, f: &mut fmt::Formatter<W>) -> fmt::Result {
         f.write_str(match self {
@@ -141,8 +141,8 @@ impl From<Failure<ValueRefused>> for Failure<RowRefused> {
 }
 
 impl Schema {
-    /// The row of the fields: two points, and one field for each column. Want of memory is
-    /// answered only where no field is refused.
+    /// Returns the row of the fields: two points, and one field for each column. The answer is `NoMemory` only if no
+    /// field is refused.
     pub fn read_row<L: Fields>(
         &self,
         alloc: Global,
@@ -159,7 +159,7 @@ impl Schema {
         }
     }
 
-    /// Whether the fields are a row's of these columns, which takes no memory.
+    /// Checks the fields as `read_row` does, without allocating.
     pub fn check_row<L: Fields>(&self, fields: L) -> Result<(), RowRefused>
         ensures { result_err result ≡ result_err (row_of self.now (L.fields fields)) }
     {
@@ -167,7 +167,7 @@ impl Schema {
     }
 }
 
-/// The row of the fields, up to the first that is refused anything.
+/// Returns the row of the fields, or the first refusal on the way: a field's, or memory's.
 fn read_row<L: Fields>(
     alloc: Global,
     columns: &[Column],
@@ -184,7 +184,7 @@ fn read_row<L: Fields>(
     Ok(Draft { period, values })
 }
 
-/// Whether the fields are a row's of these columns.
+/// Checks whether the fields are a row of these columns.
 fn check_row<L: Fields>(columns: &[Column], fields: L) -> Result<(), RowRefused>
     ensures { result_err result ≡ result_err (row_of columns.now (L.fields fields)) }
 {
@@ -195,7 +195,7 @@ fn check_row<L: Fields>(columns: &[Column], fields: L) -> Result<(), RowRefused>
     check_values(columns, fields)
 }
 
-/// The period of two points.
+/// Returns the period between two points.
 pub fn read_period(from: &[u8], to: &[u8]) -> Result<Period, RowRefused>
     ensures { result ≡ period_of from.now to.now }
 {
@@ -204,7 +204,7 @@ pub fn read_period(from: &[u8], to: &[u8]) -> Result<Period, RowRefused>
     Ok(Period::new(from, to)?)
 }
 
-/// Whether each field behind the two points is a value of its column.
+/// Checks whether each field after the two points is a value of its column.
 fn check_values<L: Fields>(columns: &[Column], fields: L) -> Result<(), RowRefused>
     requires { length columns.now + 2 ≤ length (L.fields fields) }
     ensures { result_err result ≡ result_err (values_of columns.now (drop 2 (L.fields fields))) }
@@ -215,7 +215,7 @@ fn check_values<L: Fields>(columns: &[Column], fields: L) -> Result<(), RowRefus
     Ok(())
 }
 
-/// The value of each field behind the two points in its column.
+/// Returns the values of the fields after the two points.
 fn read_values<L: Fields>(
     alloc: Global,
     columns: &[Column],

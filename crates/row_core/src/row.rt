@@ -27,12 +27,12 @@ impl DeepCopy for Row {
     }
 }
 
-/// Rows in any order; those that a book answers are of one table, by rising id.
+/// Rows in any order. A book returns rows of one table, by rising id.
 pub type RowList = List<Row>;
 
-/// What is asked of rows in a list.
+/// Tests on lists of rows.
 pub trait RowOrder {
-    /// Whether each row's id is below the next one's; of no rows it is.
+    /// Returns whether each row's id is less than the next row's; true for an empty list.
     fn ids_rise(&self) -> bool;
 }
 

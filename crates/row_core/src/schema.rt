@@ -48,7 +48,7 @@ use thiserror::Error;
 /// The most columns of a table.
 pub const COLUMN_LIMIT: usize = 16;
 
-/// A column: its name, the kind of its values, and its place in the table's key, if it is part of it.
+/// A column: its name, the kind of its values, and its index in the table's key, if it is in the key.
 #[derive(Clone, Copy, Debug, PartialEq, Eq)]
 pub struct Column {
     pub name: Name,
@@ -56,7 +56,7 @@ pub struct Column {
     pub key: Option<usize>,
 }
 
-/// The columns of a table: at most 16, of different names. Contracts see the list of them.
+/// The columns of a table: at most 16, with different names. Contracts see the list of them.
 #[derive(Debug, Drop)]
 pub struct Schema {
     columns: Vec<Column>,
@@ -74,24 +74,24 @@ impl Model for Schema {
     ghost invariant = { λ s. IsSchema s.columns.items };
 }
 
-/// Why columns are no table's, in the order of the tests.
+/// Why columns are refused, in the order of the tests.
 #[derive(Clone, Copy, Debug, PartialEq, Eq, Error)]
 pub enum SchemaRefused {
     /// There are more than 16.
     #[error("more than 16 columns")]
     TooMany,
-    /// Two have one name.
+    /// Two have the same name.
     #[error("two columns have one name")]
     TwiceNamed,
 }
 
-/// Why columns make no key, in the order of the tests; each name is tested for both before the next one.
+/// Why a key is refused. For each name, from left to right, both are tested in this order.
 #[derive(Clone, Copy, Debug, PartialEq, Eq, Error)]
 pub enum KeyRefused {
     /// No column has that name.
     #[error("no column has that name")]
     NoColumn,
-    /// The name stands twice.
+    /// The name occurs twice.
     #[error("the name stands twice")]
     TwiceNamed,
 }
@@ -105,7 +105,7 @@ impl DeepCopy for Schema {
 }
 
 impl Schema {
-    /// The columns of those names and kinds, in that order.
+    /// Returns a schema with columns of these names and kinds, in this order.
     pub fn new(alloc: Global, columns: &[(Name, Kind)]) -> Result<Schema, Failure<SchemaRefused>>
         ensures { IsAnswer (schema_of columns.now) result }
     {
@@ -120,7 +120,7 @@ impl Schema {
         })
     }
 
-    /// How many columns there are.
+    /// Returns the number of columns.
     pub fn width(&self) -> u32
         ensures width { result ≡ length self.now }
         ensures schema { IsSchema self.now }
@@ -128,7 +128,7 @@ impl Schema {
         self.columns.len() as u32
     }
 
-    /// The columns, in their order.
+    /// Returns the columns, in order.
     pub fn as_slice(&self) -> &[Column]
         ensures columns { result.now ≡ self.now }
         ensures schema { IsSchema result.now }
@@ -136,7 +136,7 @@ impl Schema {
         &self.columns
     }
 
-    /// The name of the column at that place.
+    /// Returns the name of the column at index `i`.
     pub fn name(&self, i: u32) -> Name
         requires { i < length self.now }
         ensures { option_map (λ column. column.name) (slice_get self.now i) ≡ Some result }
@@ -144,7 +144,7 @@ impl Schema {
         self.columns[i as usize].name
     }
 
-    /// The kind of the column at that place.
+    /// Returns the kind of the column at index `i`.
     pub fn kind(&self, i: u32) -> Kind
         requires { i < length self.now }
         ensures { option_map (λ column. column.kind) (slice_get self.now i) ≡ Some result }
@@ -152,14 +152,14 @@ impl Schema {
         self.columns[i as usize].kind
     }
 
-    /// The kinds of the columns, in their order.
+    /// Returns the kinds of the columns, in order.
     pub fn kinds(&self, alloc: Global) -> Result<Vec<Kind>, NoMemory>
         ensures { IfOk result (λ kinds. kinds.items ≡ map (λ column. column.kind) self.now) }
     {
         kinds_of(alloc, &self.columns)
     }
 
-    /// The place of the column of that name.
+    /// Returns the index of the column with that name.
     pub fn column(&self, name: Name) -> Option<u32>
         ensures { result ≡ column_of self.now name }
     {
@@ -167,30 +167,31 @@ impl Schema {
         Some(place as u32)
     }
 
-    /// The kind of the column of that name.
+    /// Returns the kind of the column with that name.
     pub fn column_kind(&self, name: Name) -> Option<Kind>
         ensures { result ≡ kind_in self.now name }
     {
         kind_among(&self.columns, name)
     }
 
-    /// Whether there are as many values as columns, each of its column's kind.
+    /// Returns whether there are as many values as columns, each of its column's kind.
     pub fn fits(&self, values: &Values) -> bool
         ensures { result ≡ fits self.now values.now }
     {
         values_fit(&self.columns, values.as_slice())
     }
 
-    /// These columns, with those of the names as their key, in the order of the names. No names make no key.
+    /// Returns these columns with a key of the named columns, in the order of the names. If there are no names, the
+    /// schema has no key.
     ///
     /// # Errors
     ///
-    /// For each name from the left `NoColumn`, and then `TwiceNamed`; `NoMemory` comes last. The columns are
-    /// then dropped.
+    /// For each name, from left to right, `NoColumn` and then `TwiceNamed`; `NoMemory` only after these. The columns
+    /// are then dropped.
     pub fn with_key(self, alloc: Global, names: &[Name]) -> Result<Schema, Failure<KeyRefused>>
         ensures columns { IsAnswer (keyed_of self names.now) result }
 
-        // The key's columns are those of the names, in their order.
+        // The key's columns are the named ones, in their order.
         ensures key { IfOk result (λ schema. map Some (key_of schema)
             ≡ map (column_of self) names.now) }
     {
@@ -202,15 +203,14 @@ impl Schema {
         })
     }
 
-    /// How many columns the key has; 0 where there is none.
+    /// Returns the number of columns in the key; 0 without a key.
     pub fn key_len(&self) -> u32
         ensures { result ≡ length (key_of self.now) }
     {
         count_in_key(&self.columns) as u32
     }
 
-    /// The place of the column that stands at that place in the key, where the key's columns have the order
-    /// in which they were named.
+    /// Returns the index of the column at index `i` of the key. The key's columns are in the order of its names.
     pub fn key_column(&self, i: u32) -> u32
         requires { i < length (key_of self.now) }
         ensures { slice_get (key_of self.now) i ≡ Some result }
@@ -221,7 +221,7 @@ impl Schema {
         }
     }
 
-    /// The places of the key's columns, in the order in which they were named.
+    /// Returns the indexes of the key's columns, in the order of its names.
     pub fn key_places(&self, alloc: Global) -> Result<Vec<u32>, NoMemory>
         ensures { IfOk result (λ places. places.items ≡ key_of self.now) }
     {
@@ -232,7 +232,7 @@ impl Schema {
         Ok(places)
     }
 
-    /// The value that the bytes write in the column at that place.
+    /// Reads the bytes as a value of the column at index `i`.
     pub fn read_value(
         &self,
         alloc: Global,
@@ -247,7 +247,7 @@ impl Schema {
     }
 }
 
-// The pairs as columns.
+// Returns a column for each pair.
 fn collect_columns(alloc: Global, pairs: &[(Name, Kind)]) -> Result<Vec<Column>, NoMemory>
     ensures { IfOk result (λ columns. columns.items ≡ columns_of pairs.now) }
 {
@@ -262,7 +262,7 @@ fn collect_columns(alloc: Global, pairs: &[(Name, Kind)]) -> Result<Vec<Column>,
     Ok(columns)
 }
 
-// The kinds of the columns.
+// Returns the kinds of the columns.
 fn kinds_of(alloc: Global, columns: &[Column]) -> Result<Vec<Kind>, NoMemory>
     ensures { IfOk result (λ kinds. kinds.items ≡ map (λ column. column.kind) columns.now) }
 {
@@ -273,7 +273,7 @@ fn kinds_of(alloc: Global, columns: &[Column]) -> Result<Vec<Kind>, NoMemory>
     Ok(kinds)
 }
 
-// Whether some name occurs twice.
+// Returns whether some name occurs twice.
 fn has_twins(pairs: &[(Name, Kind)]) -> bool
     ensures { result ≡ has_twins pairs.now }
 {
@@ -318,7 +318,7 @@ fn values_fit(columns: &[Column], values: &[Value]) -> bool
     true
 }
 
-// How many of the columns are in the key.
+// Returns how many of the columns are in the key.
 fn count_in_key(columns: &[Column]) -> usize
     ensures count { result ≡ count_by is_in_key columns.now }
     ensures few { result ≤ length columns.now }
@@ -326,14 +326,14 @@ fn count_in_key(columns: &[Column]) -> usize
     columns.iter().filter(|column| column.key.is_some()).count()
 }
 
-// The place of the column that stands at that place in the key.
+// Returns the index of the column at index `i` of the key.
 fn key_place(columns: &[Column], i: usize) -> Option<usize>
     ensures { result ≡ key_place columns.now i }
 {
     columns.iter().position(|column| column.key == Some(i))
 }
 
-// What refuses a key of those names.
+// Returns the first reason to refuse a key with these names.
 fn key_refusal(columns: &[Column], names: &[Name]) -> Option<KeyRefused>
     ensures { result ≡ first_of (key_tests columns.now [] names.now) }
 {
@@ -349,14 +349,14 @@ fn key_refusal(columns: &[Column], names: &[Name]) -> Option<KeyRefused>
     None
 }
 
-// The place of the name among those.
+// Returns the index of the name in the list.
 fn place_among(names: &[Name], name: Name) -> Option<usize>
     ensures { result ≡ position (λ other. bytes_eq other name) names.now }
 {
     names.iter().position(|other| *other == name)
 }
 
-// The columns with those of the names as their key.
+// Returns the columns with a key of the named ones.
 fn keyed_columns(alloc: Global, columns: &[Column], names: &[Name]) -> Result<Vec<Column>, NoMemory>
     ensures { IfOk result (λ items. items.items ≡ keyed columns.now names.now) }
 {
@@ -367,7 +367,7 @@ fn keyed_columns(alloc: Global, columns: &[Column], names: &[Name]) -> Result<Ve
     Ok(items)
 }
 
-// The column with its place in the key of those names.
+// Returns the column with its index in the key of these names.
 fn in_key(names: &[Name], column: &Column) -> Column
     ensures { result ≡ in_key names.now column.now }
 {

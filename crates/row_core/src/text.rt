@@ -23,11 +23,11 @@ use thiserror::Error;
 /// The most bytes of a text.
 const TEXT_LIMIT: usize = 4096;
 
-/// The most bytes of a text that lies in its value: as many as leave a value in 24 bytes.
+/// The most bytes of a text that is stored inline: with this limit, a value takes 24 bytes.
 const SHORT_LIMIT: usize = 14;
 
-/// The bytes of a text: so many of some that lie here, or more of them in a block that copies
-/// share. Most texts are short; they take no block, and none is read to compare them.
+/// The bytes of a text: stored inline, with their number, or in a block that copies share. Most texts are short; they
+/// need no block, and comparing them reads no other memory.
 #[derive(Drop)]
 pub(crate) enum Bytes {
     Short(u8, [u8; SHORT_LIMIT]),
@@ -60,7 +60,7 @@ impl Bytes {
         }
     }
 
-    /// One more owner, or a copy of the few bytes.
+    /// Returns another owner of the block, or a copy of the inline bytes.
     fn share(&self) -> Result<Bytes, NoMemory>
         ensures { IfOk result (λ bytes. bytes_in bytes ≡ bytes_in self.now) }
     {
@@ -88,19 +88,19 @@ impl Model for Text {
     ghost invariant = { λ t. IsText (bytes_in t.bytes) };
 }
 
-/// Why bytes are no text, in the order of the tests.
+/// Why bytes aren't a text, in the order of the tests.
 #[derive(Clone, Copy, Debug, PartialEq, Eq, Error)]
 pub enum TextRefused {
     /// There are more than 4,096 bytes.
     #[error("more than 4,096 bytes")]
     TooLong,
-    /// The bytes are no UTF-8.
+    /// The bytes aren't UTF-8.
     #[error("not UTF-8")]
     BadUtf8,
 }
 
 impl Text {
-    /// The bytes as a text's, which takes no memory.
+    /// Returns the bytes as a string if they can be a text's. Allocates nothing.
     pub fn checked(bytes: &[u8]) -> Result<&str, TextRefused>
         ensures { MatchResult result
             (λ text. (text_of bytes.now ≡ Ok text.now) × (length text.now ≤ text_limit))
@@ -115,7 +115,7 @@ impl Text {
         }
     }
 
-    /// The text of the bytes.
+    /// Returns a text with a copy of the bytes.
     pub fn new(alloc: Global, bytes: &[u8]) -> Result<Text, Failure<TextRefused>>
         ensures { IsAnswer (text_of bytes.now) result }
     {
@@ -123,7 +123,7 @@ impl Text {
         Ok(Text::of(alloc, text)?)
     }
 
-    /// The text of a string that isn't too long for one.
+    /// Returns a text with a copy of the string, which must not be too long.
     pub fn of(alloc: Global, text: &str) -> Result<Text, NoMemory>
         requires { length text.now ≤ text_limit }
         ensures { IfOk result (λ made. made ≡ text.now) }
@@ -133,16 +133,16 @@ impl Text {
         })
     }
 
-    /// The text as a string.
+    /// Returns the text as a string.
     pub fn as_str(&self) -> &str
         ensures text { result.now ≡ self.now }
         ensures short { length result.now ≤ text_limit }
     {
-        // A text's bytes are UTF-8, as the proof knows: no read tests them again.
+        // The proof knows that a text's bytes are UTF-8, so they aren't tested again.
         unsafe { str::from_utf8_unchecked(self.as_bytes()) }
     }
 
-    /// The bytes of the text, which are UTF-8.
+    /// Returns the bytes of the text, which are UTF-8.
     pub fn as_bytes(&self) -> &[u8]
         ensures text { result.now ≡ self.now }
         ensures short { length result.now ≤ text_limit }
@@ -152,7 +152,7 @@ impl Text {
     }
 }
 
-/// The text as a string is shown.
+/// Formats the text like a string.
 impl fmt::Debug for Text {
     fn fmt<W: fmt::Write>(&self, f: &mut fmt::Formatter<W>) -> fmt::Result {
         fmt::Debug::fmt(self.as_str(), f)

@@ -25,23 +25,23 @@ pub enum Kind {
     Text,
 }
 
-/// A value. Numbers come before texts, numbers by value and texts by their bytes.
+/// A value. Numbers come before texts; numbers are ordered by value, texts by their bytes.
 #[derive(Debug, Drop, PartialEq, Eq, PartialOrd, Ord)]
 pub enum Value {
     Int(i64),
     Text(Text),
 }
 
-/// Why bytes are no value of a kind, in the order of the tests.
+/// Why bytes aren't a value of a kind, in the order of the tests.
 #[derive(Clone, Copy, Debug, PartialEq, Eq, Error)]
 pub enum ValueRefused {
-    /// They are not what is printed of a number of 64 bits.
+    /// They aren't the printed form of a 64-bit number.
     #[error("not what is printed of a number of 64 bits")]
     BadNumber,
     /// There are more than 4,096 bytes.
     #[error("more than 4,096 bytes")]
     TooLong,
-    /// They are no UTF-8.
+    /// They aren't UTF-8.
     #[error("not UTF-8")]
     BadUtf8,
 }
@@ -99,8 +99,7 @@ impl From<Failure<TextRefused>> for Failure<ValueRefused> {
 }
 
 impl Value {
-    /// The value of the kind that the bytes write: a number as it is printed, or a text of at
-    /// most 4,096 bytes of UTF-8.
+    /// Reads a value of the kind: the printed form of a number, or a text of at most 4,096 bytes of UTF-8.
     pub fn read(alloc: Global, kind: Kind, bytes: &[u8]) -> Result<Value, Failure<ValueRefused>>
         ensures { IsAnswer (value_of kind bytes.now) result }
     {
@@ -110,7 +109,7 @@ impl Value {
         }
     }
 
-    /// Whether the bytes write a value of the kind, which takes no memory.
+    /// Checks whether the bytes are a value of the kind, without allocating.
     pub(crate) fn check(kind: Kind, bytes: &[u8]) -> Result<(), ValueRefused>
         ensures { result_err result ≡ result_err (value_of kind bytes.now) }
     {
@@ -125,7 +124,7 @@ impl Value {
         Ok(())
     }
 
-    /// The kind of the value.
+    /// Returns the kind of the value.
     pub fn kind(&self) -> Kind
         ensures { result ≡ kind_of self.now }
     {
@@ -135,7 +134,7 @@ impl Value {
         }
     }
 
-    /// Whether the value is of the kind.
+    /// Returns whether the value is of the kind.
     pub fn is_of(&self, kind: Kind) -> bool
         ensures { result ≡ same_kind kind (kind_of self.now) }
     {
@@ -155,8 +154,8 @@ impl DeepCopy for Value {
     }
 }
 
-/// Values, and how many own them. One or two values lie beside that count, in one block of memory;
-/// for none there is no block.
+/// Values shared by reference counting. One or two values are in one block of memory with the count; no values need no
+/// block.
 #[derive(Drop)]
 pub(crate) enum Shared {
     Nothing,
@@ -194,7 +193,7 @@ impl Shared {
         }
     }
 
-    /// One more owner.
+    /// Returns another owner.
     fn share(&self) -> Result<Shared, NoMemory>
         ensures { IfOk result (λ shared. values_in shared ≡ values_in self.now) }
     {
@@ -207,8 +206,8 @@ impl Shared {
     }
 }
 
-/// The values of a row, one for each column. Copies share them, so a row that is handed on has its values
-/// once.
+/// The values of a row, one for each column. Copies share them, so values are stored once, however often a row is
+/// copied.
 #[derive(Drop)]
 pub struct Values {
     alloc: Global,
@@ -226,7 +225,7 @@ impl Model for Values {
 }
 
 impl Values {
-    /// The empty list.
+    /// Returns the empty list.
     pub fn new(alloc: Global) -> Self
         ensures { result ≡ [] }
     {
@@ -236,7 +235,7 @@ impl Values {
         }
     }
 
-    /// The list of these values.
+    /// Returns the list of these values.
     pub fn of(alloc: Global, items: Vec<Value>) -> Result<Values, NoMemory>
         ensures { IfOk result (λ values. values ≡ items.items) }
     {
@@ -244,36 +243,39 @@ impl Values {
         Ok(Values { alloc, shared })
     }
 
-    /// How many there are.
+    /// Returns the number of values.
     pub fn len(&self) -> usize
         ensures { result ≡ length self.now }
     {
         self.as_slice().len()
     }
 
-    /// Whether there are none.
+    /// Returns whether the list is empty.
     pub fn is_empty(&self) -> bool
         ensures { result ≡ (length self.now == 0) }
     {
         self.as_slice().is_empty()
     }
 
-    /// The value at that place.
+    /// Returns the value at index `i`.
     pub fn get(&self, i: usize) -> Option<&Value>
         ensures { option_copied result ≡ slice_get self.now i }
     {
         self.as_slice().get(i)
     }
 
-    /// All values, in their order.
+    /// Returns all values, in order.
     pub fn as_slice(&self) -> &[Value]
         ensures { result.now ≡ self.now }
     {
         self.shared.as_slice()
     }
 
-    /// Adds a value at the end, which copies those before it. On `NoMemory` the list is as before, and the
-    /// value is dropped.
+    /// Adds a value at the end, and copies the values before it to a new block.
+    ///
+    /// # Errors
+    ///
+    /// `NoMemory` if an allocation is refused; the list is then unchanged, and the value is dropped.
     pub fn push(&mut self, value: Value) -> Result<(), NoMemory>
         ensures ok { OnOk result (self.new ≡ self.old ++ value ∷ []) }
         ensures err { OnErr result (self.new ≡ self.old) }
@@ -285,7 +287,7 @@ impl Values {
     }
 }
 
-/// The values as a list is shown.
+/// Formats the values like a list.
 impl fmt::Debug for Values {
     fn fmt<W: fmt::Write>(&self, f: &mut fmt::Formatter<W>) -> fmt::Result {
         fmt::Debug::fmt(self.as_slice(), f)

@@ -1,4 +1,4 @@
-//! A value where it lies.
+//! Borrowed values.
 
 ghost use Rattle.std.specs.Prelude.{◌≡◌, bytes_eq};
 ghost use Rattle.row_core.specs.Lent.{lent_value};
@@ -8,14 +8,14 @@ use crate::text::Text;
 use crate::value::Value;
 use std::cmp::Ordering;
 
-/// A value of a row, lent by what holds it.
+/// A value of a row, borrowed from its owner.
 #[derive(Clone, Copy, Debug)]
 pub enum ValueRef<'a> {
     Int(i64),
     Text(&'a str),
 }
 
-/// Lends a value.
+/// Borrows a value.
 impl<'a> From<&'a Value> for ValueRef<'a> {
     ghost use Rattle.std.specs.Prelude.{◌≡◌};
     ghost use Rattle.row_core.specs.Lent.{lent_value};
@@ -31,7 +31,7 @@ impl<'a> From<&'a Value> for ValueRef<'a> {
 }
 
 impl<'a> ValueRef<'a> {
-    /// The order of both: numbers come before texts, numbers by value and texts by their bytes.
+    /// Compares two values: numbers come before texts; numbers are ordered by value, texts by their bytes.
     pub fn order(self, other: ValueRef<'_>) -> Ordering
         ensures { result ≡ value_cmp (lent_value self.entry) (lent_value other.entry) }
     {
@@ -43,7 +43,7 @@ impl<'a> ValueRef<'a> {
         }
     }
 
-    /// Whether it is that value: a number is never a text.
+    /// Returns whether the two are equal; a number never equals a text.
     #[inline(always)]
     pub fn is(self, value: &Value) -> bool
         ensures { result ≡ same_value value.now (lent_value self.entry) }
@@ -56,7 +56,7 @@ impl<'a> ValueRef<'a> {
     }
 }
 
-/// Whether it is that text. It stands apart, so that loops over numbers stay small.
+/// Returns whether the two texts are equal. A function of its own, so that loops over numbers stay small.
 #[inline(never)]
 fn is_text(a: &str, b: &Text) -> bool
     ensures { result ≡ bytes_eq b.now a.now }

@@ -1,4 +1,4 @@
--- Constant intervals, class by class, and what parts come to together.
+-- Constant intervals, class by class, and the steps of several parts.
 use Rattle.std.proofs.Common.{◌≡◌, ℕ, zero, suc, ◌+◌, ◌-◌, ◌<◌, ◌≤◌, ℤ, List, [], ◌∷◌, ◌++◌, Some, length, get_or, take, drop, refl, sym, subst, ap, ◌∙◌, inl, inr, arith, append-nil, append_assoc, length-append}
 use Rattle.std.specs.Prelude.{◌==◌, All, Contains, IsPermutation, slice_get}
 use Rattle.std.proofs.Math.Seq.{take-add}
@@ -59,7 +59,7 @@ module _ (measure : Measure) (class : ℕ) (own : List Item) (list : StepList)
         (none_of p.class own (λ k d h f. other (sym f ∙ all k d h))) is)
   ]
 
-  -- closed steps of items of one class are their intervals
+  -- The constant intervals of one class are its steps, coalesced.
   pub class-plateaus : (rows : List Plateau) → IsListOf PlateauBefore (IsStepPlateau measure class list.steps) rows
       → ArePlateaus measure own rows
   class-plateaus rows lists =
@@ -67,20 +67,20 @@ module _ (measure : Measure) (class : ℕ) (own : List Item) (list : StepList)
 
 -- ---- class by class
 
--- what the intervals so far lack are those of the items that are left
+-- The intervals found already, followed by the intervals of the items that are left, are all intervals.
 pub record IsGathering (measure : Measure) (items left : List Item) (rows : List Plateau) : Type 0 where
   pub goes_on : (rest : List Plateau) → ArePlateaus measure left rest → ArePlateaus measure items (rows ++ rest)
   pub few : length left ≤ length items
   pub rise : ClassesRise left
 
--- at first all are left
+-- At first all items are left.
 pub gathering_start : (measure : Measure) (items : List Item) (rows : List Plateau) → rows ≡ [] → ClassesRise items
     → IsGathering measure items items rows
 gathering_start measure items rows none rise =
     subst (IsGathering measure items items) (sym none)
     (record { goes_on = λ rest all. all; few = omega arith; rise = rise })
 
--- the items of the first one's class are of that class
+-- The first parted items have the class of the first item.
 pub own-class : (left own later : List Item) (first : Item) → Some first ≡ slice_get left 0 → ClassesRise left
     → ArePartedAt (first.class + 1) left own later → All (λ (x : Item). x.class ≡ first.class) own
 own-class left own later first e rise parted k d h =
@@ -92,7 +92,7 @@ own-class left own later first e rise parted k d h =
     let high = parted.below k d h in
     omega (arith, low, high)
 
--- a class more
+-- One more class.
 pub gathering_more : (measure : Measure) (items left own later : List Item) (first : Item) (list : StepList)
     (old new : List Plateau) → Some first ≡ slice_get left 0 → ArePartedAt (first.class + 1) left own later
     → IsStepListOf own list → AddsAll PlateauBefore (IsStepPlateau measure first.class list.steps) old new
@@ -111,11 +111,11 @@ gathering_more measure items left own later first list old new e parted steps ad
       rise = high-rise (first.class + 1) left own later parted i.rise;
     })
 
--- without items there are no intervals
+-- Without items there are no intervals.
 none-plateaus : (measure : Measure) → ArePlateaus measure [] []
 none-plateaus measure = IsListOf-none PlateauBefore (IsPlateau measure []) (λ p is. no_plateau measure [] p refl is)
 
--- at the end no item is left
+-- At the end no items are left.
 pub gathering_end : (measure : Measure) (items left : List Item) (rows : List Plateau) → left ≡ []
     → IsGathering measure items left rows → ArePlateaus measure items rows
 gathering_end measure items left rows none i =
@@ -124,7 +124,7 @@ gathering_end measure items left rows none i =
 
 -- ---- parts
 
--- the items of one part
+-- The items of one part.
 pub all_of-one : (qs : List (List Item)) (start : ℕ) → start < length qs
     → all_of (take 1 (drop start qs)) ≡ part_at qs start
 all_of-one [] start h = absurd (omega arith)
@@ -132,7 +132,7 @@ all_of-one (q ∷ []) zero h = append-nil q
 all_of-one (q ∷ (r ∷ qs)) zero h = append-nil q
 all_of-one (q ∷ qs) (suc start) h = all_of-one qs start (omega arith)
 
--- the items of two runs of parts
+-- The items of two consecutive lists of parts.
 pub all_of-halves : (qs : List (List Item)) (start half rest count : ℕ) → half + rest ≡ count
     → all_of (take half (drop start qs)) ++ all_of (take rest (drop (start + half) qs))
     ≡ all_of (take count (drop start qs))
@@ -141,7 +141,7 @@ all_of-halves qs start half rest count e =
     ∙ sym (all_of-append (take half (drop start qs)) (take rest (drop half (drop start qs))))
     ∙ ap all_of (sym (take-add half rest (drop start qs))) ∙ ap (λ n. all_of (take n (drop start qs))) e
 
--- a run of parts has no more items than all
+-- Some parts have at most as many items as all parts.
 pub run-few : (qs : List (List Item)) (start count : ℕ)
     → length (all_of (take count (drop start qs))) ≤ length (all_of qs)
 run-few qs start count =
@@ -157,7 +157,7 @@ run-few qs start count =
     let whole = ap (λ z. length (all_of z)) (take-append-drop start qs) in
     omega (arith, one, two, same, whole)
 
--- the items in another order come to the same
+-- Items in another order have the same steps.
 pub steps-permuted : (xs ys : List Item) (list : StepList) → IsPermutation xs ys → IsStepListOf xs list
     → IsStepListOf ys list
 steps-permuted xs ys list moved is = record {
@@ -165,7 +165,7 @@ steps-permuted xs ys list moved is = record {
   weight = is.weight ∙ sym (length_permutation xs ys moved);
 }
 
--- some items have some part
+-- If there are items, there are parts.
 pub some-parts : (items : List Item) (ps : List (List Item)) → IsPermutation items (all_of ps) → 0 < length items
     → 0 < length ps
 some-parts items [] moved some = (let same = length_permutation items [] moved in absurd (omega (arith, same, some)))

@@ -20,7 +20,7 @@ use Rattle.ruzgalt_c.specs.Anti.{AddsAntiRows, HoldApart}
 use Rattle.ruzgalt_c.specs.Rows.{AreRows, Columns}
 use Rattle.ruzgalt_c.proofs.RowLemmas.{ids-within}
 
--- the gaps of one part give its rows
+-- The rows of one left part are its gaps.
 pub one_part-rows : (left right : List Item) (gaps : List Gap) → HasDistinctIds left → ListsGaps left right gaps
     → AreItemsRows left right (map row_of_gap gaps)
 one_part-rows left right gaps ids lists =
@@ -30,7 +30,7 @@ one_part-rows left right gaps ids lists =
 
 -- ---- right items of one class are a part
 
--- a united item of a class ends by the start of each later one
+-- A coalesced item ends by the start of each later one of its class.
 pub apart-united : (items united : List Item) → IsUnion items united → HoldApart united
 apart-united items united u i j d less inside same =
     let a = get_or united i d in
@@ -53,13 +53,13 @@ apart-united items united u i j d less inside same =
     meets_or_not : (m n : ℤ) → (m ≤ℤ n) ⊎ (n <ℤ m)
     meets_or_not m n = grind (arith, ints)
 
--- the items after some of them, and those before others, hold apart too
+-- The property `HoldApart` also holds for the end of a list.
 pub later-apart : (xs ys : List Item) → HoldApart (xs ++ ys) → HoldApart ys
 later-apart [] ys h = h
 later-apart (x ∷ xs) ys h =
     later-apart xs ys (AllPairs-tail (λ (a b : Item). a.class ≡ b.class → a.period.to ≤ℤ b.period.from) x (xs ++ ys) h)
 
--- items of one class that hold apart are a part
+-- Items of one class that hold apart are a part.
 chain-apart : (class : ℕ) (own later : List Item) → HoldApart (own ++ later)
     → All (λ (x : Item). x.class ≡ class) own → IsChain own
 chain-apart class own later apart all k d h =
@@ -74,7 +74,7 @@ chain-apart class own later apart all k d h =
     (subst (λ (y : Item). (get_or (own ++ later) k d).period.to ≤ℤ y.period.from) other
     (apart k (k + 1) d (omega arith) (omega (arith, len, h)) same))
 
--- the matching items of the first left item's class are a part
+-- The right items of the first left item's class are a part.
 pub chain-own : (class : ℕ) (rights matching own later : List Item) → HoldApart rights
     → AreFromClass class rights matching → ArePartedAt (class + 1) matching own later → IsChain own
 chain-own class rights matching own later apart from parted =
@@ -88,7 +88,7 @@ chain-own class rights matching own later apart from parted =
     let high = parted.below k d h in
     omega (arith, low, high))
 
--- the index of each row of an anti-join is that of a left row
+-- The index of each row is that of a left row.
 pub index-few : (left : Columns) (lefts rights : List Item) (rows : List AntiRow) → AreRows left lefts
     → length left.from ≤ item_limit → IsItemsAnti lefts rights rows
     → All (λ (row : AntiRow). row.id < item_limit) rows

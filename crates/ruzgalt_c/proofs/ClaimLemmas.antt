@@ -33,14 +33,14 @@ indices-more k part p =
     let e : 0 + length part ≡ length part = omega arith in
     indices-more_from k 0 part p ∙ ap (λ (n : ℕ). indices_of k 0 part ++ cond (p == k) (n ∷ []) []) e
 
--- its own part has its index more
+-- The part of the new row gets the row's index.
 indices-own : (k : ℕ) (part : List ℕ) (p : ℕ) → p ≡ k
     → indices_of k 0 (part ++ p ∷ []) ≡ indices_of k 0 part ++ length part ∷ []
 indices-own k part p e =
     indices-more k part p
     ∙ ap (λ (b : Bool). indices_of k 0 part ++ cond b (length part ∷ []) []) (eq-eqb p k e)
 
--- and no other part
+-- Any other part stays the same.
 indices-other : (k : ℕ) (part : List ℕ) (p : ℕ) → p ≢ k → indices_of k 0 (part ++ p ∷ []) ≡ indices_of k 0 part
 indices-other k part p ne =
     indices-more k part p
@@ -49,7 +49,7 @@ indices-other k part p ne =
 
 -- ---- row by row
 
--- the row of a part is in its list
+-- The row was appended to the list of its part.
 pub rows-added : (part : List ℕ) (count : ℕ) (lists lists' : List (Vec ℕ)) (number row : ℕ) (own : Vec ℕ)
     → number < length lists → lists' ≡ set lists number own
     → own.items ≡ (get_or lists number own).items ++ row ∷ [] → row ≡ length part
@@ -74,7 +74,7 @@ rows-added part count lists lists' number row own inside is own_is e are =
       ];
     })
 
--- that of no part is in none
+-- A row that belongs to no part is in no list.
 pub rows-kept : (part : List ℕ) (count : ℕ) (lists : List (Vec ℕ)) (number : ℕ) → length lists ≤ number
     → AreRowsByPart part count lists → AreRowsByPart (part ++ number ∷ []) count lists
 rows-kept part count lists number past are = record {

@@ -15,7 +15,7 @@ use Rattle.join_core.proofs.FoundLemmas.{AreMade-within}
 use Rattle.ruzgalt_c.specs.Rows.{AreRows, Columns}
 use Rattle.ruzgalt_c.proofs.RowLemmas.{ids-within}
 
--- some advances are within the bound, such as none: nobody counts them here
+-- Some number of advances is within the bound. Nobody counts advances here.
 pub some-made : (left right : List Item) (lefts rights : List (List Item)) → IsLeastDivision left lefts
     → IsLeastDivision right rights → (made : _) × AreMade left right made
 some-made left right lefts rights one other = (
@@ -24,13 +24,13 @@ some-made left right lefts rights one other = (
       (record { made = 0; left_parts = length lefts; right_parts = length rights }) (omega arith) refl refl,
 )
 
--- the tiles that were found
+-- The tiles that were found.
 pub tiles-found : (left right : List Item) (tiles : Vec Tile) (found : Option (Vec Tile)) → found ≡ Some tiles
     → IfSome found (λ some. AreTiles left right some.items) → AreTiles left right tiles.items
 tiles-found left right tiles found is are =
     subst (λ (o : Option (Vec Tile)). IfSome o (λ some. AreTiles left right some.items)) is are
 
--- each index is below the number of its side's rows
+-- Each index is less than the number of its side's rows.
 pub indices-few : (left right : Columns) (lefts rights : List Item) (rows : List JoinRow) → AreRows left lefts
     → AreRows right rights → length left.from ≤ item_limit → length right.from ≤ item_limit
     → IsItemsJoin lefts rights rows → All (λ (row : JoinRow). (row.left < item_limit) × (row.right < item_limit)) rows

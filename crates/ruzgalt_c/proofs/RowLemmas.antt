@@ -14,7 +14,7 @@ use Rattle.grid_core.specs.Bundles.{ClassesRise}
 use Rattle.anti_core.specs.United.{StandByClass}
 use Rattle.ruzgalt_c.specs.Rows.{AreRows, Columns, IsRow}
 
--- the next row as one more item
+-- The next row as one more item.
 pub rows-push : (rows : Columns) (items : List Item) (x : Item) (n : ℕ) → length items ≡ n
     → ((i : ℕ) (d : Item) → i < length items → IsRow rows i (get_or items i d)) → IsRow rows n x
     → (i : ℕ) (d : Item) → i < length (items ++ x ∷ []) → IsRow rows i (get_or (items ++ x ∷ []) i d)
@@ -28,7 +28,7 @@ rows-push rows items x n len each row i d h =
           subst (IsRow rows i) (sym (get_or_push items x d i here)) (subst (λ k. IsRow rows k x) e row)
     ]
 
--- their ids are their indices, so no two have one
+-- Ids are indices, so they are distinct.
 pub distinct-from_rows : (rows : Columns) (items : List Item) → AreRows rows items → HasDistinctIds items
 distinct-from_rows rows items are =
     HasDistinctIds-from_rising items (λ k d h.
@@ -43,7 +43,7 @@ ids-within rows items are k d h =
     let len : length items ≡ length rows.from = are.len in
     omega (arith, one, len, h)
 
--- where ids are distinct no item of one part has the id of one of a later part
+-- If ids are distinct, items of different parts have different ids.
 pub parts-apart : (parts : List (List Item)) (j k : ℕ) (x y : Item) → HasDistinctIds (all_of parts) → j < k
     → Contains (part_at parts j) x → Contains (part_at parts k) y → x.id ≡ y.id → ⊥
 parts-apart [] j k x y distinct lt h m e = absurd (Contains-none x h)
@@ -53,7 +53,7 @@ parts-apart (p ∷ ps) zero (suc k) x y distinct lt h m e =
 parts-apart (p ∷ ps) (suc j) (suc k) x y distinct lt h m e =
     parts-apart ps j k x y (distinct-later p (all_of ps) distinct) (omega arith) h m e
 
--- items by class and start rise by class
+-- Items by class and start have ascending classes.
 pub rise-stand : (items : List Item) → StandByClass items → ClassesRise items
 rise-stand items stand = λ i j d upto inside.
     (elim (equal_or_less i j upto) [

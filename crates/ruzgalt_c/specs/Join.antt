@@ -1,12 +1,12 @@
--- The join of rows, and where it is written.
+-- The join of rows, and how it is written to lists.
 use Rattle.std.specs.Prelude.{◌≡◌, ℕ, ◌<◌, ℤ, List, slice_index_or}
 use Rattle.dip_core.specs.declared.item.Item.{Item}
 use Rattle.join_core.specs.declared.rows.JoinRow.{JoinRow}
 use Rattle.join_core.specs.ItemJoin.{IsItemsJoin}
 use Rattle.ruzgalt_c.specs.Rows.{AreRows, Columns}
 
--- the join of left and right rows, which match if their classes are equal: each pair that shares an instant once, with
--- all instants that it shares, by start, end, left index and right index
+-- The join of left and right rows, which match if their classes are equal: each pair that shares an instant once, with
+-- the whole period that it shares, by start, end, left index and right index.
 pub record IsJoinOfRows (left right : Columns) (rows : List JoinRow) : Type 0 where
   pub left_items : List Item
   pub right_items : List Item
@@ -14,7 +14,7 @@ pub record IsJoinOfRows (left right : Columns) (rows : List JoinRow) : Type 0 wh
   pub rights : AreRows right right_items
   pub join : IsItemsJoin left_items right_items rows
 
--- the lists begin with the left indices, right indices, starts and ends of the first n rows
+-- The lists begin with the left indices, right indices, starts and ends of the first `n` rows.
 pub record AreWritten (rows : List JoinRow) (n : ℕ) (left right : List ℕ) (from to : List ℤ) : Type 0 where
   pub lefts : (k e : ℕ) (d : JoinRow) → k < n → slice_index_or left k e ≡ (slice_index_or rows k d).left
   pub rights : (k e : ℕ) (d : JoinRow) → k < n → slice_index_or right k e ≡ (slice_index_or rows k d).right

@@ -1,4 +1,4 @@
-//! The constant intervals of items: the longest periods in which the items of a class come to one value.
+//! The constant intervals of items: the maximal periods in which the aggregate of a class's items has one value.
 
 ghost use Rattle.std.specs.Prelude.{◌≡◌, ◌+◌, ◌<◌, ◌≤◌, ◌^◌, ◌+ℤ◌, ◌*ℤ◌, pos, length, take, drop, IfOk, MatchOption};
 ghost use Rattle.dip_core.specs.Division.{all_of};
@@ -15,10 +15,10 @@ use merge_core::{Steps, combine};
 use round_core::{Measure, Plateau, add_plateaus};
 use std::alloc::Global;
 
-/// What a value is divided by into its two words: 2^64.
+/// The divisor that splits a value into two words: 2^64.
 const WORD: i128 = 18_446_744_073_709_551_616;
 
-/// The function of this number.
+/// Returns the function with this number.
 pub(crate) fn measure_of(function: u32) -> Option<Measure>
     ensures { MatchOption result (IsNoFunction function) (IsFunction function) }
 {
@@ -31,8 +31,8 @@ pub(crate) fn measure_of(function: u32) -> Option<Measure>
     }
 }
 
-/// What the items of so many parts come to at each instant, from part `first` on. Half of them are combined with half,
-/// so each list of steps is gone through as often as their number can be halved.
+/// Returns the steps of the items in the parts `first..first + count`. Halves are combined recursively, so each item is
+/// visited about log2(`count`) times.
 fn steps_of_parts(
     alloc: Global,
     division: &Division,
@@ -43,7 +43,7 @@ fn steps_of_parts(
     requires inside { first + count ≤ length division.now }
     ensures { IfOk result (IsStepListOf (all_of (take count (drop first division.now)))) }
 {
-    // How many parts and items there are bounds the indices and the weights.
+    // The numbers of parts and items bound the indices and the weights.
     let _ = division.parts();
     if count == 1 {
         return Steps::of_part(alloc, division.part(first));
@@ -54,7 +54,7 @@ fn steps_of_parts(
     combine(alloc, &front, &back)
 }
 
-/// What some items come to at each instant. They are divided, unless they are a part as they are.
+/// Returns the steps of some items. The items are divided, unless they already are one part.
 fn steps_of_class(alloc: Global, items: &[Item]) -> Result<Steps, NoMemory>
     requires some { 0 < length items.now }
     requires few { length items.now ≤ item_limit }
@@ -67,7 +67,7 @@ fn steps_of_class(alloc: Global, items: &[Item]) -> Result<Steps, NoMemory>
     steps_of_parts(alloc, &division, 0, division.parts())
 }
 
-/// Returns the constant intervals of items whose classes rise, by class and start.
+/// Returns the constant intervals of items with ascending classes, by class and start.
 pub(crate) fn plateaus_of_items(
     alloc: Global,
     measure: Measure,
@@ -89,7 +89,7 @@ pub(crate) fn plateaus_of_items(
     Ok(plateaus)
 }
 
-/// The low and the high word of a value.
+/// Returns the low and the high word of a value.
 fn words_of(value: i128) -> (u64, i64)
     ensures { value ≡ (result.1 *ℤ pos (2 ^ 64)) +ℤ pos result.0 }
 {

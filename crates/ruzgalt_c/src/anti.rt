@@ -1,5 +1,5 @@
-//! The anti-join of two lists of items, class by class. The right items are united first, so that those of a class are
-//! one part: the left parts of the class are read next to it.
+//! The anti-join of two lists of items, class by class. The right items are coalesced first, so that each class has one
+//! right part, which each left part of the class is compared with.
 
 ghost use Rattle.std.specs.Prelude.{◌≡◌, ◌≤◌, ◌<◌, ◌++◌, List, length, map, All, IfOk, OnOk};
 ghost use Rattle.dip_core.specs.Division.{all_of};
@@ -18,7 +18,7 @@ use grid_core::{items_from, parted_behind};
 use merge_core::{Cursor, Gaps};
 use std::alloc::Global;
 
-/// Adds the rows of a left part, against a right part.
+/// Appends the rows of a left part, against a right part.
 fn add_rows_of_part(
     alloc: Global,
     left: Part<'_>,
@@ -34,7 +34,7 @@ fn add_rows_of_part(
     Ok(())
 }
 
-/// Adds the rows of all left parts, against a right part.
+/// Appends the rows of all left parts, against a right part.
 fn add_rows_of_parts(
     alloc: Global,
     lefts: &Division,
@@ -51,7 +51,7 @@ fn add_rows_of_parts(
     Ok(())
 }
 
-/// Adds the rows of some left items, against a right part. They are divided, unless they are a part as they are.
+/// Appends the rows of some left items, against a right part. The items are divided, unless they already are one part.
 fn add_rows_of_class(
     alloc: Global,
     left: &[Item],
@@ -70,7 +70,7 @@ fn add_rows_of_class(
     add_rows_of_parts(alloc, &lefts, right, rows)
 }
 
-/// The rows of all left items, class by class, against right items of which no two of a class overlap.
+/// Returns the rows of all left items, class by class. No two right items of a class may overlap.
 fn rows_of_classes(alloc: Global, left: &[Item], right: &[Item]) -> Result<Vec<AntiRow>, NoMemory>
     requires left_few { length left.now ≤ item_limit }
     requires left_rise { ClassesRise left.now }

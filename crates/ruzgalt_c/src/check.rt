@@ -12,7 +12,7 @@ use cert_core::{Certificate, Claim, NoMemory, Verdict, check_division};
 use period_core::Point;
 use std::alloc::Global;
 
-/// So many lists without a number.
+/// Returns `count` empty lists.
 fn empty_lists(alloc: Global, count: u32) -> Result<Vec<Vec<u64>>, NoMemory>
     ensures { IfOk result (λ lists. AreRowsByPart [] count lists.items) }
 {
@@ -23,7 +23,7 @@ fn empty_lists(alloc: Global, count: u32) -> Result<Vec<Vec<u64>>, NoMemory>
     Ok(lists)
 }
 
-/// Adds the row to the list of its part, if there is such a part.
+/// Appends the row to the list of its part, if that part exists.
 fn add_row(lists: &mut Vec<Vec<u64>>, number: usize, row: u64) -> Result<(), NoMemory>
     ensures { OnOk result ((part : _) (count : ℕ) → row ≡ length part
         → AreRowsByPart part count lists.old.items
@@ -36,7 +36,7 @@ fn add_row(lists: &mut Vec<Vec<u64>>, number: usize, row: u64) -> Result<(), NoM
     Ok(())
 }
 
-/// The indices of each part's rows, which rise.
+/// Returns the indices of each part's rows, in ascending order.
 fn rows_by_part(alloc: Global, part: &[u32], parts: u32) -> Result<Vec<Vec<u64>>, NoMemory>
     ensures { IfOk result (λ lists. AreRowsByPart part.now parts lists.items) }
 {
@@ -47,7 +47,7 @@ fn rows_by_part(alloc: Global, part: &[u32], parts: u32) -> Result<Vec<Vec<u64>>
     Ok(lists)
 }
 
-/// Adds a part of these ids.
+/// Appends a part with these ids.
 fn add_part(claim: &mut Claim, ids: &[u64]) -> Result<(), NoMemory>
     ensures { OnOk result (claim.new ≡ claim.old ++ ids.now ∷ []) }
 {
@@ -58,7 +58,7 @@ fn add_part(claim: &mut Claim, ids: &[u64]) -> Result<(), NoMemory>
     Ok(())
 }
 
-/// The claim of some parts.
+/// Returns the claim of these parts.
 fn claim_of(alloc: Global, lists: &[Vec<u64>]) -> Result<Claim, NoMemory>
     ensures { IfOk result (λ claim. claim ≡ map (λ list. list.items) lists.now) }
 {
@@ -69,7 +69,7 @@ fn claim_of(alloc: Global, lists: &[Vec<u64>]) -> Result<Claim, NoMemory>
     Ok(claim)
 }
 
-/// Checks the numbers of the rows' parts and the certificate.
+/// Checks a certificate, and the numbers of the rows' parts.
 pub(crate) fn check_rows(
     alloc: Global,
     from: &[i64],
@@ -95,7 +95,8 @@ pub(crate) fn check_rows(
     Ok(verdict)
 }
 
-/// The certificate of so many parts and that instant, which counts only if there are rows.
+/// Returns the certificate of these parts and this instant. Without rows, or if `instant` isn't a second of the years
+/// 0001 to 9999, it has no instant.
 pub(crate) fn certificate_of(rows: usize, parts: u32, instant: i64) -> Certificate
     ensures { IsCertificateOf rows parts instant result }
 {
@@ -109,7 +110,7 @@ pub(crate) fn certificate_of(rows: usize, parts: u32, instant: i64) -> Certifica
     }
 }
 
-/// The number of the verdict, and its own numbers, or 0.
+/// Returns the number of the verdict, and the verdict's own numbers, or 0.
 pub(crate) fn numbers_of(verdict: Verdict) -> (u32, u64, u64)
     ensures { Says verdict result.0 result.1 result.2 }
 {

@@ -13,7 +13,7 @@ use dip_core::{Division, Item, NoMemory, divide_sorted};
 use period_core::Point;
 use std::alloc::Global;
 
-/// Divides the rows: each one's part is put at its index, and the number of parts and the instant are returned.
+/// Divides the rows: writes each row's part at the row's index, and returns the number of parts and the instant.
 pub(crate) fn divide(
     alloc: Global,
     from: &[i64],
@@ -35,7 +35,7 @@ pub(crate) fn divide(
     Ok((division.parts(), division.instant()))
 }
 
-/// Returns the division of some items, which are copied.
+/// Returns a division of a copy of the items.
 pub(crate) fn divided(alloc: Global, items: &[Item]) -> Result<Division, NoMemory>
     requires { length items.now ≤ item_limit }
     ensures { IfOk result (IsLeastDivision items.now) }
@@ -45,7 +45,7 @@ pub(crate) fn divided(alloc: Global, items: &[Item]) -> Result<Division, NoMemor
     divide_sorted(alloc, &sorted)
 }
 
-/// Puts the number of each item's part at the index that is its id.
+/// Writes the number of each item's part at the index that is the item's id.
 fn number_rows(division: &Division, numbers: &mut [u32])
     requires distinct { HasDistinctIds (all_of division.now) }
     requires room { All (λ x. x.id < length numbers.old) (all_of division.now) }
@@ -57,7 +57,7 @@ fn number_rows(division: &Division, numbers: &mut [u32])
     }
 }
 
-/// Puts the number at the index that is each item's id, and at no other.
+/// Writes the number `k` at the index that is each item's id, and nowhere else.
 fn number_part(k: u32, items: &[Item], numbers: &mut [u32])
     requires room { All (λ x. x.id < length numbers.old) items.now }
     ensures len { length numbers.new ≡ length numbers.old }

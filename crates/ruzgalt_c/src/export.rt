@@ -1,4 +1,4 @@
-//! What C calls. Each function returns a code: `DONE` with an answer, or the reason for which it doesn't answer.
+//! The functions that C calls. Each returns a code: `DONE` with an answer, or the reason why it has no answer.
 
 ghost use Rattle.std.specs.Prelude.{◌≡◌, ◌<◌, ◌≤◌, ◌⊎◌, ◌↔◌, ℤ, List, Option, pos, length, IfSome};
 ghost use Rattle.dip_core.specs.Item.{item_limit};
@@ -22,31 +22,31 @@ use crate::join::{join_items, write_rows};
 use crate::rows::{Fault, items_of, order_by_class};
 use std::alloc::Global;
 
-/// The most rows of a list.
+/// The most rows that a list may have.
 const ROW_LIMIT: usize = 1_000_000;
 
-/// The answer is there.
+/// The answer was written.
 const DONE: i32 = 0;
 
-/// Lists that must be equally long are not.
+/// Lists that must have equal lengths don't.
 const UNEVEN: i32 = 1;
 
-/// A list has more than `ROW_LIMIT` rows.
+/// A list has more than `ROW_LIMIT` rows, or there are more parts.
 const TOO_MANY: i32 = 2;
 
-/// Some row isn't a period of the years 0001 to 9999.
+/// Some row's start and end aren't a period of the years 0001 to 9999.
 const NO_PERIOD: i32 = 3;
 
 /// Memory was refused.
 const NO_MEMORY: i32 = 4;
 
-/// The answer has more rows than the lists for it have room.
+/// The answer has more rows than its lists have capacity for.
 const NO_ROOM: i32 = 5;
 
-/// No function has the number.
+/// No function has this number.
 const NO_FUNCTION: i32 = 6;
 
-/// The code of a fault.
+/// Returns the code of a fault.
 fn code_of(fault: Fault) -> i32
     ensures period { result ≡ NO_PERIOD → fault ≡ Fault.NoPeriod }
     ensures codes { (result ≡ NO_PERIOD) ⊎ (result ≡ NO_MEMORY) }
@@ -57,9 +57,9 @@ fn code_of(fault: Fault) -> i32
     }
 }
 
-/// Divides rows into the fewest parts without overlaps. Row k holds from second `from[k]` on and before second `to[k]`.
-/// Puts the number of its part, from 0 on, at `part[k]`, the number of parts at `parts`, and at `instant` the first
-/// second at which the same number of rows hold. Without rows it leaves `instant` as it is.
+/// Divides rows into the fewest parts without overlaps. Row k holds in the seconds `from[k]..to[k]`. Writes the number
+/// of the row's part, counted from 0, to `part[k]`, and the number of parts to `parts`. Writes to `instant` the first
+/// second at which the number of rows that hold equals the number of parts; without rows, `instant` stays as it is.
 #[unsafe(no_mangle)]
 pub extern "C" fn ruzgalt_dip(
     alloc: Global,
@@ -97,10 +97,10 @@ pub extern "C" fn ruzgalt_dip(
     }
 }
 
-/// Finds each pair of a left and a right row that have one class and share an instant. Row k of a side has the class
-/// `class[k]`, and holds from second `from[k]` on and before second `to[k]`. Puts the indices of both rows and the period
-/// that they share into the four lists of the answer, by start, end, left index and right index, and the number of pairs
-/// at `count`, also if the lists are too short.
+/// Finds the pairs of a left and a right row that have the same class and share an instant. Row k of a side has the
+/// class `class[k]`, and holds in the seconds `from[k]..to[k]`. Writes the indices of both rows and the period that
+/// they share to the four lists of the answer, by start, end, left index and right index. Writes the number of pairs to
+/// `count`, also if the lists are too short.
 #[unsafe(no_mangle)]
 pub extern "C" fn ruzgalt_join(
     alloc: Global,
@@ -170,9 +170,9 @@ pub extern "C" fn ruzgalt_join(
     DONE
 }
 
-/// Finds the longest periods in which a left row holds and no right row of its class does. The rows are as in
-/// `ruzgalt_join`. Puts the row's index and the period into the three lists of the answer, by index and start, and the
-/// number of periods at `count`, also if the lists are too short.
+/// Finds the maximal periods in which a left row holds and no right row of its class does. Rows are given as for
+/// `ruzgalt_join`. Writes the left row's index and the period to the three lists of the answer, by index and start.
+/// Writes the number of periods to `count`, also if the lists are too short.
 #[unsafe(no_mangle)]
 pub extern "C" fn ruzgalt_anti(
     alloc: Global,
@@ -239,11 +239,11 @@ pub extern "C" fn ruzgalt_anti(
     DONE
 }
 
-/// Finds the longest periods in which rows of a group hold and have one value: their number if `function` is 0, the sum,
-/// the minimum or the maximum of their amounts if it is 1, 2 or 3. Row k has the group `group[k]` and the amount
-/// `amount[k]`, and holds from second `from[k]` on and before second `to[k]`. Puts the group, the period and the value
-/// into the lists of the answer, by group and start, and the number of periods at `count`, also if the lists are too
-/// short. The low 64 bits of a value are put into `low`, the high 64 into `high`.
+/// Finds the maximal periods in which rows of a group hold and their aggregate has one value. `function` is 0 for the
+/// number of rows, and 1, 2 or 3 for the sum, the minimum or the maximum of their amounts. Row k has the group
+/// `group[k]` and the amount `amount[k]`, and holds in the seconds `from[k]..to[k]`. Writes the group, the period and
+/// the value to the lists of the answer, by group and start: the low 64 bits of a value to `low`, the high 64 bits to
+/// `high`. Writes the number of periods to `count`, also if the lists are too short.
 #[unsafe(no_mangle)]
 pub extern "C" fn ruzgalt_agg(
     alloc: Global,
@@ -311,11 +311,11 @@ pub extern "C" fn ruzgalt_agg(
     DONE
 }
 
-/// Checks a claimed division of rows: row k is in part `part[k]`, there are `parts` parts, and `parts` rows hold second
-/// `instant`. Without rows `instant` is ignored. Puts the number of the first fault at `verdict`, and its own numbers at
-/// `first` and `second`: 2, part `first` is empty; 5, row `first` is in no part; 6, rows `first` and `second` of one part
-/// overlap; 7, `first` rows hold the instant, not `parts`. 0 means that the division is right, and that no division has
-/// fewer parts.
+/// Checks a claimed division of rows: row k is in part `part[k]`, there are `parts` parts, and `parts` rows hold at
+/// second `instant`. Without rows, `instant` is ignored. Writes the number of the first fault to `verdict`, and its own
+/// numbers to `first` and `second`. 2: part `first` is empty. 5: row `first` is in no part. 6: rows `first` and
+/// `second` of one part overlap. 7: `first` rows hold at the instant, not `parts`. 0: the division is right, and no
+/// division has fewer parts.
 #[unsafe(no_mangle)]
 pub extern "C" fn ruzgalt_check(
     alloc: Global,

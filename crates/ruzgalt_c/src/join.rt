@@ -1,5 +1,5 @@
-//! The join of two lists of items. They are taken a bundle at a time, all items of some classes: both sides of a bundle
-//! are divided, and each left part is read next to each right part.
+//! The join of two lists of items. A bundle is all items of some classes. In each bundle both sides are divided, and
+//! each left part is merged with each right part.
 
 ghost use Rattle.std.specs.Prelude.{◌≡◌, ◌<◌, ◌≤◌, ◌^◌, ◌*◌, ℕ, length, All, IfOk};
 ghost use Rattle.dip_core.specs.Item.{item_limit, HasDistinctIds};
@@ -18,10 +18,10 @@ use join_core::{JoinRow, JoinWork};
 use std::alloc::Global;
 use work_core::PairWork;
 
-/// The pairs of parts of two divisions, and the rows of what they share.
+/// The pairs of parts of two divisions, with the rows that each pair adds.
 pub(crate) type RowPairs<'a> = PartPairs<'a, JoinWork<JoinRow>>;
 
-/// Adds the rows of all pairs, pair by pair.
+/// Appends the rows of all pairs of parts.
 pub(crate) fn add_rows_of_pairs(
     alloc: Global,
     pairs: &RowPairs<'_>,
@@ -38,7 +38,7 @@ pub(crate) fn add_rows_of_pairs(
     Ok(())
 }
 
-/// Adds the rows of a bundle: those of its tiles, if these have less to read than all pairs of its parts.
+/// Appends the rows of a bundle. Uses tiles if these have fewer items to read than all pairs of parts.
 fn add_rows_of_bundle(
     alloc: Global,
     left: &[Item],
@@ -63,7 +63,7 @@ fn add_rows_of_bundle(
     }
 }
 
-/// The rows of all items, bundle by bundle.
+/// Returns the rows of all items, bundle by bundle.
 fn rows_of_bundles(alloc: Global, left: &[Item], right: &[Item]) -> Result<Vec<JoinRow>, NoMemory>
     requires left_few { length left.now ≤ item_limit }
     requires right_few { length right.now ≤ item_limit }

@@ -1,6 +1,6 @@
 #![tactic(auto)]
 
-//! Divides, joins, anti-joins, sums up and checks rows for callers in C, on the calling thread.
+//! Divides, joins, anti-joins, aggregates and checks rows for callers in C, on the calling thread.
 
 mod agg;
 mod anti;

@@ -1,4 +1,4 @@
-//! Rows of a caller as items, and why a function doesn't answer.
+//! A caller's rows as items, and why a function has no answer.
 
 ghost use Rattle.std.specs.Prelude.{◌≡◌, pos, length, slice_index_or, IfOk, IfErr, IsPermutation, MatchOption};
 ghost use Rattle.grid_core.specs.Bundles.{ClassesRise};
@@ -9,12 +9,12 @@ use dip_core::Item;
 use period_core::{Period, Point};
 use std::alloc::{AllocError, Global};
 
-/// Why a function doesn't answer.
+/// Why a function has no answer.
 #[derive(Clone, Copy, Debug, PartialEq, Eq)]
 pub enum Fault {
-    /// Some row isn't a period.
+    /// Some row's start and end aren't a period.
     NoPeriod,
-    /// A growth was refused.
+    /// Memory was refused.
     NoMemory,
 }
 
@@ -24,7 +24,7 @@ impl From<AllocError> for Fault {
     }
 }
 
-/// Returns the rows as items, whose ids are the rows' indices. A row without a class, or without an amount, has 0.
+/// Returns the rows as items, whose ids are the rows' indices. A missing class or amount is 0.
 pub(crate) fn items_of(
     alloc: Global,
     class: &[u64],
@@ -65,21 +65,21 @@ pub(crate) fn order_by_class(items: &mut Vec<Item>)
     items.sort_unstable_by_key(|item| (item.class, item.period.from));
 }
 
-/// The class of row k.
+/// Returns the class of row `k`, or 0 without classes.
 fn class_at(class: &[u64], k: usize) -> u64
     ensures { result ≡ slice_index_or class.now k 0 }
 {
     if k < class.len() { class[k] } else { 0 }
 }
 
-/// The amount of row k.
+/// Returns the amount of row `k`, or 0 without amounts.
 fn amount_at(amount: &[i64], k: usize) -> i64
     ensures { result ≡ slice_index_or amount.now k (pos 0) }
 {
     if k < amount.len() { amount[k] } else { 0 }
 }
 
-/// The period from one second on and before the other, if there is one.
+/// Returns the period from one second to before the other, or `None` if it isn't one.
 fn period_of(from: i64, to: i64) -> Option<Period>
     ensures { MatchOption result (¬ ArePeriodEnds from to)
         (λ p. (p.from ≡ from) × (p.to ≡ to)) }

@@ -1,5 +1,5 @@
-//! Tiles: left and right items of a bundle, cut by time. They are read in place of all pairs of parts if many items of
-//! one side hold at once, but not while many of the other do.
+//! Tiles: the items of a bundle, cut by time. They pay off if many items of one side hold at once, but few of the other
+//! side at the same time.
 
 ghost use Rattle.std.specs.Prelude.{All, ◌≡◌, ◌≤◌, length, AllPairs, IfOk, IfSome, IsPermutation, IsSorted};
 ghost use Rattle.dip_core.specs.Item.{item_limit, HasDistinctIds};
@@ -13,7 +13,7 @@ use join_core::{JoinRow, Tile, are_read_often, cuts_of, tiles_cut_at};
 use period_core::Point;
 use std::alloc::Global;
 
-/// Adds the rows of a tile.
+/// Appends the rows of a tile.
 fn add_rows_of_tile(alloc: Global, tile: &Tile, rows: &mut Vec<JoinRow>) -> Result<(), NoMemory>
     requires { IsDivisible tile.now }
     ensures { IfOk result
@@ -25,7 +25,7 @@ fn add_rows_of_tile(alloc: Global, tile: &Tile, rows: &mut Vec<JoinRow>) -> Resu
     add_rows_of_pairs(alloc, &RowPairs::new(&lefts, &rights), rows)
 }
 
-/// Adds the rows of the tiles.
+/// Appends the rows of all tiles.
 pub(crate) fn add_rows_of_tiles(
     alloc: Global,
     tiles: &[Tile],
@@ -41,7 +41,7 @@ pub(crate) fn add_rows_of_tiles(
     Ok(())
 }
 
-/// The items by their starts.
+/// Returns the items, sorted by start.
 fn by_start(alloc: Global, items: &[Item]) -> Result<Vec<Item>, NoMemory>
     ensures same { IfOk result (λ sorted. IsPermutation items.now sorted.items) }
     ensures rise { IfOk result (λ sorted. StartsRise sorted.items) }
@@ -51,7 +51,7 @@ fn by_start(alloc: Global, items: &[Item]) -> Result<Vec<Item>, NoMemory>
     Ok(sorted)
 }
 
-/// Where both sides are cut.
+/// Returns the points at which both sides are cut.
 fn cuts_between(alloc: Global, left: &[Item], right: &[Item]) -> Result<Vec<Point>, NoMemory> {
     let mut starts = Vec::new(alloc);
     let mut ends = Vec::new(alloc);
@@ -64,7 +64,7 @@ fn cuts_between(alloc: Global, left: &[Item], right: &[Item]) -> Result<Vec<Poin
     cuts_of(alloc, &starts, &ends)
 }
 
-/// Returns the tiles of some items, if they have no more than half as many items to read as there are at most in all
+/// Returns the tiles of some items, if reading them takes at most half of `most`, the number of items to read for all
 /// pairs of parts.
 pub(crate) fn tiles_of(
     alloc: Global,

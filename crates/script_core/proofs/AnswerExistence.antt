@@ -42,7 +42,7 @@ use Rattle.agg_core.specs.Agg.{rows_on}
 use Rattle.script_core.specs.Effects.{TableRows, aggregated_or_fault, change_in, claim_of, columns_or_fault, delete_in, load_in, load_or_fault, make_in, pairs_or_fault, rows_or_fault, sides_or_fault, update_in, versions_or_fault}
 use Rattle.script_core.proofs.AnswerUniqueness.{both_ok-first, not_Ok, rise-reported}
 
--- ---- a change that is made keeps the history legal
+-- ---- an accepted change keeps the history legal
 
 legal-one : (number : ℕ) (h : History) (c : Change) → IsLegal h → IfOk (change_in number h c) IsLegal
 legal-one number h c legal = by_refusal (refusal_of (length h) (state_after h) c) refl where
@@ -52,7 +52,7 @@ legal-one number h c legal = by_refusal (refusal_of (length h) (state_after h) c
   by_refusal None accepted = IsLegal-push h (record { by = 1; change = c }) legal accepted
   by_refusal (Some why) refused = tt
 
--- what follows is legal, whatever it follows from
+-- If each history that may follow is legal, so is the one that follows.
 legal-then : {T : Type 0} (r : Result T Fault) (follow : T → Result History Fault)
     → ((x : T) → IfOk (follow x) IsLegal) → IfOk (and_then r follow) IsLegal
 legal-then (Ok x) follow each = each x
@@ -60,14 +60,14 @@ legal-then (Err wrong) follow each = tt
 
 -- ---- answers
 
--- an answer, and its records
+-- An answer, and its records.
 pub record Reported (Is : Answer → Type 0) : Type 0 where
   pub given : Answer
   pub is : Is given
   pub records : List Record
   pub printed : IsPrintedAs given records
 
--- a command's answer and its records, and the legal history after it
+-- The answer to a command and its records, and the legal history after it.
 pub record Reply (Is : Answer → History → Type 0) : Type 0 where
   pub after : History
   pub reported : Reported (λ given. Is given after)
@@ -168,7 +168,7 @@ some_verdict_answer items claim certificate rise =
       printed = refl;
     }
 
--- where there is no refusal, none applied
+-- Without a refusal, none applied.
 not_refused : {T E : Type 0} (refusal : Option E) (x y : T) → refused_or refusal x ≡ Ok y → refusal ≡ None
 not_refused None x y e = refl
 not_refused (Some why) x y e = absurd (not_Ok y why e)

@@ -1,4 +1,4 @@
--- A command has one answer.
+-- A command has only one answer.
 use Rattle.std.proofs.Common.{◌≡◌, ℕ, ◌+◌, List, Option, Some, None, Result, Ok, Err, length, refl, sym, ap, ◌∙◌, subst}
 use Rattle.std.specs.Prelude.{nat_le, nat_lt, unwrap_or}
 use Rattle.row_core.specs.Refusals.{map_err, refused_or}
@@ -34,7 +34,7 @@ use Rattle.script_core.specs.Answer.{AnswersOne, AnswersChange, AnswersQuery, Is
 use Rattle.agg_core.specs.Agg.{rows_on}
 use Rattle.script_core.specs.Effects.{TableRows, aggregated_or_fault, claim_of, delete_in, load_in, make_in, rows_or_fault, sides_or_fault, update_in, versions_or_fault}
 
--- ---- what queries are answered
+-- ---- the answers to queries
 
 one_dip_of : (items : List Item) (one other : Answer) → IsDipOf items one → IsDipOf items other → one ≡ other
 one_dip_of items one other p q =
@@ -76,7 +76,7 @@ one_verdict_on items claim certificate one other rise p q =
     p.is ∙ (ap answer.Verdict (one_verdict items claim certificate p.verdict q.verdict rise p.applies q.applies)
     ∙ sym q.is)
 
--- ---- the rows that are read rise
+-- ---- rows are read in ascending order
 
 same_Ok : {T E : Type 0} (x y : T) → ◌≡◌ {A = Result T E} (Ok x) (Ok y) → x ≡ y
 same_Ok x y e = cc
@@ -103,7 +103,7 @@ rise-reported number h asof name rows e =
 
 -- ---- answers
 
--- two pairs of answer and history are the same
+-- Two pairs of an answer and a history are equal.
 abbrev Same : Answer → Answer → History → History → Type 0
 Same one other f g = (one ≡ other) × (f ≡ g)
 

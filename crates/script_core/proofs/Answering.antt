@@ -17,7 +17,7 @@ use Rattle.script_core.specs.Failure.{Failure, IsFailureOf}
 use Rattle.row_core.specs.declared.failure.Failure.TheVariants.{Refused, NoMemory}
 use Rattle.script_core.proofs.Comparing.{aggregated-failed, both_ok-failed, sides-failed}
 
--- a query is answered by what it asks of what it reads, or by its refusal
+-- A query is answered by the result for the rows that it reads, or by its refusal.
 query-answered : {S : Type 0} (number : ℕ) (meaning : Meaning) (before : History) (meant : Result S Fault)
     (Is : S → Answer → Type 0) (outcome : Result Answer Failure)
     → ((given : Answer) → AnswersQuery before meant Is given before → IsAnswerTo before number meaning given before)
@@ -29,7 +29,7 @@ query-answered number meaning before meant Is (Err (Refused wrong)) answers same
     (subst (λ m. AnswersQuery before m Is (answer.Refused wrong) before) (sym same) (refl, refl))
 query-answered number meaning before meant Is (Err NoMemory) answers gives = tt
 
--- a query that fails before it reads is refused as what it would read, and changes nothing
+-- A query that fails before it reads has the refusal that its reading would have, and changes nothing.
 pub query-failed : {S : Type 0} (number : ℕ) (meaning : Meaning) (before after : History) (meant : Result S Fault)
     (Is : S → Answer → Type 0) (failure : Failure) (outcome : Result Answer Failure)
     → ((given : Answer) → AnswersQuery before meant Is given before → IsAnswerTo before number meaning given before)
@@ -40,8 +40,7 @@ query-failed number meaning before after meant Is failure outcome answers is sam
     (subst (λ (o : Result Answer Failure). Performs before number meaning o before) (sym is)
     (query-answered number meaning before meant Is (Err failure) answers failed))
 
--- a query that fails before it reads, as all tables do of the commit that it names, or else for want of memory, is
--- refused as what it would read
+-- The same for a failure that applies to all tables of the commit that the query names, or for refused memory.
 pub unread-fails : (number : ℕ) (meaning : Meaning) (h : History) (failure : Failure) (outcome : Result Answer Failure)
     → is_allowed true meaning ≡ true → outcome ≡ Err failure
     → ((table : List ℕ) → IsFailureOf (rows_or_fault number h (asof_in meaning) table) failure)

@@ -1,4 +1,4 @@
--- How the commands of a block are answered: those before its load, the load, and those behind it.
+-- How the commands of a block are answered: the queries before the load, the load, and the queries after it.
 use Rattle.std.proofs.Common.{◌≡◌, ◌⊎◌, ◌∙◌, ◌+◌, ◌^◌, ◌<◌, ◌≤◌, ℕ, suc, List, [], ◌∷◌, ◌++◌, Bool, Result, Ok, Err, ap, append_assoc, arith, cond, drop, false, inl, inr, length, refl, subst, sym, take, true}
 use Rattle.std.specs.Prelude.{All, IfOk, codes, ◌||◌, if◌then◌else◌}
 use Rattle.std.proofs.lemmas.List.{append-nil, drop-drop, drop_all, length-append, length-take}
@@ -32,7 +32,7 @@ use Rattle.script_core.proofs.TogetherExistence.{reads-allowed}
 
 -- ---- one command
 
--- the answer that an outcome is answers the command
+-- The answer that an outcome stands for answers the command.
 pub performed-answer : (before : History) (number : ℕ) (meant : Meaning) (outcome : Result Answer Failure)
     (after : History) (given : Answer) → Performs before number meant outcome after → IsAnswerOf outcome given
     → IsAnswerTo before number meant given after
@@ -42,7 +42,7 @@ performed-answer before number meant (Err (Refused wrong)) after given performs 
     subst (λ (g : Answer). IsAnswerTo before number meant g after) (sym is) performs
 performed-answer before number meant (Err NoMemory) after given performs is = absurd is
 
--- a command is answered by the answer that its outcome is, which was printed
+-- The command is answered if that answer was printed.
 pub command-printed : {E : Type 0} (before : History) (number : ℕ) (meant : Meaning) (outcome : Result Answer Failure)
     (after : History) (given : Result Answer E) (old new : List ℕ) (errors : ℕ)
     → Performs before number meant outcome after → IfOk given (IsAnswerOf outcome)
@@ -57,7 +57,7 @@ command-printed before number meant outcome after given old new errors performs 
       errors = said.errors;
     }
 
--- an answer to the block's load, and that nothing changes where it is refused
+-- An answer to the block's load. If the load is refused, nothing changes.
 abbrev LoadAnswered : History → History → ℕ → Meaning → Answer → Type 0
 LoadAnswered before after number meant given =
     IsAnswerTo before number meant given (if is_load meant then after else before)
@@ -81,7 +81,7 @@ load-answered before after number (meaning.Agg asked asof) given asks is = absur
 load-answered before after number (meaning.Check name parts instant asof body) given asks is = absurd asks
 load-answered before after number meaning.Log given asks is = absurd asks
 
--- a command with the word `load` is a load, or refused
+-- A command with the word `load` is a load, or refused.
 asks-reported : (number : ℕ) (body : List Record) (named : Result (List ℕ) Refusal)
     → AsksLoad (meaning_or_refusal number (map_ok (λ name. meaning.Load name body) named))
 asks-reported number body (Ok name) = tt
@@ -136,7 +136,7 @@ each-append before after (command ∷ more) back xs ys (own, later, split, answe
   each-append before after more back later ys others last,
 )
 
--- a command that does no load, whatever history the block's load leads to
+-- A command that isn't a load, whatever history the block's load leads to.
 query-each : (before after : History) (number : ℕ) (meant : Meaning) (given : Answer) (own : List Record)
     → is_load meant ≡ false → IsAnswerTo before number meant given before → IsPrintedAs given own
     → AnswersEach before after (record { number = number; meaning = meant } ∷ []) own
@@ -151,7 +151,7 @@ placed-more [] member = refl
 placed-more (first ∷ front) member =
     ap (λ l. record { number = first.number; meaning = meaning_inside true first } ∷ l) (placed-more front member)
 
--- a command without the word `load` means the same before and behind a load
+-- A command without the word `load` means the same before and after a load.
 inside-same : (member : Member) → begins_load member ≡ false → meaning_inside true member ≡ meaning_inside false member
 inside-same member none =
     ap
@@ -165,7 +165,7 @@ rest-none : (member : Member) (more : List Member) → All (λ m. begins_load m 
     → All (λ m. begins_load m ≡ false) more
 rest-none member more none k d l = none (suc k) d (omega arith)
 
--- where no load stands among them
+-- The same for members without a load among them.
 placed-none : (members : List Member) → All (λ m. begins_load m ≡ false) members
     → placed_in true members ≡ placed_in false members
 placed-none [] none = refl
@@ -176,7 +176,7 @@ placed-none (member ∷ more) none =
     ∙ ap (λ l. record { number = member.number; meaning = meaning_inside false member } ∷ l)
     (placed-none more (rest-none member more none) ∙ sym flag)
 
--- the first load among them
+-- The members up to the first load, and after it.
 placed-split : (front back : List Member) (load : Member) → All (λ m. begins_load m ≡ false) front
     → begins_load load ≡ true → placed_in false (front ++ load ∷ back) ≡ placed_in true front
     ++ record { number = load.number; meaning = meaning_inside false load } ∷ placed_in true back
@@ -194,7 +194,7 @@ placed-split (member ∷ front) back load none loads =
 
 -- ---- the loop over queries
 
--- some queries are answered, with this outcome, and these are left from this place on
+-- Some queries were answered with this outcome, and the members from index `at` on are left.
 pub record QueriesTo (before : History) (number : ℕ) (records : List Record) (at : ℕ) (members : List Member)
     (old new : List ℕ) (reported : Outcome) : Type 0 where
   pub gone : List Member
@@ -203,13 +203,13 @@ pub record QueriesTo (before : History) (number : ℕ) (records : List Record) (
   pub behind : AreMembers (number + at) (drop at records) left
   pub printed : PrintsQueries before (placed_in true gone) old new reported
 
--- the same of all members that the records have
+-- The same for all members that the records have.
 abbrev pub QueriesDone : History → ℕ → List Record → ℕ → List ℕ → List ℕ → Outcome → Type 0
 QueriesDone before number records at old new reported =
     (members : List Member) → AreMembers number records members
     → QueriesTo before number records at members old new reported
 
--- one more query is answered
+-- One more query is answered.
 pub queries-more : (before : History) (number : ℕ) (records : List Record) (at taken : ℕ) (old mid new : List ℕ)
     (reported next : Outcome) (meant : Meaning) (errors : ℕ) → QueriesDone before number records at old mid reported
     → taken ≤ length (drop at records)
@@ -269,7 +269,7 @@ none-left number records (member ∷ more) empty (own, later, split, first, is, 
     sym empty ∙ (split ∙ ap (λ l. l ++ later) is.whole) in
     absurd (cc)
 
--- all are
+-- All queries are answered.
 pub queries-all : (before : History) (number : ℕ) (records : List Record) (at : ℕ) (old new : List ℕ)
     (reported : Outcome) → QueriesDone before number records at old new reported → length records ≤ at
     → (members : List Member) → AreMembers number records members
@@ -282,12 +282,12 @@ queries-all before number records at old new reported done over members are =
 
 -- ---- the whole block
 
--- what another printer made comes behind what one printed
+-- Appending another printer's bytes.
 appended : (old later new : List ℕ) (ys : List Record) → Adds [] later ys
     → new ≡ old ++ later → Adds old new ys
 appended old later new ys adds is = is ∙ ap (λ t. old ++ t) adds
 
--- the queries before a load, the load, and the queries behind it
+-- The queries before a load, the load, and the queries after it.
 pub block-printed : (before after : History) (members front back : List Member) (load : Member)
     (errors : ℕ) (old mid near later new : List ℕ) (first last reported : Outcome)
     → members ≡ front ++ load ∷ back → All (λ m. begins_load m ≡ false) front → begins_load load ≡ true
@@ -339,7 +339,7 @@ block-printed before after members front back load errors old mid near later new
       );
     }
 
--- queries alone
+-- A block with queries only.
 pub queries-block : (before after : History) (members : List Member) (old new : List ℕ) (reported : Outcome)
     → All (λ m. begins_load m ≡ false) members → after ≡ before
     → PrintsQueries before (placed_in true members) old new reported
@@ -354,7 +354,7 @@ queries-block before after members old new reported none same printed =
       errors = p.errors;
     }
 
--- behind the record that the block's answer begins with
+-- The block's answer after its first record.
 pub block-stated : (before : History) (number : ℕ) (commands : List Placed) (after : History) (old mid new : List ℕ)
     (reported next : Outcome) (own : List Record) → own ≡ together_record (length before) ∷ [] → Adds old mid own
     → PrintsBlock before commands after mid new reported → next.commands ≡ reported.commands + 1
@@ -376,9 +376,9 @@ block-stated before number commands after old mid new counted next own is opened
       );
     }
 
--- ---- where the load stands
+-- ---- the position of the load
 
--- a block's members, cut at its first load, which takes so many records behind a place
+-- A block's members, cut at the first load, which takes `taken` records from index `place` on.
 pub record IsCut (number : ℕ) (lines : List Record) (place taken : ℕ) (members : List Member) (meant : Meaning)
     : Type 0 where
   pub front : List Member
@@ -401,7 +401,7 @@ from-place number lines place members within are =
     let size : number + length (take place lines) ≡ number + place = omega (arith, length-take place lines) in
     subst (λ n. AreMembers n (drop place lines) members) size are
 
--- the members from the load on
+-- The members from the load on.
 pub load-members : (number : ℕ) (lines : List Record) (place : ℕ) (members : List Member) → place < length lines
     → IsSplit number members (take place lines) (drop place lines)
     → (some : List Member) × AreMembers (number + place) (drop place lines) some
@@ -442,7 +442,7 @@ load-cut number lines place taken members meant within few split next_is =
           (drop taken (drop place lines)) l) (sym same.1) n.behind);
     }
 
--- the outcomes of two sections that are printed can be joined
+-- The outcomes of two printed sections can be added up.
 pub sections-joined : {E : Type 0} (before : History) (near far : ℕ) (front back : List Record)
     (old new empty later : List ℕ) (queries : Result (Outcome × Outcome) E)
     → length front + length back + 1 < 2 ^ 64

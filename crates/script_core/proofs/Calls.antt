@@ -1,4 +1,5 @@
--- A script's store has calls enough: its bytes are few, and each record takes some. Its history is legal.
+-- A script's store has enough calls, because a script is short and each record takes some of its bytes. The history is
+-- legal.
 use Rattle.std.proofs.Common.{ℕ, ◌*◌, ◌≤◌, List, [], ◌∷◌, Bool, true, false, cond, length, arith}
 use Rattle.csv.specs.Reading.{default_config, is_bom, strip_bom}
 use Rattle.csv.specs.declared.parser.State.TheVariants as st
@@ -10,7 +11,7 @@ use Rattle.stream_core.specs.Faults.{script_limit}
 use Rattle.script_core.specs.Ledgers.{ledger_history}
 use Rattle.script_core.specs.declared.ledger.Ledger.{Ledger}
 
--- no more is left of a text without its mark
+-- A text without its byte order mark isn't longer.
 strip-less : (text : List ℕ) → length (strip_bom text) ≤ length text
 unfolding strip_bom
 strip-less [] = omega arith
@@ -22,7 +23,7 @@ strip-less (a ∷ b ∷ c ∷ rest) = by (is_bom a b c)
     by true = omega arith
     by false = omega arith
 
--- two for each record
+-- There are two calls for each record.
 pub calls-enough : (script : List ℕ) (records : List Record) → AreScriptRecords script records
     → length script ≤ script_limit → 2 * length records ≤ call_limit
 calls-enough script records (t, left, reached, none) within =
@@ -30,6 +31,6 @@ calls-enough script records (t, left, reached, none) within =
     records-few default_config records st.StartRecord t (strip_bom script) left reached in
     omega (arith, few, strip-less script, within)
 
--- all that its pass has seen was accepted
+-- Every change that the pass has seen was accepted.
 pub ledger-legal : (ledger : Ledger) → IsLegal (ledger_history ledger)
 ledger-legal ledger = ledger.pass.legal

@@ -1,4 +1,4 @@
--- A change that is not made is refused by name, or memory is.
+-- A change that isn't made is refused by name, or memory is.
 use Rattle.std.proofs.Common.{ℕ, Option, Result, ap}
 use Rattle.std.specs.Prelude.{option_map}
 use Rattle.row_core.specs.Refusals.{refused_or}
@@ -13,12 +13,12 @@ use Rattle.command_core.specs.declared.refusal.Fault.{Fault}
 use Rattle.script_core.specs.Failure.{IsFailureOf, failure_at}
 use Rattle.script_core.specs.Refusal.{book_refusal}
 
--- what is answered a change that these refuse, or nothing
+-- The history after a change, or the change's refusal.
 abbrev meant_by : ℕ → History → Option BookRefused → Result History Fault
 meant_by number next refusal =
     refused_or (option_map (λ refused. fault number (book_refusal refused)) refusal) next
 
--- whatever refuses a change, its failure is the one that is meant
+-- Whatever refuses a change, the failure is the one that is meant.
 pub change-failure : (number : ℕ) (h : History) (change : Change) (why : row.Failure BookRefused) (next : History)
     → RefusesCommit h change why
     → IsFailureOf (meant_by number next (refusal_after h change)) (failure_at number book_refusal why)

@@ -1,4 +1,4 @@
--- The commands that were done when a run stops are the first of all commands of its script.
+-- The statements that were executed when a run stops are the first ones of its script.
 use Rattle.std.proofs.Common.{◌≡◌, ℕ, ◌<◌, List, [], ◌∷◌, ◌++◌, length, take, refl, sym, ap, ◌∙◌, subst, arith}
 use Rattle.std.specs.Io.KnownBytes.{Appends}
 use Rattle.book_core.specs.History.{IsLegal}
@@ -9,7 +9,7 @@ use Rattle.script_core.specs.Writing.{Answering}
 use Rattle.script_core.proofs.OutputExistence.{rest_done}
 use Rattle.script_core.proofs.OutputUniqueness.{no_step, one_step}
 
--- these commands follow the first ones, to the place behind all of them
+-- The statements `rest` follow the statements `first`, up to the last position.
 abbrev pub Follow : List Done → List Done → Place → Place → List Done → Type 0
 Follow all first mid last rest = (all ≡ first ++ rest) × Steps mid rest last
 
@@ -23,7 +23,7 @@ first_follow old mid last (c ∷ cs) (d ∷ ds) (next, step, more) (next', step'
     let (rest, (is, steps)) = first_follow next' mid last cs ds (subst (λ z. Steps z cs mid) first.1 more) more' over in
     (rest, (ap (λ l. l ∷ ds) (sym first.0) ∙ ap (λ l. c ∷ l) is, steps))
 
--- where records are left there is a next command
+-- If records are left, there is a next statement.
 some_next : (place last : Place) (rest : List Done) → 0 < length place.left → Steps place rest last → last.left ≡ []
     → (next : Done) × (later : List Done) × (rest ≡ next ∷ later)
 some_next place last [] more same over =
@@ -31,7 +31,7 @@ some_next place last [] more same over =
     absurd (omega arith)
 some_next place last (d ∷ ds) more steps over = (d, ds, refl)
 
--- the command that is done at a place is the next one
+-- The statement that is executed at a position is the next one.
 next_is_first : (place last after : Place) (next : Done) (rest : List Done) → Step place next after
     → Steps place rest last → last.left ≡ [] → (later : List Done) × (rest ≡ next ∷ later)
 next_is_first place last after next [] step same over =
@@ -39,7 +39,7 @@ next_is_first place last after next [] step same over =
 next_is_first place last after next (d ∷ ds) step (mid, step', more) over =
     (ds, ap (λ l. l ∷ ds) (sym (one_step place next d after mid step step').0))
 
--- the answers to some first commands were written, and there are more
+-- The answers to the first statements were written, and statements are left.
 pub writes_before : (start : Place) (before after : Sink) (first : List Done) (place : Place)
     → IsLegal start.history → Steps start first place → 0 < length place.left
     → Appends before.written after.written (output_of first) → Answering WritesBefore start before after
@@ -58,7 +58,7 @@ writes_before start before after first place legal steps more written =
       },
     )
 
--- those were written, and a front of the next command's answer
+-- The same, with a prefix of the next statement's answer.
 pub writes_within : (start : Place) (before after : Sink) (first : List Done) (next : Done) (place mid : Place)
     (size : ℕ) → IsLegal start.history → Steps start first place → Step place next mid
     → size < length (bytes_of next.answer)

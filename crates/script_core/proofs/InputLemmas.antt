@@ -1,4 +1,4 @@
--- A script that is read some bytes at a time.
+-- Reading a script some bytes at a time.
 use Rattle.std.proofs.Common.{◌≡◌, ℕ, ◌+◌, ◌-◌, ◌≤◌, ◌∙◌, List, [], ◌++◌, Option, ap, append_assoc, arith, drop, length, length-append, length-take, refl, subst, sym, take, take-append-drop}
 use Rattle.std.specs.Io.KnownBytes.{Consumes, IsAtEnd}
 use Rattle.std.proofs.KnownBytes.{Consumes-nil, Consumes-trans}
@@ -11,17 +11,17 @@ use Rattle.stream_core.specs.declared.fault.RunFault.{RunFault}
 use Rattle.stream_core.specs.declared.fault.RunFault.TheVariants.{ReadFault, TooLong, NoMemory, WriteFault}
 use Rattle.script_core.specs.Script.{ReadsScript}
 
--- what was read of a script: a front of it with these records, and the text behind it, which may have so many bytes
+-- The bytes read so far: a prefix with these records, then `text`, which may have up to `limit` bytes.
 abbrev pub IsReadTo : Option (List ℕ) → Option (List ℕ) → List Record → List ℕ → ℕ → Type 0
 IsReadTo unread left records text limit =
     (front : List ℕ) × Consumes unread left (front ++ text) × AreOfFront front records text
     × (length front + limit ≡ script_limit)
 
--- nothing yet
+-- Nothing was read yet.
 pub read-none : (unread : Option (List ℕ)) → IsReadTo unread unread [] [] script_limit
 read-none unread = ([], Consumes-nil unread, front-none [], refl)
 
--- more bytes
+-- More bytes are read.
 pub read-longer : (unread mid left : Option (List ℕ)) (records : List Record) (text longer : List ℕ) (limit : ℕ)
     → IsReadTo unread mid records text limit → HasReadOn mid left text longer
     → IsReadTo unread left records longer limit
@@ -34,7 +34,7 @@ read-longer unread mid left records text longer limit (front, read, of, size) (b
   size,
 )
 
--- more records
+-- More records are read.
 pub read-front : (unread left : Option (List ℕ)) (records more : List Record) (text : List ℕ) (limit taken : ℕ)
     → IsReadTo unread left records text limit → length text ≤ limit → taken ≤ length text
     → ((front : List ℕ) → AreOfFront front records text → AreOfFront (front ++ take taken text) more (drop taken text))
@@ -49,7 +49,7 @@ read-front unread left records more text limit taken (front, read, of, size) wit
   omega (arith, size, within, few, length-append front (take taken text), length-take taken text),
 )
 
--- all of them
+-- All records are read.
 pub read-all : (before after : Source) (records all : List Record) (text : List ℕ) (limit : ℕ)
     → IsReadTo before.unread after.unread records text limit → length text ≤ limit → IsAtEnd after.unread
     → ((front : List ℕ) → AreOfFront front records text → AreScriptRecords (front ++ text) all)
@@ -60,7 +60,7 @@ read-all before after records all text limit (front, read, of, size) within end 
   rest front of,
 )
 
--- why reading stopped
+-- Why reading stopped.
 pub read-stopped : (before mid after : Source) (records : List Record) (text : List ℕ) (limit : ℕ) (fault : RunFault)
     → IsReadTo before.unread mid.unread records text limit → before.failures ≤ mid.failures
     → ExplainsReadingOn text limit mid after fault → ExplainsReading before after fault

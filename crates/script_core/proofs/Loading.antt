@@ -1,4 +1,4 @@
--- Records that are read one after another, each alone.
+-- Records that are read in order, each by itself.
 use Rattle.std.proofs.Common.{◌≡◌, ℕ, ◌+◌, List, [], ◌∷◌, ◌++◌, drop, Some, Result, Ok, Err, sym, ap, ◌∙◌, arith, append_assoc}
 use Rattle.std.specs.List.{slice_get}
 use Rattle.row_core.specs.Refusals.{and_then, map_err, map_ok}
@@ -11,28 +11,28 @@ use Rattle.command_core.specs.declared.refusal.Fault.{Fault}
 use Rattle.command_core.specs.declared.refusal.Refusal.{Refusal}
 use Rattle.command_core.proofs.Cutting.{drop-slice_get}
 
--- what was read, and what the rest gives
+-- The values already read, followed by the result for the rest.
 abbrev pub behind : {T E : Type 0} → List T → Result (List T) E → Result (List T) E
 behind had (Ok more) = Ok (had ++ more)
 behind had (Err wrong) = Err wrong
 
--- what one gives before what the others do
+-- The result for one record, followed by the result for the others.
 abbrev then_others : {T E : Type 0} → Result T E → Result (List T) E → Result (List T) E
 then_others first others = and_then first (λ x. map_ok (λ more. x ∷ more) others)
 
--- one more was read
+-- One more value was read.
 pub behind-next : {T E : Type 0} (had : List T) (first : Result T E) (x : T) (others : Result (List T) E)
     → first ≡ Ok x → behind had (then_others first others) ≡ behind (had ++ x ∷ []) others
 behind-next had first x (Ok more) good =
     ap (λ r. behind had (then_others r (Ok more))) good ∙ ap Ok (sym (append_assoc had (x ∷ []) more))
 behind-next had first x (Err wrong) good = ap (λ r. behind had (then_others r (Err wrong))) good
 
--- the next is refused
+-- The next record is refused.
 pub behind-refused : {T E : Type 0} (had : List T) (first : Result T E) (wrong : E) (others : Result (List T) E)
     → first ≡ Err wrong → behind had (then_others first others) ≡ Err wrong
 behind-refused had first wrong others bad = ap (λ r. behind had (then_others r others)) bad
 
--- what one record gives, or its fault
+-- The value of one record, or its fault.
 abbrev one_or_fault : {T : Type 0} → ℕ → Result T Refusal → Result T Fault
 one_or_fault number read = map_err (fault number) read
 
@@ -45,7 +45,7 @@ next_record read number place lines line e =
     ap (all_or_fault read (number + place)) (drop-slice_get lines place line e)
     ∙ ap (λ n. then_others (one_or_fault (number + place) (read line)) (all_or_fault read n (drop (place + 1) lines))) next
 
--- one more record was read
+-- One more record was read.
 pub behind-more : {T : Type 0} (read : Record → Result T Refusal) (number place : ℕ) (lines : List Record)
     (line : Record) (had : List T) (first : T) → slice_get lines place ≡ Some line → read line ≡ Ok first
     → behind had (all_or_fault read (number + place) (drop place lines)) ≡ behind (had ++ first ∷ [])
@@ -63,7 +63,7 @@ behind-wrong read number place lines line had refusal e bad =
     ∙ behind-refused had (one_or_fault (number + place) (read line)) (fault (number + place) refusal)
     (all_or_fault read (number + (place + 1)) (drop (place + 1) lines)) (ap (one_or_fault (number + place)) bad)
 
--- a record is refused
+-- A record is refused.
 pub behind-failed : {T : Type 0} (read : Record → Result T Refusal) (number place : ℕ) (lines : List Record)
     (line : Record) (had : List T) (meant : Result (List T) Fault) (failure : Failure)
     → slice_get lines place ≡ Some line

@@ -1,4 +1,4 @@
--- All statements of some records can be done.
+-- All statements of some records can be executed.
 use Rattle.std.proofs.Common.{◌≡◌, ℕ, false, zero, suc, ◌+◌, ◌<◌, ◌≤◌, List, [], ◌∷◌, ◌++◌, length, refl, sym, ap, ◌∙◌, subst, arith, inl, inr, length-append}
 use Rattle.std.proofs.lemmas.Bool.{cases_lt}
 use Rattle.std.proofs.lemmas.List.{nil_from_length}
@@ -19,7 +19,7 @@ use Rattle.script_core.proofs.TogetherExistence.{some_block}
 
 -- ---- one statement
 
--- the answer to a statement, and the legal history after it
+-- The answer to a statement, and the legal history after it.
 record Outcome (before : History) (number : ℕ) (statement : Statement) : Type 0 where
   answer : List Record
   after : History
@@ -36,7 +36,7 @@ one_outcome before number meaning legal =
       legal = reply.legal;
     }
 
--- a block is answered, where its opening record has the right form, or refused
+-- A block is answered if its first record has the right form, otherwise refused.
 block_outcome : (before : History) (number : ℕ) (opening : Record) (body : List Record) (members : List Member)
     → IsLegal before → AreMembers (number + 1) body members
     → Outcome before number (stated number (opened_together opening (placed_in false members)))
@@ -67,7 +67,7 @@ some_answer before number statement legal own later states =
 
 -- ---- all statements
 
--- all statements from a place on
+-- All statements from a position on.
 record Rest (place : Place) : Type 0 where
   dones : List Done
   last : Place
@@ -117,7 +117,7 @@ some_rest (suc n) place legal few = elim (cases_lt 0 (length place.left)) [
 none_is_legal : IsLegal []
 none_is_legal n c e = cc e
 
--- all statements from a place on, after a legal history
+-- All statements from a position on, after a legal history.
 pub rest_done : (start : Place) → IsLegal start.history → (dones : List Done) × AreRest start dones
 rest_done start legal =
     let rest : Rest start = some_rest (length start.left) start legal (omega arith) in

@@ -1,4 +1,4 @@
--- A script has one output.
+-- A script has only one output.
 use Rattle.std.proofs.Common.{◌≡◌, ℕ, ◌+◌, List, [], ◌∷◌, ◌++◌, length, refl, sym, ap, ◌∙◌, subst, inl, inr}
 use Rattle.command_core.specs.Records.{AreScriptRecords, Record}
 use Rattle.command_core.specs.Statement.{States, Statement}
@@ -32,7 +32,7 @@ one_step old one other p q s t =
           ∙ (ap (λ n. place_of q.history n p.left) number ∙ ap (λ l. place_of q.history q.number l) meant.1),
     )
 
--- a statement takes a record
+-- A statement takes at least one record.
 pub takes_one : (number : ℕ) (own later : List Record) (statement : Statement) → States number own later statement
     → (first : Record) × (rest : List Record) × (own ≡ first ∷ rest)
 takes_one number own later statement (inl o) = (o.opening, o.behind, o.whole)
@@ -42,7 +42,7 @@ takes_one number own later statement (inr (inr u)) = (u.opening, u.body ++ u.res
 none_more : (first : Record) (own left : List Record) → [] ≡ (first ∷ own) ++ left → ⊥
 none_more first own left e = cc e
 
--- where no records are left there is no statement
+-- Without records there is no further statement.
 pub no_step : (old : Place) (done : Done) (new : Place) → old.left ≡ [] → Step old done new → ⊥
 no_step old done new over s =
     let (first, rest, is) = takes_one old.number s.own new.left done.statement s.states in
@@ -68,7 +68,7 @@ one_run records one other f g = one_way (start_of records) one other f.place g.p
 
 -- ---- the output
 
--- a script has one list of statements and answers
+-- A script has only one list of statements and answers.
 pub one_list_of_dones : (script read : List ℕ) (one other : List Done) → script ≡ read
     → AreStatementsOf script one → AreStatementsOf read other → one ≡ other
 one_list_of_dones script read one other same p q =

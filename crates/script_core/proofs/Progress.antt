@@ -1,4 +1,4 @@
--- What a run has done of its script so far.
+-- The part of its script that a run has executed.
 use Rattle.std.proofs.Common.{◌≡◌, ℕ, suc, Bool, false, ◌||◌, inl, inr, ◌+◌, ◌<◌, ◌≤◌, List, [], ◌∷◌, ◌++◌, Option, length, take, drop, refl, sym, ap, subst, ◌∙◌, arith}
 use Rattle.std.specs.Io.KnownBytes.{Appends}
 use Rattle.std.proofs.lemmas.List.Concat.{flat_map-append}
@@ -20,7 +20,7 @@ use Rattle.stream_core.specs.declared.fault.RunFault.{RunFault}
 use Rattle.stream_core.specs.declared.fault.RunFault.TheVariants.{ReadFault, TooLong, NoMemory, WriteFault}
 use Rattle.script_core.specs.declared.outcome.Outcome.{Outcome}
 
--- there are no more members than records
+-- There are at most as many members as records.
 members-few : (number : ℕ) (records : List Record) (members : List Member) → AreMembers number records members
     → length members ≤ length records
 members-few number records [] are = omega arith
@@ -45,7 +45,7 @@ block-few number (word ∷ []) body members are =
     omega (arith, placed-length false members, members-few (number + 1) body members are)
 block-few number (word ∷ field ∷ fields) body members are = omega arith
 
--- a statement has no more commands than records
+-- A statement has at most as many commands as records.
 pub commands-few : (number : ℕ) (own later : List Record) (statement : Statement) → States number own later statement
     → commands_in statement ≤ length own
 commands-few number own later statement (inl o) = omega (arith, ap commands_in o.states, ap length o.whole)
@@ -59,11 +59,11 @@ commands-few number own later statement (inr (inl t)) =
     )
 commands-few number own later statement (inr (inr u)) = omega (arith, ap commands_in u.states, ap length u.whole)
 
--- the place before the record of this index, of those that are left at a place
+-- The position before record `at` of the records that are left at `start`.
 abbrev place_at : Place → History → ℕ → Place
 place_at start history at = record { history = history; number = start.number + at; left = drop at start.left }
 
--- the statements before the record of this index are done, their answers written, and this is their outcome
+-- The statements before record `at` were executed, their answers were written, and this is their outcome.
 pub record Progress (start : Place) (old now : Option (List ℕ)) (history : History) (at : ℕ)
     (outcome : Outcome) : Type 0 where
   pub dones : List Done
@@ -71,7 +71,7 @@ pub record Progress (start : Place) (old now : Option (List ℕ)) (history : His
   pub written : Appends old now (output_of dones)
   pub tells : Tells outcome dones
 
--- one more step at the end
+-- One more step at the end.
 steps-more : (p q r : Place) (dones : List Done) (next : Done) → Steps p dones q → Step q next r
     → Steps p (dones ++ next ∷ []) r
 steps-more p q r [] next e step = (r, subst (λ z. Step z next r) (sym e) step, refl)
@@ -83,7 +83,7 @@ output-more dones next =
     flat_map-append (λ (done : Done). bytes_of done.answer) dones (next ∷ [])
     ∙ ap (λ bytes. output_of dones ++ bytes) (append-nil (bytes_of next.answer))
 
--- the statement at a place, by what it takes and how it is answered
+-- The statement at a position, by its records and its answer.
 step-at : (start : Place) (before after : History) (at taken : ℕ) (statement : Statement)
     (answer : List Record) → taken ≤ length (drop at start.left)
     → States (start.number + at) (take taken (drop at start.left)) (drop taken (drop at start.left)) statement
@@ -100,7 +100,7 @@ step-at start before after at taken statement answer within states answers =
       answers = answers;
     }
 
--- nothing is done yet
+-- Nothing was executed yet.
 pub progress-none : (start : Place) (written : Option (List ℕ)) (outcome : Outcome) → outcome.commands ≡ 0
     → outcome.errors ≡ 0 → Progress start written written start.history 0 outcome
 progress-none start written outcome no_commands no_errors = record {
@@ -110,7 +110,7 @@ progress-none start written outcome no_commands no_errors = record {
   tells = record { commands = no_commands; errors = no_errors };
 }
 
--- all is done
+-- Everything was executed.
 pub progress-over : (start : Place) (before now : Sink) (history : History) (at : ℕ) (outcome : Outcome)
     → length start.left ≤ at → at ≤ length start.left
     → Progress start before.written now.written history at outcome
@@ -122,7 +122,7 @@ progress-over start before now history at outcome all within p =
     ∙ ap (λ n. record { history = history; number = start.number + n; left = [] }) (omega arith) in
     (p.dones, subst (λ place. Steps start p.dones place) here p.steps, record { written = p.written; tells = p.tells })
 
--- one more statement is done
+-- One more statement was executed.
 pub progress-more : (start : Place) (old mid new : Option (List ℕ)) (before after : History) (at taken : ℕ)
     (sofar outcome : Outcome) (statement : Statement) (answer : List Record)
     → Progress start old mid before at sofar → taken ≤ length (drop at start.left)
@@ -152,7 +152,7 @@ progress-more start old mid new before after at taken sofar outcome statement an
       };
     }
 
--- the answers to the statements before this index were written, and there are more
+-- The answers to the statements before record `at` were written, and statements are left.
 pub progress-begun : (start : Place) (before now : Sink) (history : History) (at : ℕ) (outcome : Outcome)
     → IsLegal start.history → at < length start.left → Progress start before.written now.written history at outcome
     → Answering WritesBefore start before now
@@ -160,7 +160,7 @@ progress-begun start before now history at outcome legal below p =
     writes_before start before now p.dones (place_at start history at) legal p.steps
     (omega (arith, length-drop at start.left)) p.written
 
--- why the writing of a statement's answer stopped
+-- Why writing a statement's answer stopped.
 pub progress-stopped : (start : Place) (old mid new : Sink) (before after : History) (at taken : ℕ)
     (sofar : Outcome) (statement : Statement) (answer : List Record) (fault : RunFault)
     → IsLegal start.history → Progress start old.written mid.written before at sofar

@@ -22,7 +22,7 @@ use Rattle.script_core.specs.Effects.{all_or_fault, each_or_fault}
 use Rattle.script_core.specs.Loads.{all_drafts}
 use Rattle.script_core.proofs.Loading.{behind}
 
--- the numbered items from a place on
+-- The numbered items from an index on.
 drop-enumerate_from : {X : Type 0} (k n : ℕ) (xs : List X)
     → drop k (enumerate_from n xs) ≡ enumerate_from (n + k) (drop k xs)
 drop-enumerate_from zero n xs =
@@ -32,14 +32,14 @@ drop-enumerate_from (suc k) n (x ∷ xs) =
     let same : n + 1 + k ≡ n + suc k = omega arith in
     drop-enumerate_from k (n + 1) xs ∙ ap (λ m. enumerate_from m (drop k xs)) same
 
--- the numbered items before a place
+-- The numbered items before an index.
 take-enumerate_from : {X : Type 0} (k n : ℕ) (xs : List X)
     → take k (enumerate_from n xs) ≡ enumerate_from n (take k xs)
 take-enumerate_from zero n xs = refl
 take-enumerate_from (suc k) n [] = refl
 take-enumerate_from (suc k) n (x ∷ xs) = ap (λ l. (n, x) ∷ l) (take-enumerate_from k (n + 1) xs)
 
--- what the records of a piece give, which lies between two places
+-- The values of the records of a range.
 pub reported-part : {T : Type 0} (read : Record → Result T Refusal) (places : Range ℕ) (number from to n : ℕ)
     (lines part : List Record) → n ≡ length lines → to ≡ min (unwrap_or places.before n) n
     → from ≡ min (unwrap_or places.from 0) to → part ≡ take (to - from) (drop from lines)
@@ -55,16 +55,16 @@ reported-part read places number from to n lines part size end start is =
     ∙ take-enumerate_from (to - from) (number + from) (drop from lines)
     ∙ ap (enumerate_from (number + from)) (sym is))
 
--- what was read before all else is what is read
+-- With no earlier values, the result is the rest's.
 pub behind-none : {T E : Type 0} (read : Result (List T) E) → behind [] read ≡ read
 behind-none (Ok more) = refl
 behind-none (Err wrong) = refl
 
--- what one part gives, and then the rest
+-- The result for one part, followed by the result for the rest.
 abbrev then_rest : {T E : Type 0} → Result (List T) E → Result (List T) E → Result (List T) E
 then_rest first rest = and_then first (λ had. behind had rest)
 
--- one value before those of two parts
+-- One value before the values of two parts.
 then_rest-first : {T E : Type 0} (x : Result T E) (first rest : Result (List T) E)
     → and_then x (λ v. map_ok (λ more. v ∷ more) (then_rest first rest))
     ≡ then_rest (and_then x (λ v. map_ok (λ more. v ∷ more) first)) rest
@@ -73,7 +73,7 @@ then_rest-first (Ok v) (Ok had) (Err wrong) = refl
 then_rest-first (Ok v) (Err wrong) rest = refl
 then_rest-first (Err wrong) first rest = refl
 
--- what two lists give, one behind another
+-- The result for two lists.
 read_each-append : {X T E : Type 0} (read : X → Result T E) (xs ys : List X)
     → read_each read (xs ++ ys) ≡ then_rest (read_each read xs) (read_each read ys)
 read_each-append read [] ys = sym (behind-none (read_each read ys))
@@ -81,7 +81,7 @@ read_each-append read (x ∷ xs) ys =
     ap (λ r. and_then (read x) (λ v. map_ok (λ more. v ∷ more) r)) (read_each-append read xs ys)
     ∙ then_rest-first (read x) (read_each read xs) (read_each read ys)
 
--- the rows of one more range come before those of the others
+-- The rows of one more range at the beginning.
 pub all_drafts-more : (rows : List Draft) (ranges : List (Result (List Draft) Fault))
     → all_drafts (Ok rows ∷ ranges) ≡ behind rows (all_drafts ranges)
 all_drafts-more rows ranges = more (read_each (λ range. range) ranges)
@@ -92,18 +92,18 @@ all_drafts-more rows ranges = more (read_each (λ range. range) ranges)
     more (Ok others) = refl
     more (Err wrong) = refl
 
--- one range, and then the others
+-- One range, then the others.
 all_drafts-range : (range : Result (List Draft) Fault) (ranges : List (Result (List Draft) Fault))
     → all_drafts (range ∷ ranges) ≡ then_rest range (all_drafts ranges)
 all_drafts-range (Ok rows) ranges = all_drafts-more rows ranges
 all_drafts-range (Err wrong) ranges = refl
 
--- one range alone
+-- A single range.
 all_drafts-one : (range : Result (List Draft) Fault) → all_drafts (range ∷ []) ≡ range
 all_drafts-one (Ok rows) = ap Ok (append-nil rows)
 all_drafts-one (Err wrong) = refl
 
--- what the ranges of numbered records give, range by range, is what all of them give
+-- The results for all ranges add up to the result for all records.
 pub ranges-all : (read : Record → Result Draft Refusal) (numbered : List (ℕ × Record))
     (post : Range ℕ → ℕ → Result (Result (List Draft) Fault) AllocError → Type 0)
     (cuts : List (Cut ℕ)) (ranges : List (Result (List Draft) Fault))

@@ -1,4 +1,4 @@
--- One more row of a load, read behind others.
+-- One more row of a load.
 use Rattle.std.proofs.Common.{◌≡◌, ◌∙◌, ◌≤◌, ℕ, List, [], ◌∷◌, ◌++◌, Result, Ok, Err, true, ap, arith, drop, length, refl, sym}
 use Rattle.std.specs.Prelude.{codes}
 use Rattle.row_core.specs.Reading.{row_of}
@@ -14,23 +14,23 @@ use Rattle.script_core.specs.Effects.{loaded_row}
 use Rattle.script_core.specs.Failure.{IsRecordFailure, failure_at}
 use Rattle.script_core.specs.Refusal.{row_refusal}
 
--- those that were read, and one more
+-- The rows already read, and one more.
 abbrev with_row : RowsRead → Draft → RowsRead
 with_row before row = record before { rows = before.rows ++ row ∷ [] }
 
--- a record that begins with a word has a field
+-- A record that begins with a word has a field.
 pub begun : (word : List ℕ) (line : Record) → begins word line ≡ true → 1 ≤ length line
 begun word [] e = absurd (cc)
 begun word (first ∷ rest) e = omega arith
 
--- a record of a load that begins with its word is what its other fields give
+-- A load's record with the right word gives the row of its other fields.
 row_given : (before : RowsRead) (line fields : Record) (read : Result Draft RowRefused)
     → begins (codes "row") line ≡ true → fields ≡ drop 1 line → row_of before.columns fields ≡ read
     → loaded_row before.columns line ≡ map_err row_refusal read
 row_given before line fields read word behind is =
     rw word (ap (λ l. map_err row_refusal (row_of before.columns l)) (sym behind) ∙ ap (map_err row_refusal) is)
 
--- one more was read
+-- One more row was read.
 pub read-more : (before more : RowsRead) (line fields : Record) → begins (codes "row") line ≡ true
     → fields ≡ drop 1 line → map_ok (with_row before) (row_of before.columns fields) ≡ Ok more
     → (row : Draft) × (loaded_row before.columns line ≡ Ok row) × (more ≡ with_row before row)
@@ -42,7 +42,7 @@ read-more before more line fields word behind = found (row_of before.columns fie
     found (Ok row) is same = (row, row_given before line fields (Ok row) word behind is, cc)
     found (Err why) is same = absurd (cc)
 
--- it is refused, or memory is
+-- The row is refused, or memory is.
 pub read-failed : (number : ℕ) (before : RowsRead) (line fields : Record) (why : row.Failure RowRefused)
     → begins (codes "row") line ≡ true → fields ≡ drop 1 line
     → IsAnswer {T = RowsRead} (map_ok (with_row before) (row_of before.columns fields)) (Err why)

@@ -1,4 +1,4 @@
--- What a run writes of its script's output.
+-- The part of its script's output that a run writes.
 use Rattle.std.proofs.Common.{◌≡◌, ℕ, ◌<◌, List, [], ◌∷◌, ◌++◌, Option, Some, None, Result, length, take, drop, refl, sym, ap, ◌∙◌, subst, inl, inr, append_assoc, arith}
 use Rattle.std.specs.Prelude.{IfErr, IfOk}
 use Rattle.std.specs.Io.KnownBytes.{Appends, Consumes, Keeps}
@@ -21,7 +21,7 @@ use Rattle.script_core.proofs.OutputUniqueness.{one_list_of_dones, one_outcome}
 
 -- ---- the answers to the records that were read
 
--- the commands of the records are those of the script
+-- The statements of the records are those of the script.
 reads_and : (Writes : List Done → Sink → Sink → Type 0) (before after : Streams) (script : List ℕ)
     (records : List Record) → ReadsScript before.reader after.reader script → AreScriptRecords script records
     → Answering Writes (start_of records) before.writer after.writer → ReadsAnd Writes before after
@@ -67,7 +67,7 @@ fault-run before after script records result reads parsed room =
 
 -- ---- a script that the reader has
 
--- what was read is what the reader had
+-- The script that was read is the one that the reader had.
 whole_script : (script : List ℕ) (before after : Source) (read : List ℕ) → before.unread ≡ Some script
     → ReadsScript before after read → read ≡ script
 whole_script script before after read known reads =
@@ -75,7 +75,7 @@ whole_script script before after read known reads =
     subst (λ bytes. Consumes bytes after.unread read) known reads.read in
     sym (Consumes-whole (Some script) after.unread read (λ bytes. bytes ≡ read) consumed reads.end refl)
 
--- its output is what the commands that were read answer
+-- The script's output is the answers to the statements that were read.
 output_is : (script output : List ℕ) (before after : Source) (dones : List Done) → before.unread ≡ Some script
     → IsOutput script output → ReadsStatements before after dones → output ≡ output_of dones
 output_is script output before after dones known o r =
@@ -96,7 +96,7 @@ ok-written before after result runs script output known o =
     IfOk-weaker result (RunsAll before after) (λ _. Appends before.writer.written after.writer.written output)
     (λ outcome all. all-written before after outcome script output all known o) runs
 
--- ---- fronts of it
+-- ---- prefixes of the output
 
 front_at : (old new : Option (List ℕ)) (front rest bytes : List ℕ) → bytes ≡ front ++ rest → Appends old new front
     → AppendsFront old new bytes
@@ -106,7 +106,7 @@ front_at old new front rest bytes is written =
 kept-front : (old new : Option (List ℕ)) (bytes : List ℕ) → Keeps old new → AppendsFront old new bytes
 kept-front old new bytes kept = (0, Appends-kept old old new [] (Appends-nil old) kept)
 
--- answers about one of them
+-- The output, split at one answer.
 output_about : (dones first later : List Done) (next : Done) → dones ≡ first ++ next ∷ later
     → output_of dones ≡ output_of first ++ (bytes_of next.answer ++ output_of later)
 output_about dones first later next statements =

@@ -1,4 +1,4 @@
--- What a snapshot gives, as a script shows it.
+-- What a snapshot returns, as a script shows it.
 use Rattle.std.proofs.Common.{◌≡◌, ℕ, ◌≤◌, List, [], ◌∷◌, Bool, true, false, Some, length, refl}
 use Rattle.std.specs.Prelude.{is_none, nat_lt}
 use Rattle.std.proofs.lemmas.Bool.{le-ltb}
@@ -11,7 +11,7 @@ use Rattle.command_core.specs.Refusal.{fault}
 use Rattle.script_core.specs.Effects.{rows_or_fault}
 use Rattle.script_core.specs.Refusal.{rows_refusal, table_refusal}
 
--- where no commit is missing, only a table may be
+-- If the commit exists, only the table may be missing.
 present : {T : Type 0} (number : ℕ) (late gone : Bool) (rows : T) → late ≡ false
     → map_err (λ refused. fault number (rows_refusal refused))
     (refused_or (first_of ((late, no_rows.Future) ∷ (gone, no_rows.NoTable) ∷ [])) rows)
@@ -19,7 +19,7 @@ present : {T : Type 0} (number : ℕ) (late gone : Bool) (rows : T) → late ≡
 present number late true rows e = rw e refl
 present number late false rows e = rw e refl
 
--- the rows that a snapshot gives are those of the commit that it shows
+-- The rows that a snapshot returns are those of the commit that it shows.
 pub rows-reported : (number : ℕ) (h : History) (n : ℕ) (name : List ℕ) → n ≤ length h
     → rows_or_fault number h (Some n) name
     ≡ map_err (λ refused. fault number (table_refusal refused)) (rows_of_snapshot h n name)

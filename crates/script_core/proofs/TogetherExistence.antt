@@ -20,7 +20,7 @@ use Rattle.script_core.proofs.TogetherUniqueness.{HaveNoLoad}
 
 -- ---- queries
 
--- what is allowed behind a load is none
+-- A command that is allowed after a load isn't a load.
 pub reads-allowed : (meaning : Meaning) → is_allowed true meaning ≡ true → is_load meaning ≡ false
 reads-allowed (Refuse wrong) allowed = refl
 reads-allowed (Make name columns) allowed = refl
@@ -38,7 +38,7 @@ reads-allowed (Agg asked asof) allowed = refl
 reads-allowed (Check name parts instant asof body) allowed = refl
 reads-allowed Log allowed = refl
 
--- what is allowed before a load, and is none, is allowed behind one
+-- A command that is allowed before a load and isn't one is allowed after it.
 allowed-behind : (meaning : Meaning) → is_allowed false meaning ≡ true → is_load meaning ≡ false
     → is_allowed true meaning ≡ true
 allowed-behind (Refuse wrong) allowed reads = refl
@@ -62,7 +62,7 @@ query-keeps : {S : Type 0} (before : History) (read : Result S Fault) (Is : S �
 query-keeps before (Ok s) Is given after (is, kept) = kept
 query-keeps before (Err wrong) Is given after (is, kept) = kept
 
--- a query changes nothing
+-- A query changes nothing.
 keeps : (before : History) (number : ℕ) (meaning : Meaning) (given : Answer) (after : History)
     → is_allowed true meaning ≡ true → IsAnswerTo before number meaning given after → after ≡ before
 keeps before number (Refuse wrong) given after allowed is = is.1
@@ -82,7 +82,7 @@ keeps before number (Check name parts instant asof body) given after allowed is 
     query-keeps before _ _ given after is
 keeps before number Log given after allowed is = cc allowed
 
--- the answer to a query of a block, whatever its load leads to
+-- The answer to a query of a block, whatever history the block's load leads to.
 some_query : (before after : History) (number : ℕ) (meaning : Meaning) → IsLegal before
     → is_allowed true meaning ≡ true
     → (answer : List Record) × AnswersOne before number meaning answer (cond (is_load meaning) after before)
@@ -99,7 +99,7 @@ some_query before after number meaning legal allowed =
 
 -- ---- the commands of a block
 
--- what a command means in a block is allowed there
+-- What a command means in a block is allowed there.
 is_allowed-inside : (has_load : Bool) (own : List Record) (member : Member) → IsMember own member
     → is_allowed has_load (meaning_inside has_load member) ≡ true
 is_allowed-inside has_load own member is = by (is_barred has_load member.opening) refl
@@ -111,7 +111,7 @@ is_allowed-inside has_load own member is = by (is_barred has_load member.opening
         means-allowed has_load member.number member.opening is.behind own [] member.alone
         (sym (append-nil own ∙ is.whole)) free (closed-means member.number own [] member.alone is.means)
 
--- a load before it changes nothing of what a command means that is none
+-- A load before a command that isn't a load doesn't change whether it is allowed.
 barred-same : (opening : Record) → begins (codes "load") opening ≡ false
     → is_barred true opening ≡ is_barred false opening
 barred-same opening none =
@@ -124,7 +124,7 @@ allowed-unloaded own member is none =
     subst (λ barred. is_allowed true (cond barred (refuse member.number NotInBlock) member.alone) ≡ true)
     (barred-same member.opening none) (is_allowed-inside true own member is)
 
--- behind a load all commands are queries
+-- After a load, all commands are queries or refused.
 some_queries : (before after : History) (number : ℕ) (records : List Record) (members : List Member) → IsLegal before
     → AreMembers number records members
     → (answers : List Record) × AnswersEach before after (placed_in true members) answers
@@ -135,7 +135,7 @@ some_queries before after number records (member ∷ more) legal (own, later, sp
     let (answers, each) = some_queries before after (number + length own) later more legal behind in
     (answer ++ answers, (answer, answers, refl, answered, each))
 
--- the answers to the commands of a block, and the legal history that its load leads to
+-- The answers to the commands of a block, and the legal history that its load leads to.
 record Replies (before : History) (commands : List Placed) : Type 0 where
   after : History
   answers : List Record
@@ -146,7 +146,7 @@ record Replies (before : History) (commands : List Placed) : Type 0 where
 abbrev placed : Bool → Member → Placed
 placed has_load member = record { number = member.number; meaning = meaning_inside has_load member }
 
--- what the first load of a block leads to
+-- The answer to a block's first load, and the history after it.
 load_reply : (before : History) (number : ℕ) (meaning : Meaning) → IsLegal before → is_allowed false meaning ≡ true
     → (answer : List Record) × (after : History)
     × AnswersOne before number meaning answer (cond (is_load meaning) after before)

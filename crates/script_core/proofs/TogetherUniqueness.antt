@@ -1,4 +1,4 @@
--- A statement has one answer.
+-- A statement has only one answer.
 use Rattle.std.proofs.Common.{◌≡◌, ◌⊎◌, ℕ, length, Bool, true, false, cond, List, [], ◌∷◌, ◌++◌, sym, ap, ◌∙◌, inl, inr}
 use Rattle.std.specs.Prelude.{All}
 use Rattle.std.proofs.lemmas.Bool.{cases_Bool}
@@ -10,16 +10,16 @@ use Rattle.answer_core.specs.PrintedRecords.{together_record}
 use Rattle.script_core.specs.Answer.{Answers, AnswersEach, AnswersTogether}
 use Rattle.script_core.proofs.AnswerUniqueness.{one_answer}
 
--- none of these commands is a load
+-- None of these commands is a load.
 abbrev pub HaveNoLoad : List Placed → Type 0
 HaveNoLoad commands = All (λ command. is_load command.meaning ≡ false) commands
 
--- what follows a load is what it leads to
+-- A load determines the history after it.
 load_same : (loads : Bool) (before f g : History) → loads ≡ true → cond loads f before ≡ cond loads g before → f ≡ g
 load_same true before f g is same = same
 load_same false before f g is same = cc is
 
--- two histories behind a block's commands are the same, but where none of these is a load
+-- Two histories after a block's commands are equal, unless none of the commands is a load.
 same_after : (before f g : History) (commands : List Placed) (a b : List Record) → AnswersEach before f commands a
     → AnswersEach before g commands b → HaveNoLoad commands ⊎ (f ≡ g)
 same_after before f g [] a b each other = inl (All-nil (λ (command : Placed). is_load command.meaning ≡ false))

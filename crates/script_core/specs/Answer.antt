@@ -28,59 +28,60 @@ use Rattle.answer_core.specs.declared.answer.Answer.{Answer}
 use Rattle.answer_core.specs.declared.answer.Answer.TheVariants as answer
 use Rattle.script_core.specs.Effects.{TableRows, aggregated_or_fault, claim_of, delete_in, load_in, make_in, rows_or_fault, sides_or_fault, update_in, versions_or_fault}
 
--- the answer is the dip of the items
+-- The answer is the dip of the items.
 pub record IsDipOf (items : List Item) (given : Answer) : Type 0 where
   pub parts : List (List Item)
   pub dip : IsDip items parts
   pub is : given ≡ answer.Division (length items) parts
 
--- the answer is the join of two tables' rows that are equal in each pair of columns
+-- The answer is the join of two tables' rows that are equal in each pair of columns.
 pub record IsJoinOf (left right : TableRows) (on : List NamePair) (given : Answer) : Type 0 where
   pub rows : List JoinRow
   pub joined : IsJoin (MatchesOn left.0 right.0 on) left.1 right.1 rows
   pub is : given ≡ answer.Join (record { left = left.1; right = right.1; rows = rows })
 
--- the answer is the anti-join of two tables' rows: when those of the left table hold, and no right row does that is
--- equal to them in each pair of columns
+-- The answer is the anti-join of two tables' rows: the left rows, with the periods in which no right row holds that is
+-- equal in each pair of columns.
 pub record IsAntiOf (left right : TableRows) (on : List NamePair) (given : Answer) : Type 0 where
   pub rows : List AntiRow
   pub unmatched : IsAnti (MatchesOn left.0 right.0 on) left.1 right.1 rows
   pub is : given ≡ answer.Anti (record { left = left.1; rows = rows })
 
--- the answer is what the rows of a table come to, group by group
+-- The answer is the aggregate of each group of a table's rows.
 pub record IsAggOf (table : TableRows) (asked : Aggregate) (given : Answer) : Type 0 where
   pub rows : List AggRow
   pub aggregated : IsAgg table.0 asked.func asked.by table.1 rows
   pub is : given ≡ answer.Agg rows
 
--- the answer is the versions that are asked for
+-- The answer is the versions that the query asks for.
 pub record IsVersions (Are : List Version → Type 0) (given : Answer) : Type 0 where
   pub versions : List Version
   pub asked : Are versions
   pub is : given ≡ answer.Versions versions
 
--- the answer is the verdict on a claimed division of the items
+-- The answer is the verdict on a claimed division of the items.
 pub record IsVerdictOn (items : List Item) (claim : List (List ℕ)) (certificate : Certificate)
     (given : Answer) : Type 0 where
   pub verdict : Verdict
   pub applies : IsVerdict items claim certificate verdict
   pub is : given ≡ answer.Verdict verdict
 
--- the command is refused, and changes nothing
+-- The command is refused, and changes nothing.
 abbrev pub Refuses : History → Fault → Answer → History → Type 0
 Refuses before wrong given after = (given ≡ answer.Refused wrong) × (after ≡ before)
 
--- a change is answered by the number of its commit, or refused
+-- The answer to a change is the number of its commit, or its refusal.
 abbrev pub AnswersChange : History → Result History Fault → Answer → History → Type 0
 AnswersChange before (Ok next) given after = (given ≡ answer.Committed (length next)) × (after ≡ next)
 AnswersChange before (Err wrong) given after = Refuses before wrong given after
 
--- a query is answered by what it asks of what it reads, where it may, and changes nothing
+-- The answer to a query is the result for the rows that it reads, or its refusal. A query changes nothing.
 abbrev pub AnswersQuery : {S : Type 0} → History → Result S Fault → (S → Answer → Type 0) → Answer → History → Type 0
 AnswersQuery before (Ok read) Is given after = Is read given × (after ≡ before)
 AnswersQuery before (Err wrong) Is given after = Refuses before wrong given after
 
--- what a command, whose first record has this number, is answered after a history, and the history after it
+-- The answer to a command after a history, and the history after the command. `number` is the number of its first
+-- record.
 abbrev pub IsAnswerTo : History → ℕ → Meaning → Answer → History → Type 0
 IsAnswerTo before number (Refuse wrong) = Refuses before wrong
 IsAnswerTo before number (Make name columns) = AnswersChange before (make_in number before name columns)
@@ -111,13 +112,13 @@ IsAnswerTo before number (Check name parts instant asof body) =
     (λ read. IsVerdictOn (items_of read.0) read.1 (record { parts = parts; instant = instant }))
 IsAnswerTo before number Log = λ given after. (given ≡ answer.Log (log_of before)) × (after ≡ before)
 
--- these records answer it
+-- These records are the command's answer.
 abbrev pub AnswersOne : History → ℕ → Meaning → List Record → History → Type 0
 AnswersOne before number meaning records after =
     (given : Answer) × IsAnswerTo before number meaning given after × IsPrintedAs given records
 
--- these records answer the commands of a block, one after another, each after the history at the block's opening; a
--- load leads to the history behind the block
+-- These records answer the commands of a block, in order, each after the history at the block's beginning. Only a load
+-- leads to the history after the block.
 abbrev pub AnswersEach : History → History → List Placed → List Record → Type 0
 AnswersEach before after [] records = records ≡ []
 AnswersEach before after (command ∷ more) records =
@@ -125,20 +126,21 @@ AnswersEach before after (command ∷ more) records =
     × AnswersOne before command.number command.meaning own (if is_load command.meaning then after else before)
     × AnswersEach before after more later
 
--- these records answer all commands of a block, and without a load the history behind it is the one before
+-- These records answer all commands of a block. Without a load, the block changes nothing.
 pub record AnswersBlock (before : History) (commands : List Placed) (answers : List Record) (after : History)
     : Type 0 where
   pub each : AnswersEach before after commands answers
   pub unloaded : All (λ command. is_load command.meaning ≡ false) commands → after ≡ before
 
--- a block is answered by the number of the commit that its queries read, and then by each of its commands
+-- The answer to a block is the number of the commit that its queries read, then the answers to its commands.
 pub record AnswersTogether (before : History) (commands : List Placed) (records : List Record) (after : History)
     : Type 0 where
   pub answers : List Record
   pub block : AnswersBlock before commands answers after
   pub printed : records ≡ together_record (length before) ∷ answers
 
--- what a statement, whose first record has this number, is answered after a history, and the history after it
+-- The answer to a statement after a history, and the history after the statement. `number` is the number of its first
+-- record.
 abbrev pub Answers : History → ℕ → Statement → List Record → History → Type 0
 Answers before number (One meaning) = AnswersOne before number meaning
 Answers before number (Together commands) = AnswersTogether before commands

@@ -1,4 +1,4 @@
--- What contracts read of a block of commands that is cut at its first load.
+-- A block of commands that is cut at its first load, as contracts see it.
 use Rattle.std.specs.Prelude.{◌+◌, ◌≡◌, ◌<◌, ◌^◌, List, ◌∷◌, ◌++◌, All, false, length, true}
 use Rattle.command_core.specs.Lines.{lines_in}
 use Rattle.command_core.specs.Meaning as meaning
@@ -8,12 +8,12 @@ use Rattle.script_core.specs.declared.together.BlockCut.{BlockCut}
 use Rattle.script_core.specs.declared.together.FirstLoad.{FirstLoad}
 use Rattle.script_core.specs.declared.together.FirstLoad.TheVariants.{Refused, Rows}
 
--- what a block's first load means
+-- The meaning of a block's first load.
 abbrev pub first_load_meaning : FirstLoad → Meaning
 first_load_meaning (Refused fault) = meaning.Refuse fault
 first_load_meaning (Rows table body) = meaning.Load table (lines_in body)
 
--- a block's members, cut at their first load: those of the front section, the load, and those of the back section
+-- The members of a block, cut at the first load: the front section's members, the load, the back section's members.
 pub record IsCutAt (cut : BlockCut) (members : List Member) : Type 0 where
   pub front : List Member
   pub load : Member
@@ -26,7 +26,7 @@ pub record IsCutAt (cut : BlockCut) (members : List Member) : Type 0 where
   pub means : first_load_meaning cut.load ≡ meaning_inside false load
   pub behind : AreMembers cut.back.first (lines_in cut.back.lines) back
 
--- all its records, and those behind the load's first, have numbers of 64 bits, and its commands can be counted in them
+-- 64 bits hold the numbers of all records, also of the load's body, and the number of commands.
 pub record CanBeNumbered (cut : BlockCut) : Type 0 where
   pub before : cut.front.first + length (lines_in cut.front.lines) < 2 ^ 64
   pub load : cut.number + behind_length (first_load_meaning cut.load) < 2 ^ 64

@@ -1,4 +1,4 @@
--- What contracts read of a script's store, and of its snapshots.
+-- A script's store and its snapshots, as contracts see them.
 use Rattle.std.specs.Prelude.{◌≡◌, ℕ, List, Option, Some, length}
 use Rattle.book_core.specs.History.{History}
 use Rattle.command_core.specs.Records.{Record}
@@ -8,22 +8,22 @@ use Rattle.store_core.specs.declared.snapshot.Snapshot.{Snapshot}
 use Rattle.script_core.specs.Script.{Place}
 use Rattle.script_core.specs.declared.ledger.Ledger.{Ledger}
 
--- its history, which its one pass has seen
+-- The history of the store, which its only pass has seen.
 abbrev pub ledger_history : Ledger → History
 ledger_history ledger = seen ledger.pass
 
--- how many calls it has left
+-- The number of calls that are left.
 abbrev pub left_in : Ledger → ℕ
 left_in ledger = calls_left ledger.pass
 
--- where a script stands whose store this is: the number of its next record, and the records that are left
+-- The position in the script: the store's history, the number of the next record, and the records that are left.
 abbrev pub place_in : Ledger → ℕ → List Record → Place
 place_in ledger number left = record { history = ledger_history ledger; number = number; left = left }
 
--- the commit that a snapshot shows, as a command names one
+-- The commit that a snapshot shows, as a command names one.
 abbrev pub commit_shown : Snapshot → Option ℕ
 commit_shown snapshot = Some (number_shown snapshot)
 
--- it shows all commits of its history
+-- The snapshot shows all commits of its history.
 abbrev pub ShowsAll : Snapshot → Type 0
 ShowsAll snapshot = number_shown snapshot ≡ length (history snapshot)

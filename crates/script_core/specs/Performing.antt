@@ -1,4 +1,4 @@
--- What performing a command gives: its answer, or why there is none.
+-- The outcome of executing a command: its answer, or why it has none.
 use Rattle.std.specs.Prelude.{ℕ, ◌≡◌, ◌≤◌, ◌<◌, ◌+◌, ◌^◌, ◌++◌, All, IfOk, IsTrue, List, drop, length, take, true, Option, None, Result, Ok, Err, ⊤}
 use Rattle.std.specs.Borrow.{Bor}
 use Rattle.answer_core.specs.PrintedRecords.{IsPrintedAs, errors_in}
@@ -21,13 +21,13 @@ use Rattle.row_core.specs.declared.schema.Column.{Column}
 use Rattle.script_core.specs.Effects.{columns_or_fault, rows_or_fault, sides_or_fault}
 use Rattle.version_core.specs.Limits.{version_limit}
 
--- a value is what is asked of what may be read, and a refusal the one that applies
+-- A value is the one that is meant, and a refusal is the one that applies.
 abbrev pub Gives : {S T : Type 0} → Result S Fault → (S → T → Type 0) → Result T Failure → Type 0
 Gives {S} meant Is (Ok value) = (read : S) × (meant ≡ Ok read) × Is read value
 Gives meant Is (Err failure) = IsFailureOf meant failure
 
--- a table's columns and rows, read as they are shown to the command of this number: by rising id, no more of them than
--- there can be versions, and each fits the columns
+-- A table's columns and rows, as the command of this number reads them: by ascending id, at most `version_limit` rows,
+-- each fitting the columns.
 pub record IsShown (number : ℕ) (history : History) (asof : Option ℕ) (table : List ℕ)
     (result : Result (Bor (List Column) × List Row) Failure) : Type 0 where
   pub gives : Gives (rows_or_fault number history asof table) (λ rows read. read.1 ≡ rows) result
@@ -36,13 +36,13 @@ pub record IsShown (number : ℕ) (history : History) (asof : Option ℕ) (table
   pub rise : IfOk result (λ read. RowsRise read.1)
   pub fit : IfOk result (λ read. All (λ row. IsTrue (fits read.0.now row.values)) read.1)
 
--- it fails as the comparison of these two tables does, whatever their columns are compared by
+-- It fails as the comparison of these two tables does, whatever columns they are compared by.
 abbrev pub FailsToCompare : ℕ → History → Option ℕ → List ℕ → List ℕ → Failure → Type 0
 FailsToCompare number history asof left right failure =
     (on : List (List ℕ × List ℕ))
     → IsFailureOf (sides_or_fault number history asof (record { left = left; right = right; on = on })) failure
 
--- the commit that a query names, if it names one
+-- The commit that a query names.
 abbrev pub asof_in : Meaning → Option ℕ
 asof_in (Rows table asof) = asof
 asof_in (At table point asof) = asof
@@ -53,26 +53,26 @@ asof_in (Agg aggregate asof) = asof
 asof_in (Check table parts instant asof body) = asof
 asof_in other = None
 
--- the change is made as it is meant, and its commit's number answered; or nothing changes
+-- The change is made as it is meant, and the answer is its commit's number; or nothing changes.
 abbrev pub Changes : Result History Fault → History → History → Result Answer Failure → Type 0
 Changes meant old new (Ok given) = (meant ≡ Ok new) × (given ≡ answer.Committed (length new))
 Changes meant old new (Err failure) = IsFailureOf meant failure × (new ≡ old)
 
--- a value is the command's answer, and so is a refusal; of want of memory nothing is said
+-- A value is the command's answer, and so is a refusal. Refused memory says nothing.
 abbrev pub Performs : History → ℕ → Meaning → Result Answer Failure → History → Type 0
 Performs before number meaning (Ok given) after = IsAnswerTo before number meaning given after
 Performs before number meaning (Err (Refused fault)) after =
     IsAnswerTo before number meaning (answer.Refused fault) after
 Performs before number meaning (Err NoMemory) after = ⊤
 
--- the records of an answer were printed, and the refusals among them counted
+-- The records of an answer were printed, and the refusals among them counted.
 pub record PrintsAnswer (answer : Answer) (old new : List ℕ) (reported : ℕ) : Type 0 where
   pub records : List Record
   pub are : IsPrintedAs answer records
   pub printed : Adds old new records
   pub errors : reported ≡ errors_in records
 
--- the same of the answer that there is, and what another printer made put behind it
+-- The same for an answer that is there, with the bytes of another printer appended.
 pub record PrintsBefore {E : Type 0} (given : Result Answer E) (old later new : List ℕ) (reported : ℕ)
     : Type 0 where
   pub answer : Answer
@@ -81,14 +81,14 @@ pub record PrintsBefore {E : Type 0} (given : Result Answer E) (old later new : 
   pub own : PrintsAnswer answer old near reported
   pub joined : new ≡ near ++ later
 
--- the outcomes of the queries before a block's load and of those behind it can be joined to that of all its commands
+-- The outcomes of the queries before and after a block's load can be added up.
 pub record CanBeJoined (first last : Outcome) : Type 0 where
   pub before : first.errors ≤ first.commands
   pub behind : last.errors ≤ last.commands
   pub fits : first.commands + last.commands + 1 < 2 ^ 64
 
--- what comes behind the answers to the queries before a block's load was printed: the load's answer, and what another
--- printer made of the queries behind it; all commands and refusals of the block were counted
+-- The load's answer was printed, then the answers of another printer to the queries after the load. All commands and
+-- refusals of the block were counted.
 pub record PrintsBehind {E : Type 0} (queries : Result (Outcome × Outcome) E) (load : Result Answer E)
     (old later new : List ℕ) (reported : Outcome) : Type 0 where
   pub queried : Outcome × Outcome
@@ -99,7 +99,7 @@ pub record PrintsBehind {E : Type 0} (queries : Result (Outcome × Outcome) E) (
   pub commands : reported.commands ≡ queried.0.commands + queried.1.commands + 1
   pub refusals : reported.errors ≡ queried.0.errors + queried.1.errors + errors
 
--- a command was answered, the records of its answer printed, and the refusals among them counted
+-- A command was answered, the records of its answer printed, and the refusals among them counted.
 pub record PrintsOne (before : History) (number : ℕ) (meaning : Meaning) (after : History) (old new : List ℕ)
     (reported : ℕ) : Type 0 where
   pub answer : List Record
@@ -107,8 +107,8 @@ pub record PrintsOne (before : History) (number : ℕ) (meaning : Meaning) (afte
   pub printed : Adds old new answer
   pub errors : reported ≡ errors_in answer
 
--- commands of a block, none of them a load that may be done, were answered one after another, whatever history the
--- block's load leads to, and the records of their answers printed
+-- Commands of a block were answered in order, whatever history the block's load leads to. Their answers were printed.
+-- None of them is a load that may be done.
 pub record PrintsQueries (before : History) (placed : List Placed) (old new : List ℕ) (reported : Outcome)
     : Type 0 where
   pub answers : List Record
@@ -117,7 +117,7 @@ pub record PrintsQueries (before : History) (placed : List Placed) (old new : Li
   pub commands : reported.commands ≡ length placed
   pub errors : reported.errors ≡ errors_in answers
 
--- the same of the commands that a section of a block's records holds, the first of them of this number
+-- The same for the commands in a section of a block. `number` is the number of the first record.
 pub record PrintsSection (before : History) (number : ℕ) (records : List Record) (old new : List ℕ)
     (reported : Outcome) : Type 0 where
   pub printed : (members : List Member) → AreMembers number records members
@@ -125,7 +125,7 @@ pub record PrintsSection (before : History) (number : ℕ) (records : List Recor
   pub few : reported.errors ≤ reported.commands
   pub fewer : reported.commands ≤ length records
 
--- all commands of a block were answered, one after another, and the records of their answers printed
+-- All commands of a block were answered in order, and their answers printed.
 pub record PrintsBlock (before : History) (placed : List Placed) (after : History) (old new : List ℕ)
     (reported : Outcome) : Type 0 where
   pub answers : List Record
@@ -134,19 +134,19 @@ pub record PrintsBlock (before : History) (placed : List Placed) (after : Histor
   pub commands : reported.commands ≡ length placed
   pub errors : reported.errors ≡ errors_in answers
 
--- what a command with the word `load` may ask for: a load, or nothing, where it is refused
+-- A command with the word `load` asks for a load, or is refused.
 abbrev pub AsksLoad : Meaning → Type 0
 AsksLoad (Load name body) = ⊤
 AsksLoad (Refuse wrong) = ⊤
 AsksLoad meaning = ⊥
 
--- the answer that an outcome is, a refusal being one too
+-- The answer that an outcome stands for. A refusal is an answer too.
 abbrev pub IsAnswerOf : Result Answer Failure → Answer → Type 0
 IsAnswerOf (Ok given) reported = reported ≡ given
 IsAnswerOf (Err (Refused wrong)) reported = reported ≡ answer.Refused wrong
 IsAnswerOf (Err NoMemory) reported = ⊥
 
--- a statement's answer was printed, and its commands and refusals counted
+-- A statement's answer was printed, and its commands and refusals were counted.
 pub record PrintsStatement (before : History) (number : ℕ) (statement : Statement) (after : History)
     (old new : List ℕ) (reported : Outcome) : Type 0 where
   pub answer : List Record
@@ -155,7 +155,7 @@ pub record PrintsStatement (before : History) (number : ℕ) (statement : Statem
   pub commands : reported.commands ≡ commands_in statement
   pub errors : reported.errors ≡ errors_in answer
 
--- the first statement of some records, the first of them of this number, takes so many of them; it was answered
+-- The first statement takes the first `taken` records, and was answered. `number` is the number of the first record.
 pub record PrintsNext (records : List Record) (number : ℕ) (before after : History) (old new : List ℕ)
     (reported : Outcome) (taken : ℕ) : Type 0 where
   pub some : 0 < taken

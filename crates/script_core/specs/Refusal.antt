@@ -1,4 +1,4 @@
--- The refusals of the crates below, as a script names them.
+-- The names that scripts have for the refusals of lower crates.
 use Rattle.row_core.specs.declared.reading.RowRefused.{RowRefused}
 use Rattle.row_core.specs.declared.reading.RowRefused.TheVariants as row
 use Rattle.row_core.specs.declared.value.ValueRefused.{ValueRefused}
@@ -17,7 +17,7 @@ use Rattle.match_core.specs.declared.columns.QueryRefused.TheVariants as query
 use Rattle.command_core.specs.declared.refusal.Refusal.{Refusal}
 use Rattle.command_core.specs.declared.refusal.Refusal.TheVariants.{BadNumber, BadPeriod, BadPoint, BadUtf8, Full, Future, KeyOverlap, NoColumn, NoTable, TableExists, TooLong, TooMany, WrongKind, WrongWidth}
 
--- what is wrong with a row
+-- The refusal of a row.
 abbrev pub row_refusal : RowRefused → Refusal
 row_refusal row.WrongWidth = WrongWidth
 row_refusal row.BadPoint = BadPoint
@@ -26,7 +26,7 @@ row_refusal row.BadNumber = BadNumber
 row_refusal row.TooLong = TooLong
 row_refusal row.BadUtf8 = BadUtf8
 
--- what is wrong with a change
+-- The refusal of a change.
 abbrev pub book_refusal : BookRefused → Refusal
 book_refusal book.TableExists = TableExists
 book_refusal book.TooMany = TooMany
@@ -36,33 +36,33 @@ book_refusal book.NoColumn = NoColumn
 book_refusal book.WrongKind = WrongKind
 book_refusal book.KeyOverlap = KeyOverlap
 
--- what is wrong with a value
+-- The refusal of a value.
 abbrev pub value_refusal : ValueRefused → Refusal
 value_refusal value.BadNumber = BadNumber
 value_refusal value.TooLong = TooLong
 value_refusal value.BadUtf8 = BadUtf8
 
--- what is wrong with a commit or a table that is asked for
+-- The refusal of a commit or a table whose rows are asked for.
 abbrev pub rows_refusal : RowsRefused → Refusal
 rows_refusal rows.Future = Future
 rows_refusal rows.NoTable = NoTable
 
--- what is wrong with versions that are asked for
+-- The refusal of versions.
 abbrev pub versions_refusal : VersionsRefused → Refusal
 versions_refusal versions.Future = Future
 versions_refusal versions.BadPeriod = BadPeriod
 versions_refusal versions.NoTable = NoTable
 
--- what is wrong with a table that a snapshot is asked for
+-- The refusal of a table in a snapshot.
 abbrev pub table_refusal : missing.NoTable → Refusal
 table_refusal refused = NoTable
 
--- what is wrong with a range of commits that a snapshot is asked for
+-- The refusal of a range of commits in a snapshot.
 abbrev pub range_refusal : RangeRefused → Refusal
 range_refusal range.BadPeriod = BadPeriod
 range_refusal range.NoTable = NoTable
 
--- what is wrong with the columns that tables are compared by
+-- The refusal of the columns that tables are compared or aggregated by.
 abbrev pub query_refusal : QueryRefused → Refusal
 query_refusal query.NoColumn = NoColumn
 query_refusal query.WrongKind = WrongKind

@@ -1,4 +1,4 @@
--- What the answering of statements writes.
+-- The writing of statements' answers.
 use Rattle.std.specs.Prelude.{ℕ, ◌+◌, ◌≡◌, List, [], length}
 use Rattle.book_core.specs.History.{History}
 use Rattle.stream_core.specs.Counted.{Sink}
@@ -8,24 +8,24 @@ use Rattle.stream_core.specs.declared.fault.RunFault.TheVariants.{ReadFault, Too
 use Rattle.script_core.specs.Script.{Done, Place, Steps, WritesAll, WritesBefore, WritesWithin}
 use Rattle.script_core.specs.declared.outcome.Outcome.{Outcome}
 
--- these are all statements from a place on
+-- These are all statements from a position on.
 abbrev pub AreRest : Place → List Done → Type 0
 AreRest start dones = (last : Place) × Steps start dones last × (last.left ≡ [])
 
--- this of what the statements from a place on answer was written
+-- `Writes` says how much was written of the answers to the statements from a position on.
 abbrev pub Answering : (List Done → Sink → Sink → Type 0) → Place → Sink → Sink → Type 0
 Answering Writes start before after = (dones : List Done) × AreRest start dones × Writes dones before after
 
--- the place behind all records that are left at a place, after this history
+-- The position after all records that are left, with this history.
 abbrev pub behind : Place → History → Place
 behind start history = record { history = history; number = start.number + length start.left; left = [] }
 
--- the answers to all statements from a place on, after which the history is this
+-- The answers to all statements from a position on were written, and led to this history.
 abbrev pub AnswersAll : Place → History → Sink → Sink → Outcome → Type 0
 AnswersAll start history before after outcome =
     (dones : List Done) × Steps start dones (behind start history) × WritesAll outcome dones before after
 
--- why the answering of the statements from a place on stopped
+-- Why the execution of the statements from a position on stopped.
 abbrev pub ExplainsAnswering : Place → Sink → Sink → RunFault → Type 0
 ExplainsAnswering start before after ReadFault = ⊥
 ExplainsAnswering start before after TooLong = ⊥

@@ -1,4 +1,4 @@
-//! The changes that commands ask for.
+//! Executes commands that ask for changes.
 ghost use Rattle.std.specs.Prelude.{◌≡◌, ◌+◌, ◌<◌, ◌≤◌, ◌^◌, length};
 ghost use Rattle.store_core.specs.Snapshots.{history};
 ghost use Rattle.script_core.specs.Ledgers.{ledger_history, left_in};
@@ -24,7 +24,7 @@ use std::thread::Threads;
 use store_core::Snapshot;
 use work_core::{Crew, OpenGate};
 
-/// Makes a change, which the command of this number asks for.
+/// Makes a change, for the command with this number.
 fn apply<R: Wait>(
     rt: &R,
     ledger: &mut Ledger,
@@ -59,7 +59,7 @@ pub(crate) fn make<R: Wait>(
     apply(rt, ledger, number, Change::Make { table, schema })
 }
 
-/// The rows of a load's records, by the columns that a snapshot of all commits shows.
+/// Reads the rows of a load, by the columns of the table in the newest commit.
 fn rows_of_load<T: Threads + Sync>(
     crew: &Crew<'_, T, OpenGate>,
     newest: &Snapshot,
@@ -77,8 +77,8 @@ fn rows_of_load<T: Threads + Sync>(
     }
 }
 
-/// Adds the rows of a load's records to a table, the first of them with the number behind this one; they are read by
-/// the columns that the context's snapshot shows.
+/// Adds a load's rows to a table. The rows are read by the columns that the context's snapshot shows, and the first has
+/// number `number + 1`.
 pub(crate) fn load_by<T: Threads + Wait + Sync>(
     context: &QueryContext<'_, T>,
     ledger: &mut Ledger,
@@ -99,7 +99,7 @@ pub(crate) fn load_by<T: Threads + Wait + Sync>(
     apply(crew.rt, ledger, number, Change::Load { table, rows })
 }
 
-/// Adds the rows of a load's records to a table, the first of them with the number behind this one.
+/// Adds a load's rows to a table. The first row has number `number + 1`.
 pub(crate) fn load<T: Threads + Wait + Sync>(
     crew: &Crew<'_, T, OpenGate>,
     ledger: &mut Ledger,
@@ -114,7 +114,7 @@ pub(crate) fn load<T: Threads + Wait + Sync>(
         (ledger_history ledger.old) (ledger_history ledger.new) result }
     ensures left { left_in ledger.old ≤ left_in ledger.new + 2 }
 {
-    // The snapshot is given back before the commit, so that nothing is copied.
+    // The snapshot is dropped before the commit, so that nothing has to be copied.
     let rows = {
         let newest = ledger.newest(crew.rt)?;
         rows_of_load(crew, &newest, number, table, body)?
@@ -122,7 +122,7 @@ pub(crate) fn load<T: Threads + Wait + Sync>(
     apply(crew.rt, ledger, number, Change::Load { table, rows })
 }
 
-/// The portion of some rows of a table: of those that have the conditions' values.
+/// A portion of the rows that match the conditions.
 #[derive(Clone, Copy)]
 pub(crate) struct RowPortion<'a> {
     pub table: Name,
@@ -130,7 +130,7 @@ pub(crate) struct RowPortion<'a> {
     pub conds: TextPairs<'a>,
 }
 
-/// Changes a portion of a table's rows.
+/// Sets values in a portion of a table's rows.
 pub(crate) fn update<T: Wait>(
     crew: &Crew<'_, T, OpenGate>,
     ledger: &mut Ledger,
@@ -168,7 +168,7 @@ pub(crate) fn update<T: Wait>(
     apply(rt, ledger, number, change)
 }
 
-/// Takes a portion of a table's rows out.
+/// Removes a portion of a table's rows.
 pub(crate) fn delete<T: Wait>(
     crew: &Crew<'_, T, OpenGate>,
     ledger: &mut Ledger,

@@ -1,4 +1,4 @@
-//! The parts of a claimed division.
+//! Reads the parts of a claimed division.
 ghost use Rattle.std.specs.Prelude.{◌≡◌, ◌+◌, ◌<◌, ◌^◌, ◌∷◌, ◌++◌, ℕ, List, [], Ok, MatchResult, length};
 ghost use Rattle.command_core.specs.Lines.{fields_in, lines_in};
 ghost use Rattle.script_core.specs.Failure.{IsFailureOf, IsRecordFailure};
@@ -9,7 +9,7 @@ use cert_core::Claim;
 use command_core::{Line, Lines, Refusal, begins, natural_in};
 use std::alloc::Global;
 
-/// Adds the part that a record of a check claims, whose number is this one.
+/// Appends the part that a record of a check claims. `number` is the record's number.
 fn push_part(claim: &mut Claim, line: Line<'_>, number: u64) -> Result<(), Failure>
     ensures { MatchResult result
         (λ _. (ids : List ℕ) × (part_of (fields_in line.entry) ≡ Ok ids)
@@ -31,7 +31,7 @@ fn push_part(claim: &mut Claim, line: Line<'_>, number: u64) -> Result<(), Failu
     Ok(())
 }
 
-/// The parts of a check's records, the first of them of this number.
+/// Returns the parts that the records of a check claim. `number` is the number of the first record.
 pub(crate) fn read_claim(alloc: Global, lines: Lines<'_>, number: u64) -> Result<Claim, Failure>
     requires { number + length (lines_in lines) < 2 ^ 64 }
     ensures { MatchResult result

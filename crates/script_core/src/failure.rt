@@ -1,4 +1,4 @@
-//! Why a command is not done: it is refused, or memory is.
+//! Why a command isn't executed: it is refused, or memory is.
 ghost use Rattle.std.specs.Prelude.{◌≡◌};
 ghost use Rattle.command_core.specs.declared.refusal.Refusal as command;
 ghost use Rattle.script_core.specs.Failure.{failure_at, refused};
@@ -10,17 +10,17 @@ use match_core::QueryRefused;
 use row_core::{RowRefused, ValueRefused};
 use store_core::{NoTable, RangeRefused};
 
-/// Why a command is not done.
+/// Why a command isn't executed.
 pub(crate) type Failure = row_core::Failure<Fault>;
 
-/// A refusal of the record of this number.
+/// Returns a refusal of the record of this number.
 pub(crate) fn refused(number: u64, refusal: Refusal) -> Failure
     ensures { result ≡ refused number refusal }
 {
     Failure::Refused(Fault { number, refusal })
 }
 
-/// Why a call of a crate below fails, as it is reported of the record of this number.
+/// Converts the failure of a call to a lower crate. A refusal is reported for the record of this number.
 pub(crate) fn failure_at<E: Reported>(number: u64, why: row_core::Failure<E>) -> Failure
     ensures { result ≡ failure_at number E.name why }
 {
@@ -30,12 +30,12 @@ pub(crate) fn failure_at<E: Reported>(number: u64, why: row_core::Failure<E>) ->
     }
 }
 
-/// A refusal of a crate below, to which a script gives a name of its own.
+/// A refusal of a lower crate, with the name that scripts have for it.
 pub(crate) trait Reported: Drop {
     /// That name.
     ghost name: { Self → command.Refusal };
 
-    /// That name.
+    /// Returns that name.
     fn reported(self) -> Refusal
         ensures { result ≡ name self };
 }

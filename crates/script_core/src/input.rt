@@ -1,4 +1,4 @@
-//! The records of a script, which is read a few bytes at a time.
+//! Reads the records of a script, some MiB at a time.
 ghost use Rattle.std.specs.Prelude.{◌≡◌, ◌+◌, ◌*◌, ◌≤◌, ◌<◌, List, ℕ, drop, length, IfErr, IfOk, OnOk};
 ghost use Rattle.command_core.specs.Records.{AreScriptRecords};
 ghost use Rattle.stream_core.specs.Counted.{failures_of, source_of};
@@ -13,15 +13,18 @@ use std::io::Read;
 use std::thread::Threads;
 use stream_core::{Counted, Patience, RunFault, SCRIPT_LIMIT, read_on};
 
-/// So many bytes of a script are read at a time for each worker: as records they fill a batch.
+/// How many bytes are read at a time for each worker: their records fill about one batch.
 const BYTES_FOR_WORKER: usize = 4_194_304;
 
-/// Reads a script to its end, and keeps its records. Its bytes are kept until they are records: so many for each worker,
-/// and where a cut stands between quotes, twice as many before the next one.
+/// Reads a script to its end, and returns its records. `BYTES_FOR_WORKER` bytes are read at a time for each worker, and
+/// dropped once their records are read. Bytes without a cut are kept, and their number more than doubles before the
+/// next try.
 ///
 /// # Errors
 ///
-/// `ReadFault`, `TooLong` where the script has more than 67,108,864 bytes, `NoMemory` where a growth is refused.
+/// - `ReadFault`: a read failed.
+/// - `TooLong`: the script has more than 67,108,864 bytes.
+/// - `NoMemory`: an allocation failed.
 pub(crate) fn read_script<T: Threads + Sync, R: Read>(
     rt: &T,
     alloc: Global,
@@ -54,7 +57,7 @@ pub(crate) fn read_script<T: Threads + Sync, R: Read>(
     }
 }
 
-/// Drops so many bytes, the first ones. The others, of which there are few where some are dropped, keep the room.
+/// Removes the first `count` bytes. The rest is copied, so that `text` keeps its capacity; it is short.
 fn drop_front(alloc: Global, text: &mut Vec<u8>, count: usize) -> Result<(), NoMemory>
     requires { count ≤ length text.old.items }
     ensures { OnOk result (text.new.items ≡ drop count text.old.items) }

@@ -1,4 +1,4 @@
-//! Laws of what a script writes.
+//! Laws about the output of a script.
 
 ghost use Rattle.std.specs.Prelude.{◌≡◌, ℕ, List, Some};
 ghost use Rattle.book_core.specs.History.{History, IsLegal};
@@ -8,7 +8,7 @@ ghost use Rattle.script_core.specs.Answer.{Answers};
 ghost use Rattle.script_core.specs.Script.{AreStatementsOf, Done, IsOutput, RunsAll, Streams};
 ghost use Rattle.script_core.specs.declared.outcome.Outcome.{Outcome};
 
-/// A script has exactly one output, whatever its bytes are, and one list of statements and answers makes it up.
+/// A script has exactly one output, whatever its bytes are, and one list of statements and answers that makes it up.
 pub fn script_has_one_output()
     ensures exists { (script : List ℕ) → (output : List ℕ) × IsOutput script output }
     ensures one { (script one other : List ℕ) → IsOutput script one → IsOutput script other
@@ -17,8 +17,8 @@ pub fn script_has_one_output()
         → AreStatementsOf script one → AreStatementsOf script other → one ≡ other }
 {}
 
-/// After a legal history a statement, be it a command or a block of commands, has exactly one answer, and exactly one
-/// history follows.
+/// After a legal history a statement has exactly one answer, and exactly one history follows. A statement is a command
+/// or a block of commands.
 pub fn statement_has_one_answer()
     ensures exists { (before : History) (number : ℕ) (statement : Statement) → IsLegal before
         → (own later : List Record) → States number own later statement
@@ -30,8 +30,8 @@ pub fn statement_has_one_answer()
         → (one ≡ other) × (after ≡ later) }
 {}
 
-/// Two runs that come to their end, over one script and the same old contents, leave the same contents and
-/// report the same numbers.
+/// Two complete runs of one script, with the same old contents of the writer, leave the same contents and report the
+/// same numbers.
 pub fn complete_runs_agree()
     ensures { (script text : List ℕ) (one one_after other other_after : Streams)
         (outcome reported : Outcome)

@@ -1,4 +1,4 @@
-//! A script's store, which has one pass.
+//! The store of a script, with its only pass.
 ghost use Rattle.std.specs.Prelude.{◌≡◌, ◌+◌, ◌<◌, [], length, IfOk};
 ghost use Rattle.book_core.specs.Versions.{log_of};
 ghost use Rattle.turn_core.specs.Limits.{call_limit};
@@ -14,8 +14,8 @@ use std::sync::Wait;
 use store_core::{BadCount, Pass, PassSpent, Snapshot, SnapshotRefused, Store, StoreRefused};
 use turn_core::CALL_LIMIT;
 
-/// A store and its one pass, whose calls answer what a book answers. Contracts see the history, and how many calls
-/// there are left.
+/// A store and its only pass, whose calls have the results that a book has. Contracts see the history, and the number
+/// of calls that are left.
 #[derive(Drop)]
 pub struct Ledger {
     store: Store,
@@ -27,7 +27,7 @@ pub struct Ledger {
 impl Ledger {
     ghost use Rattle.script_core.specs.Ledgers.{ledger_history, left_in, ShowsAll};
 
-    /// A store without a table.
+    /// Returns a store without tables.
     pub fn new(alloc: Global) -> Result<Ledger, NoMemory>
         ensures { IfOk result
             (λ ledger. (ledger_history ledger ≡ []) × (left_in ledger ≡ call_limit)) }
@@ -42,8 +42,8 @@ impl Ledger {
         }
     }
 
-    /// Makes a change, and answers the commit's number, from 1 on. Where a snapshot shares the
-    /// book it is copied first.
+    /// Makes a change, and returns the commit's number, counted from 1. If a snapshot shares the book, it is copied
+    /// first.
     pub(crate) fn commit<R: Wait>(
         &mut self,
         rt: &R,
@@ -62,7 +62,7 @@ impl Ledger {
         }
     }
 
-    /// What all commits show.
+    /// Returns a snapshot of all commits.
     pub(crate) fn newest<R: Wait>(&mut self, rt: &R) -> Result<Snapshot, NoMemory>
         requires { 0 < left_in self.old }
         ensures same { ledger_history self.new ≡ ledger_history self.old }
@@ -78,7 +78,7 @@ impl Ledger {
         }
     }
 
-    /// What each commit did.
+    /// Returns what each commit did.
     pub(crate) fn log<R: Wait>(&mut self, rt: &R) -> Result<Log, NoMemory>
         requires { 0 < left_in self.old }
         ensures same { ledger_history self.new ≡ ledger_history self.old }

@@ -1,4 +1,4 @@
-//! The script language: reads a script to its end, answers its commands in order, and writes the answers.
+//! The script language: reads a script to its end, executes its commands in order, and writes the answers.
 #![tactic(auto)]
 
 mod changes;

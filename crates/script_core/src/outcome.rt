@@ -1,11 +1,11 @@
-//! What a run that came to its end reports.
+//! The numbers that a complete run reports.
 
-/// How many commands a run answered, and how many `error` records.
+/// The number of commands that a run answered, and of `error` records in the answers.
 #[derive(Clone, Copy, Debug, PartialEq, Eq)]
 pub struct Outcome {
-    /// The commands: a load or a check with its records is one; a block of commands is one, and each command in it
-    /// one more. Refused ones, unknown words and a stray `end` count too.
+    /// The number of commands. A load or a check counts once with all its records. A block counts once, and each
+    /// command in it once more. Refused commands, unknown words and a stray `end` count too.
     pub commands: u64,
-    /// The `error` records among the answers.
+    /// The number of `error` records in the answers.
     pub errors: u64,
 }

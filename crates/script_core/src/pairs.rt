@@ -1,4 +1,4 @@
-//! The values of a portion's settings and conditions, and the columns of a join.
+//! Reads the values of settings and conditions, and the columns of a join.
 ghost use Rattle.std.specs.Prelude.{◌≡◌, IfOk, Ok, MatchResult};
 ghost use Rattle.command_core.specs.PairsIn.{name_pairs_in, pairs_in};
 ghost use Rattle.script_core.specs.Failure.{IsFailureOf, IsRecordFailure};
@@ -11,7 +11,7 @@ use period_core::NoMemory;
 use row_core::{Name, Schema, Value};
 use std::alloc::Global;
 
-/// The value that a text is in the column of that name.
+/// Returns the value that a text spells in the column of this name.
 fn value_named(
     alloc: Global,
     schema: &Schema,
@@ -32,7 +32,7 @@ fn value_named(
     }
 }
 
-/// The values of pairs in a table's columns, which the command of this number gives.
+/// Returns the values of pairs in a table's columns. `number` is the number of the command that has them.
 pub(crate) fn read_pairs(
     alloc: Global,
     schema: &Schema,
@@ -53,7 +53,7 @@ pub(crate) fn read_pairs(
     Ok(pairs)
 }
 
-/// The pairs of columns' names that two tables are compared by.
+/// Returns the pairs of column names that two tables are compared by.
 pub(crate) fn name_pairs(alloc: Global, names: NamePairs<'_>) -> Result<Vec<(Name, Name)>, NoMemory>
     ensures { IfOk result (λ pairs. pairs.items ≡ name_pairs_in names.entry) }
 {

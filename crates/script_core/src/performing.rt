@@ -1,4 +1,4 @@
-//! Commands, each done alone, and queries on a snapshot, in a block of commands or out of it.
+//! Executes single commands, and answers queries from a snapshot, in a block of commands or outside.
 ghost use Rattle.std.specs.Prelude.{◌≡◌, ℕ, ◌+◌, ◌≤◌, ◌<◌, ◌^◌, List, [], length, true, Err, IfErr, IfOk, None, Ok};
 ghost use Rattle.row_core.specs.declared.failure.Failure.TheVariants.{NoMemory};
 ghost use Rattle.command_core.specs.Command.{meaning_of};
@@ -29,7 +29,7 @@ use std::thread::Threads;
 use store_core::{Future, Snapshot};
 use work_core::{Crew, OpenGate};
 
-/// What a query is answered by and from: a crew, and what all commits show.
+/// The workers that answer a query, and a snapshot of all commits.
 #[derive(Drop)]
 pub(crate) struct QueryContext<'a, T> {
     pub crew: &'a Crew<'a, T, OpenGate>,
@@ -37,13 +37,14 @@ pub(crate) struct QueryContext<'a, T> {
     pub ghost all: { ShowsAll newest.now },
 }
 
-/// What the commit shows that the command of this number names, the newest where none is named.
+/// Returns a snapshot of the commit that a command names, or of the newest if it names none. `number` is the command's
+/// number.
 fn shown_asof(newest: &Snapshot, number: u64, asof: Option<u64>) -> Result<Snapshot, Failure>
     requires { ShowsAll newest.now }
     ensures shows { IfOk result (λ shown. (history shown ≡ history newest.now)
         × (number_shown shown ≡ asked (history newest.now) asof)) }
 
-    // It fails as each table's rows do, and where no commit is named, for want of memory alone.
+    // It fails as the rows of each table do; if no commit is named, only because memory is refused.
     ensures fails { IfErr result (λ failure.
         (table : List ℕ) → IsFailureOf
         (rows_or_fault number (history newest.now) asof table) failure) }
@@ -56,7 +57,7 @@ fn shown_asof(newest: &Snapshot, number: u64, asof: Option<u64>) -> Result<Snaps
     }
 }
 
-/// The commit that a query names.
+/// Returns the commit that a query names.
 fn asof_in(query: &Command<'_>) -> Option<u64>
     ensures { result ≡ asof_in (meaning_of query.now) }
 {
@@ -72,7 +73,7 @@ fn asof_in(query: &Command<'_>) -> Option<u64>
     }
 }
 
-/// Answers a query, whose first record has this number, from a snapshot of all commits.
+/// Answers a query. `number` is the number of its first record.
 pub(crate) fn query<T: Threads + Sync>(
     context: &QueryContext<'_, T>,
     number: u64,
@@ -87,7 +88,7 @@ pub(crate) fn query<T: Threads + Sync>(
     query_shown(context, &shown, number, command)
 }
 
-/// Answers a query, whose first record has this number, from a snapshot of all commits, and one of those that it names.
+/// Answers a query from `shown`, the commit that it names. `number` is the number of its first record.
 fn query_shown<T: Threads + Sync>(
     context: &QueryContext<'_, T>,
     shown: &Snapshot,
@@ -128,7 +129,7 @@ fn query_shown<T: Threads + Sync>(
     }
 }
 
-/// Does a command, whose first record has this number.
+/// Executes a command. `number` is the number of its first record.
 pub(crate) fn perform<T: Threads + Wait + Sync>(
     crew: &Crew<'_, T, OpenGate>,
     ledger: &mut Ledger,
@@ -176,7 +177,7 @@ pub(crate) fn perform<T: Threads + Wait + Sync>(
     }
 }
 
-/// Answers a query, whose first record has this number, from what all commits show.
+/// Answers a query from a snapshot of all commits. `number` is the number of its first record.
 fn query_newest<T: Threads + Wait + Sync>(
     crew: &Crew<'_, T, OpenGate>,
     ledger: &mut Ledger,
@@ -198,7 +199,7 @@ fn query_newest<T: Threads + Wait + Sync>(
     query(&context, number, command)
 }
 
-/// The answer that a command's outcome is: a refusal is one too, and only want of memory is none.
+/// Converts an outcome to an answer. A refusal is an answer too; only refused memory isn't.
 pub(crate) fn answer_of(outcome: Result<Answer, Failure>) -> Result<Answer, NoMemory>
     ensures answer { IfOk result (IsAnswerOf outcome) }
     ensures memory { IfErr result (λ _. outcome ≡ Err NoMemory) }
@@ -210,7 +211,7 @@ pub(crate) fn answer_of(outcome: Result<Answer, Failure>) -> Result<Answer, NoMe
     }
 }
 
-/// Prints an answer, and returns how many records of it are refusals.
+/// Prints an answer, and returns how many of its records are refusals.
 fn print_answer<T: Threads + Sync>(
     crew: &Crew<'_, T, OpenGate>,
     printer: &mut AnswerWriter,
@@ -223,7 +224,7 @@ fn print_answer<T: Threads + Sync>(
     Ok(answer.refusals())
 }
 
-/// Prints the answer, where there is one, and returns how many records of it are refusals.
+/// Prints the answer if there is one, and returns how many of its records are refusals.
 pub(crate) fn print_given<T: Threads + Sync>(
     crew: &Crew<'_, T, OpenGate>,
     printer: &mut AnswerWriter,
@@ -240,8 +241,8 @@ pub(crate) fn print_given<T: Threads + Sync>(
     }
 }
 
-/// Answers a query, whose first record has this number, from a snapshot of all commits, and prints its answer; returns
-/// how many records of it are refusals.
+/// Answers a query and prints the answer. Returns how many of its records are refusals. `number` is the number of the
+/// query's first record.
 pub(crate) fn answer_query<T: Threads + Sync>(
     context: &QueryContext<'_, T>,
     number: u64,
@@ -259,8 +260,8 @@ pub(crate) fn answer_query<T: Threads + Sync>(
     print_given(context.crew, printer, answer)
 }
 
-/// Does a command, whose first record has this number, and prints its answer; returns how many records of it are
-/// refusals.
+/// Executes a command and prints its answer. Returns how many of its records are refusals. `number` is the number of
+/// the command's first record.
 pub(crate) fn answer_command<T: Threads + Wait + Sync>(
     crew: &Crew<'_, T, OpenGate>,
     ledger: &mut Ledger,

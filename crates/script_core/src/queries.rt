@@ -1,4 +1,4 @@
-//! What queries read of a snapshot.
+//! Answers queries from a snapshot.
 ghost use Rattle.std.specs.Prelude.{◌≡◌, ◌+◌, ◌<◌, ◌^◌, All, IfErr, IfOk, IsTrue, Ok, length, nat_le, nat_lt, if◌then◌else◌};
 ghost use Rattle.book_core.specs.Versions.{AreBetween, AreFromTo};
 ghost use Rattle.command_core.specs.Fields.{both_ok};
@@ -35,10 +35,10 @@ use std::thread::Threads;
 use store_core::Snapshot;
 use work_core::{Crew, OpenGate};
 
-/// What a snapshot shows of a table: its columns and its rows.
+/// A table as a snapshot shows it: its columns and its rows.
 type Shown<'a> = (&'a Schema, SharedRows);
 
-/// A table's columns, and its rows that a snapshot shows, which the command of this number asks for.
+/// Returns a table's columns, and its rows that a snapshot shows. `number` is the number of the command.
 fn shown_table(snapshot: &Snapshot, number: u64, table: Name) -> Result<Shown<'_>, Failure>
     ensures { IsShown number (history snapshot.now) (commit_shown snapshot.now) table result }
 {
@@ -61,7 +61,7 @@ struct BothTables<'a> {
     right: SharedRows,
 }
 
-/// Both tables that the command of this number compares, where both are there.
+/// Returns both tables that the command of this number compares.
 fn both_tables(
     snapshot: &Snapshot,
     number: u64,
@@ -87,10 +87,10 @@ fn both_tables(
     })
 }
 
-/// With fewer rows than these, of both tables together, starting threads takes longer than their work saves.
+/// With fewer rows than these, in both tables together, starting threads takes longer than it saves.
 const ROWS_FOR_WORKERS: usize = 16_384;
 
-/// Who answers a query that reads so many rows: the crew, or one worker where the rows are few.
+/// Returns the workers for a query that reads `rows` rows: one worker for few rows, otherwise all.
 fn crew_for<'a, T>(crew: &Crew<'a, T, OpenGate>, rows: usize) -> Crew<'a, T, OpenGate>
     ensures { result.workers ≡ (if nat_lt rows 16_384 then 1 else crew.now.workers) }
 {
@@ -102,7 +102,7 @@ fn crew_for<'a, T>(crew: &Crew<'a, T, OpenGate>, rows: usize) -> Crew<'a, T, Ope
     Crew::new(crew.rt, crew.alloc, workers, crew.gate)
 }
 
-/// All rows of a table.
+/// Returns all rows of a table.
 pub(crate) fn rows(snapshot: &Snapshot, number: u64, table: Name) -> Result<Answer, Failure>
     ensures { Gives (rows_or_fault number (history snapshot.now) (commit_shown snapshot.now) table)
         (λ rows answer. answer ≡ Rows rows) result }
@@ -111,7 +111,7 @@ pub(crate) fn rows(snapshot: &Snapshot, number: u64, table: Name) -> Result<Answ
     Ok(Answer::Rows(rows))
 }
 
-/// The rows of a table that hold at a point.
+/// Returns the rows of a table that hold at a point.
 pub(crate) fn rows_on(
     snapshot: &Snapshot,
     number: u64,
@@ -127,7 +127,7 @@ pub(crate) fn rows_on(
     }
 }
 
-/// The division of a table's rows.
+/// Returns the division of a table's rows.
 pub(crate) fn divide<T: Threads + Sync>(
     crew: &Crew<'_, T, OpenGate>,
     snapshot: &Snapshot,
@@ -149,7 +149,7 @@ pub(crate) fn divide<T: Threads + Sync>(
     })
 }
 
-/// The rows of two tables that are equal in each pair of columns and held together, by so many workers.
+/// Returns the pairs of rows of two tables that are equal in each pair of columns, with the period in which both hold.
 pub(crate) fn join_tables<T: Threads + Sync>(
     crew: &Crew<'_, T, OpenGate>,
     snapshot: &Snapshot,
@@ -187,8 +187,7 @@ pub(crate) fn join_tables<T: Threads + Sync>(
     }
 }
 
-/// When the rows of a table hold and no row of another does that is equal to them in each pair of columns, by so
-/// many workers.
+/// Returns the left table's rows, with the periods in which no right row holds that is equal in each pair of columns.
 pub(crate) fn anti_tables<T: Threads + Sync>(
     crew: &Crew<'_, T, OpenGate>,
     snapshot: &Snapshot,
@@ -226,7 +225,7 @@ pub(crate) fn anti_tables<T: Threads + Sync>(
     }
 }
 
-/// What the rows of a table come to, group by group, by so many workers.
+/// Returns the aggregate of each group of a table's rows, over time.
 pub(crate) fn agg_table<T: Threads + Sync>(
     crew: &Crew<'_, T, OpenGate>,
     snapshot: &Snapshot,
@@ -254,7 +253,7 @@ pub(crate) fn agg_table<T: Threads + Sync>(
     }
 }
 
-/// The verdict on a claimed division of some rows.
+/// Returns the verdict on a claimed division of rows.
 fn verdict_on(
     alloc: Global,
     rows: &SharedRows,
@@ -269,15 +268,14 @@ fn verdict_on(
     Ok(Answer::Verdict(verdict))
 }
 
-/// A table, and the records of a division that is claimed of it.
+/// A table, and the records of a claimed division of it.
 #[derive(Clone, Copy)]
 pub(crate) struct ClaimedTable<'a> {
     pub table: Name,
     pub body: Lines<'a>,
 }
 
-/// The verdict on a claimed division of a table's rows, the body's first record being of the number
-/// behind the command's.
+/// Returns the verdict on a claimed division of a table's rows. The first record of the body has number `number + 1`.
 pub(crate) fn check(
     alloc: Global,
     snapshot: &Snapshot,
@@ -298,7 +296,7 @@ pub(crate) fn check(
     Ok(verdict_on(alloc, &rows, &claim, &certificate)?)
 }
 
-/// The versions of a table that some commit from the first to the last shows.
+/// Returns the versions of a table that some commit in `first..=last` shows.
 pub(crate) fn between(
     snapshot: &Snapshot,
     number: u64,
@@ -318,7 +316,7 @@ pub(crate) fn between(
     }
 }
 
-/// The versions of a table that some commit from the first on and before the end shows.
+/// Returns the versions of a table that some commit in `first..end` shows.
 pub(crate) fn from_to(
     snapshot: &Snapshot,
     number: u64,

@@ -1,4 +1,4 @@
-//! The rows of a load.
+//! Reads the rows of a load.
 ghost use Rattle.std.specs.Prelude.{◌≡◌, ◌+◌, ◌<◌, ◌≤◌, ◌^◌, ◌++◌, ◌∷◌, [], IfOk, Ok, MatchResult, length};
 ghost use Rattle.std.specs.List.{enumerate_from};
 ghost use Rattle.share_core.specs.Pieces.{piece};
@@ -18,8 +18,7 @@ use std::alloc::{AllocError, Global};
 use std::thread::Threads;
 use work_core::{Crew, OpenGate};
 
-/// The rows so far, and that of one more record of a load, whose number is this one. The fields behind its
-/// word are read where they lie.
+/// Reads the row of one more record of a load, without copying its fields. `number` is the record's number.
 fn read_next<'s>(
     reader: RowReader<'s>,
     line: Line<'_>,
@@ -40,7 +39,8 @@ fn read_next<'s>(
     }
 }
 
-/// The rows of some records of a load, the first of them of this number, with room for so many.
+/// Returns the rows of some records of a load, in a list with capacity for `room` rows. `number` is the number of the
+/// first record.
 fn rows_of_records(
     alloc: Global,
     schema: &Schema,
@@ -61,8 +61,8 @@ fn rows_of_records(
     Ok(reader.into_rows())
 }
 
-/// The rows of a load's records at some places, or the fault of the first of them that has one; the load's first record
-/// is of this number.
+/// Returns the rows of the records at a range of indices, or the fault of the first faulty one. `number` is the number
+/// of the load's first record.
 fn rows_in_range(
     alloc: Global,
     schema: &Schema,
@@ -90,15 +90,15 @@ fn rows_in_range(
     }
 }
 
-/// For how many rows the range from one place on and before another makes room, where a load has so many records:
-/// the first range for all, since the rows of the others are put after its own.
+/// Returns the capacity for the rows of the records `from..to` of `count`. The first range has capacity for all rows,
+/// because the rows of the other ranges are appended to its list.
 fn room_of(from: usize, to: usize, count: usize) -> usize
     requires { from ≤ to }
 {
     if from == 0 { count } else { to - from }
 }
 
-/// The rows that ranges of records gave, one after another, or the first range's fault that has one.
+/// Concatenates the rows of the ranges, or returns the fault of the first range that has one.
 fn in_one_list(alloc: Global, ranges: Vec<Result<Drafts, Fault>>) -> Result<Drafts, Failure>
     ensures { MatchResult result (λ rows. all_drafts ranges.items ≡ Ok rows)
         (IsFailureOf (all_drafts ranges.items)) }
@@ -113,7 +113,8 @@ fn in_one_list(alloc: Global, ranges: Vec<Result<Drafts, Fault>>) -> Result<Draf
     Ok(rows)
 }
 
-/// The rows of a load's records, the first of them of this number. Workers share the records out by their places.
+/// Returns the rows of a load's records. `number` is the number of the first record. Workers share the records by
+/// index.
 pub(crate) fn loaded_rows<T: Threads + Sync>(
     crew: &Crew<'_, T, OpenGate>,
     schema: &Schema,
@@ -129,7 +130,7 @@ pub(crate) fn loaded_rows<T: Threads + Sync>(
     let count = lines.len();
     let shares = Shares::of(alloc, count, crew.workers, &|place: usize| place)?;
     if shares.len() == 1 {
-        // Most loads are of a row or a few, which no list of ranges is made for.
+        // Most loads have one row or a few, and need no list of ranges.
         return rows_of_records(alloc, schema, lines, number, count);
     }
     let ranges = shared_out(

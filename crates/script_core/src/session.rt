@@ -1,4 +1,4 @@
-//! The statements of a script, one after another: commands, and blocks of commands.
+//! Executes the statements of a script in order: commands, and blocks of commands.
 ghost use Rattle.std.specs.Prelude.{◌≡◌, ℕ, ◌+◌, ◌*◌, ◌≤◌, ◌<◌, ◌^◌, List, [], drop, length, IfErr, IfOk, Some};
 ghost use Rattle.std.specs.Io.KnownBytes.{Appends};
 ghost use Rattle.command_core.specs.Lines.{lines_in};
@@ -28,8 +28,8 @@ use std::thread::Threads;
 use stream_core::{Counted, Patience, RunFault};
 use work_core::{Crew, OpenGate};
 
-/// Does a statement, whose first record has this number, and prints its answer; returns how many commands there are in
-/// it, and how many records of the answer are refusals.
+/// Executes a statement and prints its answer. Returns the number of its commands, and how many of the answer's records
+/// are refusals. `number` is the number of its first record.
 fn answer_statement<T: Threads + Wait + Sync>(
     crew: &Crew<'_, T, OpenGate>,
     ledger: &mut Ledger,
@@ -60,8 +60,8 @@ fn answer_statement<T: Threads + Wait + Sync>(
     }
 }
 
-/// Answers the first statement of some records, the first of them of this number, and prints its answer; returns the
-/// statement's outcome, and how many records it takes.
+/// Executes the first statement of some records and prints its answer. Returns the statement's outcome, and how many
+/// records it takes. `number` is the number of the first record.
 fn answer_next<T: Threads + Wait + Sync>(
     crew: &Crew<'_, T, OpenGate>,
     ledger: &mut Ledger,
@@ -83,13 +83,15 @@ fn answer_next<T: Threads + Wait + Sync>(
     Ok((reported, taken))
 }
 
-/// Answers the statements of some records, the first of them of this number, and writes each answer whole. What a
-/// statement's records took is given back before its answer is written.
+/// Executes the statements of some records, and writes each answer whole. `number` is the number of the first record. A
+/// statement's records are freed before its answer is written.
 ///
 /// # Errors
 ///
-/// `NoMemory` with the answers of some first statements written, of which there are more; `WriteFault` with those of
-/// all statements before written, and a front of the statement's own. Of the store nothing is said then.
+/// - `NoMemory`: the answers to the first statements were written, but not to all.
+/// - `WriteFault`: the answers to all earlier statements were written, and a proper prefix of this statement's answer.
+///
+/// Nothing is said about the store after an error.
 pub fn answer_each<T: Threads + Wait + Sync, W: Write>(
     crew: &Crew<'_, T, OpenGate>,
     ledger: &mut Ledger,
@@ -133,18 +135,18 @@ pub fn answer_each<T: Threads + Wait + Sync, W: Write>(
     Ok(outcome)
 }
 
-/// Reads a script whole, answers its statements in order, each a command or a block of commands, and writes each
-/// answer whole; answers how many commands there were, and how many `error` records were written.
+/// Reads a whole script, executes its statements in order, and writes each answer whole. Returns the number of
+/// commands, and of `error` records that were written.
 ///
-/// A script has at most 67,108,864 bytes. A read or a write that was interrupted is tried again, at
-/// most 1,000 times in a run. The writer is not flushed. Where there are many bytes and rows, the script is read and
-/// loads, joins, anti-joins and aggregates are run by 1 to 64 workers, and answer the same by any number of them.
+/// A script has at most 67,108,864 bytes. An interrupted read or write is tried again, at most 1,000 times in a run.
+/// The writer isn't flushed. With many bytes or rows, 1 to 64 workers read the script, and execute loads, joins,
+/// anti-joins and aggregates. The answers don't depend on their number.
 ///
 /// # Errors
 ///
-/// `ReadFault` or `TooLong` where the script could not be read: then nothing is written. `NoMemory`
-/// with nothing written, or the answers of some first statements, of which there are more. `WriteFault`
-/// with the answers of all statements before written, and a front of the statement's own.
+/// - `ReadFault`, `TooLong`: the script could not be read, and nothing was written.
+/// - `NoMemory`: nothing was written, or the answers to the first statements, but not to all.
+/// - `WriteFault`: the answers to all earlier statements were written, and a proper prefix of this statement's answer.
 pub fn run<T: Threads + Wait + Sync, R: Read, W: Write>(
     rt: &T,
     alloc: Global,
@@ -156,8 +158,8 @@ pub fn run<T: Threads + Wait + Sync, R: Read, W: Write>(
     requires reads { failures_of reader.old < greatest_count }
     requires writes { failures_of writer.old < greatest_count }
 
-    // Of the script that the reader has, Ok wrote the output, whole and nothing else, and a fault left a
-    // front of it.
+    // If the run is Ok, it wrote the whole output of the reader's script and nothing else. After a fault it wrote a
+    // prefix.
     ensures written { (script output : List ℕ)
         → R.remaining (inner_of reader.old) ≡ Some script → IsOutput script output
         → IfOk result (λ _. Appends (W.contents (inner_of writer.old))
@@ -167,22 +169,22 @@ pub fn run<T: Threads + Wait + Sync, R: Read, W: Write>(
         → IfErr result (λ _.
         AppendsFront (W.contents (inner_of writer.old)) (W.contents (inner_of writer.new)) output) }
 
-    // Ok read a script to its end, wrote its output, and reports how many commands and errors there are in it.
+    // If the run is Ok, it read a script to its end, wrote its output, and reports the numbers of commands and errors.
     ensures ok { IfOk result (RunsAll
         (streams_of R.remaining reader.old W.contents writer.old)
         (streams_of R.remaining reader.new W.contents writer.new)) }
 
-    // What each fault says of its cause, and what it leaves: nothing, whole answers, or those and a front
-    // of the next.
+    // Each fault has its cause, and says what was written: nothing, whole answers, or whole answers and a prefix of the
+    // next.
     ensures fault { IfErr result (ExplainsRun
         (streams_of R.remaining reader.old W.contents writer.old)
         (streams_of R.remaining reader.new W.contents writer.new)) }
 
-    // Neither count falls.
+    // Neither count of failed calls decreases.
     ensures counts { (failures_of reader.old ≤ failures_of reader.new)
         × (failures_of writer.old ≤ failures_of writer.new) }
 
-    // A failed call is tried again at most 1,000 times in a run, and only the one that ends it isn't.
+    // A failed call is tried again, at most 1,000 times in a run; only the call that ends the run isn't.
     ensures tries { failures_of reader.new + failures_of writer.new
         ≤ failures_of reader.old + failures_of writer.old + retry_limit + last_failures result }
 {

@@ -1,4 +1,4 @@
-//! Blocks of commands that are done together: a load by the calling thread, and queries by a thread of their own.
+//! Blocks of commands that are done together. The calling thread does the load, another thread answers the queries.
 ghost use Rattle.std.specs.Prelude.{◌≡◌, ℕ, ◌+◌, ◌≤◌, ◌<◌, ◌^◌, List, [], drop, length, take, false, true, IfOk};
 ghost use Rattle.std.specs.Thread.{IsSync};
 ghost use Rattle.command_core.specs.Command.{meaning_of};
@@ -23,23 +23,23 @@ use std::sync::Wait;
 use std::thread::{Threads, join_mut};
 use work_core::{Crew, OpenGate};
 
-/// Some whole commands of a block, one after another: their records, and the number of the first of these.
+/// Consecutive whole commands of a block: their records, and the number of the first record.
 #[derive(Clone, Copy)]
 struct Section<'a> {
     lines: Lines<'a>,
     first: u64,
 }
 
-/// What the first load of a block asks for.
+/// The first load of a block.
 #[derive(Clone, Copy)]
 enum FirstLoad<'a> {
-    /// It is refused, whatever the tables are.
+    /// The load is refused, whatever the tables are.
     Refused(Fault),
     /// The records of the body become rows of the table.
     Rows { table: Name, body: Lines<'a> },
 }
 
-/// A block of commands, cut at its first load, whose first record has this number.
+/// A block of commands, cut at its first load. `number` is the number of the load's first record.
 #[derive(Clone, Copy)]
 struct BlockCut<'a> {
     front: Section<'a>,
@@ -48,9 +48,8 @@ struct BlockCut<'a> {
     back: Section<'a>,
 }
 
-/// Answers the queries of a section of a block, and prints their answers; returns how many commands there are, and how
-/// many of them are refused. A load among them is refused, since a block's first load, which may be done, stands in no
-/// section.
+/// Answers the queries of a section of a block, and prints the answers. Returns the number of commands, and how many of
+/// them are refused. A load in a section is refused, because the block's first load isn't in any section.
 fn answer_queries<T: Threads + Sync>(
     context: &QueryContext<'_, T>,
     section: Section<'_>,
@@ -79,7 +78,7 @@ fn answer_queries<T: Threads + Sync>(
     Ok(reported)
 }
 
-/// What a command asks for that stands as the first load of a block.
+/// Converts the command of a block's first load.
 fn load_asked<'a>(command: &Command<'a>) -> FirstLoad<'a>
     requires { AsksLoad (meaning_of command.now) }
     ensures { first_load_meaning result ≡ meaning_of command.now }
@@ -94,7 +93,7 @@ fn load_asked<'a>(command: &Command<'a>) -> FirstLoad<'a>
     }
 }
 
-/// Does the first load of a block, whose first record has this number, or says why it can't be done.
+/// Does the first load of a block, or says why it is refused. `number` is the number of its first record.
 fn answer_load<T: Threads + Wait + Sync>(
     context: &QueryContext<'_, T>,
     ledger: &mut Ledger,
@@ -117,8 +116,8 @@ fn answer_load<T: Threads + Wait + Sync>(
     }
 }
 
-/// Does the load of a block here while the queries before it and behind it are answered by a thread of their own;
-/// after the load, where no thread can be started.
+/// Does the load of a block on this thread, while another thread answers the queries before and after it. If no thread
+/// can be started, the queries are answered after the load.
 fn answer_both<T: Threads + Wait + Sync>(
     context: &QueryContext<'_, T>,
     ledger: &mut Ledger,
@@ -170,7 +169,7 @@ fn answer_both<T: Threads + Wait + Sync>(
     join_mut(context.crew.rt, &mut queries, &mut loading)
 }
 
-/// Cuts a block of commands at its first load, which stands behind so many records.
+/// Cuts a block of commands at its first load, which begins at index `place` of the records.
 fn cut_at<'a>(block: Section<'a>, place: usize) -> BlockCut<'a>
     requires whole { (members : List Member) × AreMembers block.first
         (lines_in block.lines) members }
@@ -204,8 +203,8 @@ fn cut_at<'a>(block: Section<'a>, place: usize) -> BlockCut<'a>
     }
 }
 
-/// Prints the answer to a block's load, where there is one, and adds the answers to the queries behind it; returns how
-/// many records of the load's answer are refusals.
+/// Prints the answer to a block's load, and appends the answers to the queries after it. Returns how many records of
+/// the load's answer are refusals.
 fn print_load<T: Threads + Sync>(
     crew: &Crew<'_, T, OpenGate>,
     printer: &mut AnswerWriter,
@@ -220,7 +219,7 @@ fn print_load<T: Threads + Sync>(
     Ok(errors)
 }
 
-/// Prints what comes behind the answers to the queries before a block's load, if all of it is there, and returns the
+/// Prints the load's answer and the answers to the queries after it, if memory sufficed for all of them. Returns the
 /// outcome of the whole block.
 fn print_behind<T: Threads + Sync>(
     crew: &Crew<'_, T, OpenGate>,
@@ -266,7 +265,7 @@ fn answer_beside_load<T: Threads + Wait + Sync>(
     print_behind(context.crew, printer, queries, load, later)
 }
 
-/// Answers the commands of a block, each query from what all commits showed at the block's beginning.
+/// Answers the commands of a block. Each query reads the commits that there were at the block's beginning.
 fn answer_commands<T: Threads + Wait + Sync>(
     context: &QueryContext<'_, T>,
     ledger: &mut Ledger,
@@ -294,8 +293,8 @@ fn answer_commands<T: Threads + Wait + Sync>(
     }
 }
 
-/// Answers a block of commands, whose first record has this number: each query from what all commits
-/// showed at its beginning.
+/// Answers a block of commands. Each query reads the commits that there were at its beginning. `number` is the number
+/// of the block's first record.
 pub(crate) fn answer_together<T: Threads + Wait + Sync>(
     crew: &Crew<'_, T, OpenGate>,
     ledger: &mut Ledger,

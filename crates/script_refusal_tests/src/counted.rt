@@ -1,4 +1,4 @@
-//! A counted reader or writer hands each call on once, with its answer.
+//! Tests that a counted reader or writer passes each call on exactly once, and returns its result.
 
 ghost use Rattle.std.specs.Prelude.{◌≤◌, IfOk};
 
@@ -6,7 +6,7 @@ use script_core::Counted;
 use std::io::{self, ErrorKind, Read, Write};
 use std::process::Abort;
 
-// What the reader or writer underneath answers, one call behind another: so many bytes, or an error of that kind.
+// The results of the calls of the reader or writer, in order: numbers of bytes, or kinds of errors.
 const ANSWERS: [Result<usize, ErrorKind>; 6] = [
     Ok(2),
     Err(ErrorKind::Interrupted),
@@ -16,7 +16,7 @@ const ANSWERS: [Result<usize, ErrorKind>; 6] = [
     Ok(1),
 ];
 
-// Answers its calls so, and counts them.
+// Returns these results, and counts its calls.
 #[derive(Drop)]
 struct Answering {
     calls: usize,
@@ -52,13 +52,13 @@ impl Write for Answering {
     }
 }
 
-// The call gave the answer of that number.
+// Checks that the call had the result with this number.
 fn check_answer(rt: &impl Abort, answer: io::Result<usize>, number: usize) {
     let given = answer.map_err(|error| error.kind());
     assert_eq!(rt; Some(given), ANSWERS.get(number).copied(), "call {number}");
 }
 
-// A read that gives no bytes has not failed: it is at the end.
+// A read that returns no bytes hasn't failed: it is at the end.
 #[test]
 fn a_counted_read_is_one_read(rt: HostRuntime) {
     let mut reader = Counted::new(Answering { calls: 0 });
@@ -69,7 +69,7 @@ fn a_counted_read_is_one_read(rt: HostRuntime) {
     assert_eq!(rt; reader.into_inner().calls, 6);
 }
 
-// A write that takes none of some bytes has failed; of no bytes there are none to take.
+// A write that accepts none of some bytes has failed. A write of no bytes hasn't.
 #[test]
 fn a_counted_write_is_one_write(rt: HostRuntime) {
     let mut writer = Counted::new(Answering { calls: 0 });

@@ -1,4 +1,4 @@
-//! What is answered where a read or a write of a script fails, or memory is refused to the program's words.
+//! Tests of failing reads and writes of a script, and of refused memory when the program's words are read.
 #![tactic(auto)]
 
 #[cfg(test)]

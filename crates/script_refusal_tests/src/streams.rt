@@ -13,7 +13,7 @@ const SCRIPT: &[u8] = b"table,a,c,int\ntable,b,c,int\n\
 const ANSWERS: &[u8] = b"ok,1\nok,2\nok,3\nok,4\nrow,2024-01-03,2024-01-06,1,1,1,1\n\
     row,2024-01-06,2024-01-10,1,2,1,1\nrow,2024-01-07,2024-01-08,2,3,2,2\nend,3\n";
 
-// Gives a byte of its text at each read, which are counted from 0 on, and fails at one of them.
+// Returns a byte of its text at each read, and fails at the read with this number, counted from 0.
 #[derive(Drop)]
 struct Failing<'a> {
     text: &'a [u8],
@@ -38,7 +38,7 @@ impl Read for Failing<'_> {
     }
 }
 
-// The read behind that of the last byte gives the end, and there is none behind it.
+// The read after the last byte finds the end, and is the last read.
 #[test]
 fn a_failed_read_writes_nothing(rt: HostRuntime) -> Result<(), Fail> {
     for fails_at in 0..SCRIPT.len() + 2 {
@@ -61,7 +61,7 @@ fn a_failed_read_writes_nothing(rt: HostRuntime) -> Result<(), Fail> {
     Ok(())
 }
 
-// Takes so many bytes in all, and then fails: with an error, or by taking none.
+// Accepts `room` bytes in all, and then fails: with an error, or by accepting none.
 #[derive(Drop)]
 struct Full {
     taken: Vec<u8>,
@@ -109,7 +109,7 @@ fn a_failed_write_leaves_a_front_of_the_answers(rt: HostRuntime) -> Result<(), F
     Ok(())
 }
 
-// Gives its text behind so many interruptions.
+// Returns its text after some interruptions.
 #[derive(Drop)]
 struct Interrupted<'a> {
     text: &'a [u8],

@@ -1,10 +1,10 @@
-//! The words of the program.
+//! Tests of reading the program's words.
 
 use refusal_core::{Ended, Fault, holds, try_each};
 use std::alloc::Global;
 use words_core::{Words, WordsRefused, read_words};
 
-// Reads the words, which are taken so.
+// Reads the words, and checks the result.
 fn read(alloc: Global, words: &[&str], want: Result<Words, WordsRefused>) -> Result<(), Ended> {
     match read_words(alloc, words) {
         Err(WordsRefused::NoMemory) => Err(Ended::NoMemory),

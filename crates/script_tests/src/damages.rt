@@ -1,4 +1,4 @@
-//! Tables of random rows: what `dip` answers of one is certified, and each damage to that claim gets its verdict.
+//! Tables of random rows: each division that `dip` prints is certified, and each damage to it gets the right verdict.
 
 use rand::RngExt;
 use rand_core::SeedableRng;
@@ -10,7 +10,7 @@ use std::process::Abort;
 use std::sync::Wait;
 use std::thread::Threads;
 
-// What a script is answered.
+// Returns the answers to a script.
 fn answers_of(
     rt: &(impl Abort + Alloc<A = Global> + Threads + Wait + Sync),
     script: &str,
@@ -21,7 +21,7 @@ fn answers_of(
     String::from_utf8(writer.into_inner()).expect(rt, "a text")
 }
 
-// A row of January 2024, by the days of its ends, ordered as rows are taken.
+// A row of January 2024, given by the days of its start and its end. Rows are ordered as `dip` takes them.
 #[derive(Clone, Copy, PartialEq, Eq, PartialOrd, Ord)]
 struct Row {
     from: u64,
@@ -29,7 +29,7 @@ struct Row {
     id: u64,
 }
 
-// So many rows, of up to eight days.
+// Returns `count` rows of up to eight days.
 fn make_rows(rt: &(impl Abort + Alloc<A = Global>), rng: &mut Pcg32, count: u64) -> Vec<Row> {
     let longest = rng.random_range(1..=8);
     let mut rows = Vec::new(rt.alloc());
@@ -41,7 +41,7 @@ fn make_rows(rt: &(impl Abort + Alloc<A = Global>), rng: &mut Pcg32, count: u64)
     rows
 }
 
-// The script that makes a table of the rows.
+// Returns the script that makes a table of the rows.
 fn script_of(rt: &(impl Abort + Alloc<A = Global>), rows: &[Row]) -> String {
     let mut script = String::from_str(rt.alloc(), "table,t\nload,t\n").expect(rt, "memory");
     for row in rows {
@@ -52,14 +52,14 @@ fn script_of(rt: &(impl Abort + Alloc<A = Global>), rows: &[Row]) -> String {
     script
 }
 
-// How many rows hold the day.
+// Returns the number of rows that hold on a day.
 fn crowd_of(rows: &[Row], day: u64) -> usize {
     rows.iter()
         .filter(|row| row.from <= day && day < row.to)
         .count()
 }
 
-// The first two neighbours that overlap, of rows in their order.
+// Returns the first two neighbours that overlap. The rows must be in ascending order.
 fn overlap_of(rows: &[Row]) -> Option<(u64, u64)> {
     let mut before: Option<Row> = None;
     for row in rows {
@@ -71,7 +71,7 @@ fn overlap_of(rows: &[Row]) -> Option<(u64, u64)> {
     None
 }
 
-// What is claimed of a table.
+// A claimed division of a table.
 #[derive(Clone, Drop)]
 struct Claimed {
     count: u64,
@@ -80,7 +80,7 @@ struct Claimed {
 }
 
 impl Claimed {
-    // No parts, and this instant.
+    // Returns a claim without parts, with this instant.
     fn new(rt: &(impl Abort + Alloc<A = Global>), instant: &str) -> Claimed {
         Claimed {
             count: 0,
@@ -89,7 +89,7 @@ impl Claimed {
         }
     }
 
-    // What `dip` answers of the rows.
+    // Returns the division of the rows that `dip` prints.
     fn by_dip(
         rt: &(impl Abort + Alloc<A = Global> + Threads + Wait + Sync),
         rows: &[Row],
@@ -104,7 +104,7 @@ impl Claimed {
         claimed
     }
 
-    // Takes what a record of the answer says.
+    // Adds one record of the answer.
     fn read(&mut self, rt: &(impl Abort + Alloc<A = Global>), line: &str) {
         if line.starts_with("dip,") {
             self.read_least(rt, line);
@@ -114,7 +114,7 @@ impl Claimed {
         }
     }
 
-    // Takes the number of parts and the instant, which stand third and fourth.
+    // Reads the number of parts and the instant, which are the third and the fourth field.
     fn read_least(&mut self, rt: &impl Abort, line: &str) {
         let mut fields = line.split(',').skip(2);
         self.count = number(rt, fields.next().unwrap_or(""));
@@ -122,13 +122,13 @@ impl Claimed {
         self.instant.push_str(instant).expect(rt, "memory");
     }
 
-    // Adds a part, which is counted.
+    // Adds a part, and counts it.
     fn add_part(&mut self, rt: &impl Abort, part: Vec<u64>) {
         self.count = self.count.saturating_add(1);
         self.parts.push(part).expect(rt, "memory");
     }
 
-    // The same again.
+    // Returns a copy.
     fn again(&self, rt: &impl Abort) -> Claimed {
         self.clone().expect(rt, "memory")
     }
@@ -138,7 +138,7 @@ fn number(rt: &impl Abort, field: &str) -> u64 {
     field.parse().expect(rt, "a number")
 }
 
-// The ids of a part, which stand from the third field on.
+// Returns the ids of a part, which begin in the third field.
 fn ids_of(rt: &(impl Abort + Alloc<A = Global>), line: &str) -> Vec<u64> {
     let mut part = Vec::new(rt.alloc());
     for id in line.split(',').skip(2) {
@@ -147,7 +147,7 @@ fn ids_of(rt: &(impl Abort + Alloc<A = Global>), line: &str) -> Vec<u64> {
     part
 }
 
-// A script that checks claims on one table, and the answers that are due.
+// A script that checks claims about one table, and the expected answers.
 #[derive(Drop)]
 struct Trial {
     script: String,
@@ -168,7 +168,7 @@ impl Trial {
         writeln!(self.answers, "{verdict}").expect(rt, "memory");
     }
 
-    // Adds a claim that is denied, with what comes out instead.
+    // Adds a claim that is refuted, with the number in its verdict.
     fn add_denied(&mut self, rt: &impl Abort, claimed: &Claimed, why: &str, what: u64) {
         self.add_claim(rt, claimed);
         writeln!(self.answers, "no,{why},{what}").expect(rt, "memory");
@@ -191,7 +191,7 @@ impl Trial {
         self.script.push_str("\n").expect(rt, "memory");
     }
 
-    // An id that is left out.
+    // Omits an id.
     fn add_missing(&mut self, rt: &impl Abort, claimed: &Claimed) {
         let mut fewer = claimed.again(rt);
         if let Some(part) = fewer.parts.iter_mut().find(|part| part.len() > 1) {
@@ -201,7 +201,7 @@ impl Trial {
         }
     }
 
-    // An id that stands twice.
+    // Adds an id twice.
     fn add_twice(&mut self, rt: &impl Abort, rows: &[Row], claimed: &Claimed) {
         let mut twice = claimed.again(rt);
         if let (Some(row), Some(part)) = (rows.first(), twice.parts.last_mut()) {
@@ -210,7 +210,7 @@ impl Trial {
         }
     }
 
-    // An id that no row has.
+    // Adds an id that no row has.
     fn add_unknown(
         &mut self,
         rt: &(impl Abort + Alloc<A = Global>),
@@ -223,14 +223,14 @@ impl Trial {
         self.add_denied(rt, &more, "Unknown", stranger);
     }
 
-    // A part without ids, which is counted.
+    // Adds a part without ids, and counts it.
     fn add_empty(&mut self, rt: &(impl Abort + Alloc<A = Global>), claimed: &Claimed) {
         let mut empty = claimed.again(rt);
         empty.add_part(rt, Vec::new(rt.alloc()));
         self.add_denied(rt, &empty, "EmptyPart", claimed.count);
     }
 
-    // Counts that are one off.
+    // Changes the count by one.
     fn add_wrong_counts(&mut self, rt: &impl Abort, claimed: &Claimed) {
         let count = claimed.count;
         let mut other = claimed.again(rt);
@@ -242,7 +242,7 @@ impl Trial {
         }
     }
 
-    // The first two parts as one, so that some of its rows overlap.
+    // Joins the first two parts, so that some of their rows overlap.
     fn add_overlap(
         &mut self,
         rt: &(impl Abort + Alloc<A = Global>),
@@ -265,7 +265,7 @@ impl Trial {
         writeln!(self.answers, "no,Overlap,{a},{b}").expect(rt, "memory");
     }
 
-    // Each day of the month as the instant.
+    // Tries each day of the month as the instant.
     fn add_instants(
         &mut self,
         rt: &(impl Abort + Alloc<A = Global>),
@@ -280,7 +280,7 @@ impl Trial {
         }
     }
 
-    // A claim whose instant so many rows hold.
+    // Adds a claim at whose instant `holds` rows hold.
     fn add_crowd(&mut self, rt: &impl Abort, claimed: &Claimed, holds: u64) {
         if holds > 0 && holds == claimed.count {
             self.add(rt, claimed, "yes");
@@ -289,7 +289,7 @@ impl Trial {
         }
     }
 
-    // No instant.
+    // Omits the instant.
     fn add_none(&mut self, rt: &impl Abort, rows: &[Row], claimed: &Claimed) {
         let mut other = claimed.again(rt);
         other.instant.clear();
@@ -301,7 +301,7 @@ impl Trial {
         }
     }
 
-    // Each row in a part of its own, which is the least only where all rows hold one day.
+    // Puts each row into a part of its own. That is a least division only if all rows hold on one day.
     fn add_alone(
         &mut self,
         rt: &(impl Abort + Alloc<A = Global>),
@@ -319,7 +319,7 @@ impl Trial {
         }
     }
 
-    // Adds the claim with each damage, and its verdicts.
+    // Adds the claim with each damage, and the verdicts.
     fn add_damages(
         &mut self,
         rt: &(impl Abort + Alloc<A = Global>),
@@ -337,21 +337,21 @@ impl Trial {
         self.add_alone(rt, rows, claimed);
     }
 
-    // Runs the script.
+    // Runs the script, and checks the answers.
     fn check(&self, rt: &(impl Abort + Alloc<A = Global> + Threads + Wait + Sync)) {
         let answers = answers_of(rt, &self.script);
         assert_eq!(rt; answers.as_str(), self.answers.as_str());
     }
 }
 
-// Both parts in one.
+// Joins two parts.
 fn joined(rt: &(impl Abort + Alloc<A = Global>), first: &[u64], second: &[u64]) -> Vec<u64> {
     let mut joined = Vec::from_slice(rt.alloc(), first).expect(rt, "memory");
     joined.extend_from_slice(second).expect(rt, "memory");
     joined
 }
 
-// The rows with these ids, in their order.
+// Returns the rows with these ids, in their order.
 fn taken(rt: &(impl Abort + Alloc<A = Global>), rows: &[Row], ids: &[u64]) -> Vec<Row> {
     let mut taken = Vec::new(rt.alloc());
     for row in rows {
@@ -363,7 +363,7 @@ fn taken(rt: &(impl Abort + Alloc<A = Global>), rows: &[Row], ids: &[u64]) -> Ve
     taken
 }
 
-// What `dip` answers of so many random rows is certified.
+// Checks that the division that `dip` prints for `count` random rows is certified.
 fn check_certified(
     rt: &(impl Abort + Alloc<A = Global> + Threads + Wait + Sync),
     rng: &mut Pcg32,
@@ -385,7 +385,7 @@ fn what_dip_answers_is_certified(rt: HostRuntime) {
     }
 }
 
-// Each damage to what `dip` answers of so many random rows gets its verdict. The verdicts are added to these.
+// Checks that each damage to the division of `count` random rows gets its verdict, and adds the verdicts to `verdicts`.
 fn check_damages(
     rt: &(impl Abort + Alloc<A = Global> + Threads + Wait + Sync),
     rng: &mut Pcg32,
@@ -400,7 +400,7 @@ fn check_damages(
     verdicts.push_str(&trial.answers).expect(rt, "memory");
 }
 
-// Of these lines so many at least begin with a verdict.
+// Checks that at least 50 of these lines begin with `verdict`.
 fn check_often(rt: &impl Abort, lines: &str, verdict: &str) {
     let count = lines
         .lines()

@@ -1,4 +1,4 @@
-//! Tests from outside of runs of scripts, of their readers and writers, and of the program's words.
+//! Black-box tests of running scripts, of their readers and writers, and of the program's words.
 #![tactic(auto)]
 
 #[cfg(test)]

@@ -1,5 +1,5 @@
-//! Large scripts, which workers read by pieces, and some bytes at a time: their records are those that one worker reads
-//! at once, wherever the pieces end, and those that aren't passed stay.
+//! Large scripts that workers read piece by piece or prefix by prefix. They have the same records as if one worker read
+//! them at once, wherever the pieces end. Consuming records leaves the other records unchanged.
 
 ghost use Rattle.std.specs.Prelude.{◌<◌, ◌^◌, length};
 ghost use Rattle.words_core.specs.Words.{IsWorkers};
@@ -15,10 +15,10 @@ use std::process::Abort;
 use std::sync::Wait;
 use std::thread::Threads;
 
-// So many bytes are cut into three pieces, by three workers or more.
+// The size of a script that is cut into three pieces, for three workers or more. In bytes.
 const SIZE: usize = 3_145_728;
 
-// Records with line ends between quotes, and others with quotes.
+// Records with line ends between quotes, and other records with quotes.
 const CLOSED: [&[u8]; 5] = [
     b"a,\"b\nc\"\n",
     b"\"a\n\"\n",
@@ -27,7 +27,7 @@ const CLOSED: [&[u8]; 5] = [
     b"\"a\"b,\"\"\"\n\"\"\"\n",
 ];
 
-// Quotes left open, all kinds of line ends, empty lines, and byte order marks, among others.
+// Open quotes, all kinds of line ends, empty lines and byte order marks, among other texts.
 const ODD: [&[u8]; 9] = [
     b"a,\"b\nc\"\n",
     b"\"a\n\"\n",
@@ -40,7 +40,8 @@ const ODD: [&[u8]; 9] = [
     b"\xEF\xBB\xBF",
 ];
 
-// A script of many rows. Before so many in 40,000 one of the texts may stand.
+// Returns a script of 130,000 rows. Before each row one of the texts is inserted, with a probability of at most `often`
+// in 40,000.
 fn script_of(
     rt: &(impl Abort + Alloc<A = Global>),
     rng: &mut Pcg32,
@@ -78,7 +79,7 @@ fn are_same(one: &Records, other: &Records) -> bool {
     true
 }
 
-// Reads the script at once.
+// Reads the whole script.
 fn read_records(
     rt: &(impl Abort + Alloc<A = Global> + Threads + Sync),
     script: &[u8],
@@ -91,7 +92,7 @@ fn read_records(
         .expect(rt, "memory")
 }
 
-// Reads the script by one worker and by more.
+// Checks that more workers read the same records as one worker.
 fn check(rt: &(impl Abort + Alloc<A = Global> + Threads + Sync), script: &[u8]) {
     let Some(front) = script.get(..SIZE) else {
         panic!(rt; "the script has so many bytes")
@@ -114,7 +115,7 @@ fn pieces_have_the_records_of_the_whole(rt: HostRuntime) {
     }
 }
 
-// One field goes on behind the places where pieces would end.
+// One field extends over the ends of all pieces.
 #[test]
 fn a_field_may_have_the_whole_script(rt: HostRuntime) {
     let mut script = Vec::from_slice(rt.alloc(), b"\"").expect(&rt, "memory");
@@ -126,10 +127,10 @@ fn a_field_may_have_the_whole_script(rt: HostRuntime) {
     check(&rt, &script);
 }
 
-// So many bytes are kept in several batches, by one worker too: those of some 605,000 rows.
+// The size of a script whose records take several batches, even for one worker: about 605,000 rows. In bytes.
 const BYTES: usize = 13_200_000;
 
-// A script of rows that differ.
+// Returns a script of rows that differ from each other.
 fn numbered_rows(rt: &(impl Abort + Alloc<A = Global>)) -> String {
     let mut script = String::new(rt.alloc());
     for row in 0..620_000 {
@@ -138,7 +139,7 @@ fn numbered_rows(rt: &(impl Abort + Alloc<A = Global>)) -> String {
     script
 }
 
-// Looks at the first and the last of the records behind those that are passed.
+// Checks the first and the last of the records that weren't consumed.
 fn check_rest(rt: &impl Abort, whole: &Records, rest: &Records) {
     let (count, all) = (rest.len(), whole.len());
     assert!(rt; 0 < count && count <= all, "some are left");
@@ -152,7 +153,7 @@ fn check_rest(rt: &impl Abort, whole: &Records, rest: &Records) {
     );
 }
 
-// Passes records, a few and many at a time.
+// Consumes records, a few and many at a time.
 fn check_passing(rt: &impl Abort, whole: &Records, mut rest: Records) {
     for count in [0, 1, 99_999, 3, 250_000, 0, 249_996] {
         let before = rest.len();
@@ -179,8 +180,8 @@ fn records_that_are_not_passed_stay(rt: HostRuntime) {
     }
 }
 
-// A script of records that are no commands, among which texts stand. Of its 10,000,000 bytes one worker reads three
-// fronts or more, two workers two, and 64 read all at once.
+// Returns a script of records that aren't commands, with texts among them. One worker reads its 10,000,000 bytes as
+// three prefixes or more, two workers read two, and 64 workers read all at once.
 fn long_script(rt: &(impl Abort + Alloc<A = Global>), often: u64, texts: &[&[u8]]) -> Vec<u8> {
     let mut rng = Pcg32::seed_from_u64(often);
     let mut script = Vec::new(rt.alloc());
@@ -191,7 +192,7 @@ fn long_script(rt: &(impl Abort + Alloc<A = Global>), often: u64, texts: &[&[u8]
     script
 }
 
-// What the script is answered by so many workers.
+// Returns the answers to the script with this number of workers.
 fn answers(
     rt: &(impl Abort + Alloc<A = Global> + Threads + Wait + Sync),
     script: &[u8],

@@ -1,4 +1,4 @@
-//! What a run reports of its commands and refusals.
+//! Tests of the numbers of commands and refusals that a run reports.
 
 use script_core::{Counted, Outcome, run};
 use std::alloc::Global;
@@ -15,7 +15,7 @@ const BLOCK_ANSWERS: &[u8] = b"ok,1\nok,2\n\
     together,2\nok,3\nrow,1,2024-01-01,2024-01-05\nend,1\nrow,2024-01-01,2024-01-05,1,1\nend,1\nerror,11,Future\n\
     row,1,2024-01-01,2024-01-05\nrow,2,2024-01-02,2024-01-06\nend,2\n";
 
-// A script, its answers, and how many commands and refusals there are.
+// A script, its answers, and the numbers of commands and refusals.
 struct Case {
     script: &'static [u8],
     answers: &'static [u8],
@@ -83,7 +83,7 @@ fn counts_commands_and_refusals(rt: HostRuntime) -> Result<(), Fail> {
     )
 }
 
-// A block counts once, and each of its commands once; one that isn't done is one command.
+// A block counts once, and each of its commands once. A block that isn't executed counts as one command.
 #[test]
 fn counts_blocks_and_their_commands(rt: HostRuntime) -> Result<(), Fail> {
     check(

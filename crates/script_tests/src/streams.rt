@@ -1,4 +1,4 @@
-//! Readers and writers that fail, wait or give up half-way.
+//! Readers and writers that fail, that are interrupted, or that stop early.
 
 use script_core::{Counted, RunFault, run};
 use std::io::{self, ErrorKind, Read, Write};
@@ -8,7 +8,7 @@ const SCRIPT: &[u8] = b"table,t\nload,t\nrow,2024-01-01,2024-01-05\nend\ndip,t\n
 
 const ANSWERS: &[u8] = b"ok,1\nok,2\ndip,1,1,2024-01-01\npart,0,1\nerror,6,BadCommand\n";
 
-// Gives its text a byte at a time, after so many interruptions, and fails at one of its reads.
+// Returns its text byte by byte, after some interruptions, and fails at one of its reads.
 #[derive(Drop)]
 struct Slow<'a> {
     text: &'a [u8],
@@ -37,7 +37,7 @@ impl Read for Slow<'_> {
     }
 }
 
-// Gives so many bytes in all.
+// Returns `left` bytes in all.
 #[derive(Drop)]
 struct Flood {
     left: usize,
@@ -51,7 +51,7 @@ impl Read for Flood {
     }
 }
 
-// Takes so many bytes, two at a time, and then none.
+// Accepts `room` bytes, two at a time, and then no more.
 #[derive(Drop)]
 struct Narrow {
     taken: Vec<u8>,
@@ -71,7 +71,7 @@ impl Write for Narrow {
     }
 }
 
-// Takes all bytes, after so many interruptions.
+// Accepts all bytes, after some interruptions.
 #[derive(Drop)]
 struct Busy {
     taken: Vec<u8>,

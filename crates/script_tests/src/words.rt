@@ -1,4 +1,4 @@
-//! What the program's words are taken for.
+//! Tests of reading the program's words.
 
 use std::alloc::Global;
 use std::process::Abort;

@@ -1,4 +1,4 @@
--- Cuts, made one behind another.
+-- Cuts, made one after another.
 use Rattle.std.proofs.Common.{arith, zero, suc, ◌-◌, ◌≡◌, ◌∙◌, ℕ, ◌+◌, ◌<◌, ◌≤◌, ◌++◌, List, [], ◌∷◌, Bool, true, false, not, refl, sym, ap, get_or, slice_index_or}
 use Rattle.std.specs.declared.cmp.Ordering.{Ordering}
 use Rattle.std.specs.declared.cmp.Ordering.TheVariants.{Less, Equal, Greater}
@@ -12,19 +12,19 @@ use Rattle.share_core.specs.Ranges.{is_from}
 use Rattle.share_core.specs.Shares.{IsCutBefore, IsCutUpto}
 use Rattle.share_core.specs.declared.shares.Cut.{Cut}
 
--- less, the other way round, is greater
+-- `Less` reversed is `Greater`
 flip : (o : Ordering) → is_lt (ordering_reverse o) ≡ is_gt o
 flip Less = refl
 flip Equal = refl
 flip Greater = refl
 
--- what is denied is false
+-- a negated test that is true was false
 denied : (t : Bool) → not t ≡ true → t ≡ false
 denied true e = cc
 denied false e = refl
 
 module _ {T : Type 0} (cmp : T → T → Ordering) where
-  -- one more part
+  -- one part more
   pub next_part : (workers before behind some left : ℕ) (cuts : List (Cut T)) (last : T) → behind + 1 ≡ before
       → IsCutUpto cmp workers before cuts last some left → IsCutUpto cmp workers behind cuts last (some + 1) left
   next_part workers before behind some left cuts last fewer so = record {
@@ -36,11 +36,11 @@ module _ {T : Type 0} (cmp : T → T → Ordering) where
   }
 
 module _ {T : Type 0} (cmp : T → T → Ordering) (total : IsTotalOrder cmp) where
-  -- to come from a value on, the other way round
+  -- `is_from` by the reversed comparison
   from_gt : (first x : T) → is_from cmp first x ≡ not (is_gt (cmp first x))
   from_gt first x = ap (λ o. not (is_lt o)) (total.antisymm x first) ∙ ap not (flip (cmp first x))
 
-  -- what comes from one on that comes from a first one on comes from that on too
+  -- `is_from` is transitive
   pub from_on : (first middle x : T) → is_from cmp first middle ≡ true → is_from cmp middle x ≡ true
       → is_from cmp first x ≡ true
   from_on first middle x low high =
@@ -48,7 +48,7 @@ module _ {T : Type 0} (cmp : T → T → Ordering) (total : IsTotalOrder cmp) wh
       ∙ ap not (upto total first middle x (denied (is_gt (cmp first middle)) (sym (from_gt first middle) ∙ low))
       (denied (is_gt (cmp middle x)) (sym (from_gt middle x) ∙ high)))
 
-  -- one more cut
+  -- one cut more
   pub one_more : (workers parts some left : ℕ) (cuts : List (Cut T)) (last : T) (cut : Cut T)
       → IsCutUpto cmp workers parts cuts last some left → is_from cmp last cut.at ≡ true
       → 0 < cut.workers → cut.workers ≤ some
@@ -76,7 +76,7 @@ module _ {T : Type 0} (cmp : T → T → Ordering) (total : IsTotalOrder cmp) wh
       itself : (x : T) → is_from cmp x x ≡ true
       itself x = ap (λ o. not (is_lt o)) (tied_itself total x)
 
--- of equal values
+-- the same for equal arguments
 pub moved : {T : Type 0} (cmp : T → T → Ordering) (workers parts : ℕ) {cuts other_cuts : List (Cut T)} {last other_last : T}
     {some other_some left other_left : ℕ} → cuts ≡ other_cuts → last ≡ other_last → some ≡ other_some → left ≡ other_left
     → IsCutUpto cmp workers parts other_cuts other_last other_some other_left → IsCutUpto cmp workers parts cuts last some left

@@ -7,13 +7,13 @@ use Rattle.std.proofs.lemmas.Bool.Decides.{nat_tests}
 use Rattle.std.proofs.lemmas.Cmp.{ranked}
 use Rattle.share_core.specs.Ranges.{is_from}
 
--- what an order of numbers says of a first one
+-- a comparison of numbers says whether the first is at most the second
 not_less : (first x : ℕ) (o : Ordering) → MatchOrdering o (x < first) (x ≡ first) (first < x)
     → not (is_lt o) ≡ nat_le first x
 not_less first x Less below = grind (arith, nat_tests, below)
 not_less first x Equal same = grind (arith, nat_tests, same)
 not_less first x Greater above = grind (arith, nat_tests, above)
 
--- a number comes from a first one on where it isn't less
+-- a number is in the range from `first` on if it isn't less
 pub from_is : (first x : ℕ) → is_from nat_cmp first x ≡ nat_le first x
 from_is first x = not_less first x (nat_cmp x first) (ranked x first (nat_cmp x first) refl)

@@ -1,4 +1,4 @@
--- A range without an end, cut at a value that it has.
+-- A range without an end, cut at a value that it contains.
 use Rattle.std.proofs.Common.{◌≡◌, Bool, true, false, not, ◌&&◌, List, [], ◌∷◌, ◌++◌, Option, Some, None, refl, sym, ap, filter, cond, AllPairs, All, arith, suc, zero, ℕ, ◌≤◌, length}
 use Rattle.std.specs.declared.cmp.Ordering.{Ordering}
 use Rattle.std.specs.Cmp.{IsTotalOrder}
@@ -7,7 +7,7 @@ use Rattle.share_core.specs.Ranges.{has, has_begun, is_from, range}
 use Rattle.share_core.specs.Shares.{HaveEach, range_at}
 use Rattle.share_core.specs.declared.shares.Cut.{Cut}
 
--- of both parts
+-- `&&` with `true` in the middle
 low_test : (b t : Bool) → b && not t ≡ (b && true) && not t
 low_test false t = refl
 low_test true t = refl
@@ -19,24 +19,24 @@ high_test false true behind = absurd (let bad : false ≡ true = behind refl in 
 high_test false false behind = refl
 
 module _ {T : Type 0} (cmp : T → T → Ordering) (total : IsTotalOrder cmp) where
-  -- what comes from a value on that has begun has begun too
+  -- if a value isn't before the start, neither is a later one
   pub begun_on : (from : Option T) (at x : T) → has_begun cmp from at ≡ true → is_from cmp at x ≡ true
       → has_begun cmp from x ≡ true
   begun_on None at x begun on = refl
   begun_on (Some first) at x begun on = from_on cmp total first at x begun on
 
-  -- up to the value stands what the range has before it
+  -- the range up to the value has what the whole range has before it
   pub low_has : (from : Option T) (at x : T)
       → has cmp (range from (Some at)) x ≡ has cmp (range from None) x && not (is_from cmp at x)
   low_has from at x = low_test (has_begun cmp from x) (is_from cmp at x)
 
-  -- and behind it the rest
+  -- the range from the value on has the rest
   pub high_has : (from : Option T) (at x : T) → has_begun cmp from at ≡ true
       → has cmp (range (Some at) None) x ≡ has cmp (range from None) x && is_from cmp at x
   high_has from at x begun =
       high_test (has_begun cmp from x) (is_from cmp at x) (begun_on from at x begun)
 
--- a value that has begun lies in a range from there on: in the first one, or in one behind its end
+-- a value that isn't before the start is in the first range or in a later one
 in_first : (b t : Bool) → b ≡ true → t ≡ false → b && not t ≡ true
 in_first true false begun early = refl
 in_first true true begun early = cc
@@ -63,11 +63,11 @@ lies_from cmp from [] x begun = (0, omega arith, in_first (has_begun cmp from x)
 lies_from cmp from (c ∷ cs) x begun =
     which cmp from c cs x begun (is_from cmp c.at x) refl (λ late. lies_from cmp (Some c.at) cs x late)
 
--- wherever they are cut, ranges have each value
+-- the ranges contain each value, wherever they are cut
 pub have_each : {T : Type 0} (cmp : T → T → Ordering) (cuts : List (Cut T)) → HaveEach cmp cuts
 have_each cmp cuts = λ x. lies_from cmp None cuts x refl
 
--- one more item of a list that is parted
+-- one item more of a list that a test splits
 more_parted : {X : Type 0} (a l : Bool) (x : X) (xs early late : List X) → xs ≡ early ++ late → (l ≡ true → early ≡ [])
     → cond a (x ∷ xs) xs ≡ cond (a && not l) (x ∷ early) early ++ cond (a && l) (x ∷ late) late
 more_parted true true x xs early late is none = rw (is, none refl) refl
@@ -75,14 +75,14 @@ more_parted true false x xs early late is none = ap (λ ys. x ∷ ys) is
 more_parted false true x xs early late is none = is
 more_parted false false x xs early late is none = is
 
--- what is not late is left out
+-- an item that passes the test isn't in the first part
 late_left_out : (a l : Bool) → l ≡ true → a && not l ≡ false
 late_left_out true true late = refl
 late_left_out false true late = refl
 late_left_out true false late = sym late
 late_left_out false false late = refl
 
--- where all are late none is early
+-- if all items pass the test, the first part is empty
 none_early : {X : Type 0} (all late : X → Bool) (xs : List X) → All (λ x. late x ≡ true) xs
     → filter (λ x. all x && not (late x)) xs ≡ []
 none_early all late [] each = refl
@@ -90,7 +90,7 @@ none_early all late (x ∷ xs) each =
     rw (late_left_out (all x) (late x) (each 0 x (omega arith)))
     (none_early all late xs (λ k d within. each (suc k) d (omega (arith, within))))
 
--- a list parted by a test: those that it doesn't hold of stand before those that it holds of
+-- if no item that passes the test comes before one that doesn't, filtering can be done for each kind separately
 pub filter_parted : {X : Type 0} (all late : X → Bool) (xs : List X)
     → AllPairs (λ x y. late x ≡ true → late y ≡ true) xs
     → filter all xs ≡ filter (λ x. all x && not (late x)) xs ++ filter (λ x. all x && late x) xs

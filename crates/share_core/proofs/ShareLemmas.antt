@@ -1,4 +1,4 @@
--- Shares, one behind another.
+-- Consecutive ranges and their values.
 use Rattle.std.proofs.Common.{arith, ◌∙◌, suc, map, Result, Ok, Err, IfOk, ◌≡◌, ℕ, zero, suc, ◌+◌, ◌<◌, ◌≤◌, List, [], ◌∷◌, Option, Some, None, refl, sym, ap, length, true, slice_index_or, All, AllPairs}
 use Rattle.std.specs.declared.cmp.Ordering.{Ordering}
 use Rattle.std.proofs.lemmas.List.{length-map}
@@ -8,13 +8,13 @@ use Rattle.share_core.specs.Shares.{Gives, GivesFrom, IsCutBefore, end_at, range
 use Rattle.share_core.specs.declared.range.Range.{Range}
 use Rattle.share_core.specs.declared.shares.Cut.{Cut}
 
--- past the last cut there is no end
+-- the range after the last cut has no end
 pub no_end : {T : Type 0} (cuts : List (Cut T)) (i : ℕ) → length cuts ≤ i → end_at cuts i ≡ None
 no_end [] i past = refl
 no_end (c ∷ cs) zero past = absurd (omega (arith, past))
 no_end (c ∷ cs) (suc i) past = no_end cs i (omega (arith, past))
 
--- else it is that of the cut
+-- each other range ends at its cut
 pub some_end : {T : Type 0} (cuts : List (Cut T)) (i : ℕ) (cut : Cut T) → i < length cuts
     → cut ≡ slice_index_or cuts i cut → end_at cuts i ≡ Some cut.at
 some_end [] i cut within is = absurd (omega (arith, within))
@@ -22,13 +22,13 @@ some_end {T} (c ∷ cs) zero cut within is = ap (λ (x : Cut T). Some x.at) (sym
 some_end (c ∷ cs) (suc i) cut within is = some_end cs i cut (omega (arith, within)) is
 
 module _ {T X : Type 0} (cmp : T → T → Ordering) (gives : Range T → X → Type 0) where
-  -- behind the first range the others begin where it ends
+  -- after the first range, the others start where it ends
   next_range : (from : Option T) (c : Cut T) (cs : List (Cut T)) (i : ℕ)
       → range_at from (c ∷ cs) (suc i) ≡ range_at (Some c.at) cs i
   next_range from c cs zero = refl
   next_range from c cs (suc i) = refl
 
-  -- what each range gave, by its number, is what they gave one behind another
+  -- if each value is the one of its range by index, the values are those of all ranges in order
   pub gives_from : (from : Option T) (cuts : List (Cut T)) (xs : List X) → length xs ≡ suc (length cuts)
       → All (λ (c : Cut T). has_begun cmp from c.at ≡ true) cuts → AllPairs (IsCutBefore cmp) cuts
       → ((i : ℕ) (x : X) → i ≤ length cuts → x ≡ slice_index_or xs i x → gives (range_at from cuts i) x)
@@ -46,12 +46,12 @@ module _ {T X : Type 0} (cmp : T → T → Ordering) (gives : Range T → X → 
         (λ i y within is. rw (sym (next_range from c cs i)) (each (suc i) y (omega (arith, within)) is)),
   )
 
--- each cut comes behind no first value
+-- no cut is before the start of a range without a start
 pub all_begun : {T : Type 0} (cmp : T → T → Ordering) (cuts : List (Cut T))
     → All (λ (c : Cut T). has_begun cmp None c.at ≡ true) cuts
 all_begun cmp cuts = λ k d within. refl
 
--- what was found of answers, each of which a range may give
+-- the values of answers that belong to the ranges
 pub all_given : {T X V E : Type 0} (cmp : T → T → Ordering) (post : Range T → ℕ → Result X E → Type 0)
     (cuts : List (Cut T)) (answers : List (Result X E)) (items : V → List X) → AllPairs (IsCutBefore cmp) cuts
     → length answers ≡ length cuts + 1
@@ -69,7 +69,7 @@ all_given {T} {X} {V} {E} cmp post cuts answers items rise len each (Ok found) i
     (ap made at ∙ sym (get_or-map made (items found) i x)
     ∙ ap (λ (l : List (Result X E)). slice_index_or l i (Ok x)) (sym is)))
 
--- what the ranges come to together, one behind another
+-- a property of the ranges together follows from one of each
 module _ {T X : Type 0} (cmp : T → T → Ordering) (gives : Range T → X → Type 0) (come : Range T → List X → Type 0)
     (one : (r : Range T) (x : X) → gives r x → come r (x ∷ []))
     (more : (from : Option T) (at : T) (x : X) (xs : List X) → has_begun cmp from at ≡ true

@@ -1,48 +1,48 @@
--- Shares: ranges that follow one another.
+-- Partitions of the work: consecutive ranges.
 use Rattle.std.specs.Prelude.{◌≡◌, ℕ, zero, suc, ◌+◌, ◌<◌, ◌≤◌, List, [], ◌∷◌, Option, Some, None, Result, Ok, true, All, AllPairs, length, option_map, slice_get, sum_by, unwrap_or}
 use Rattle.std.specs.declared.cmp.Ordering.{Ordering}
 use Rattle.share_core.specs.Ranges.{has, has_begun, is_from, range}
 use Rattle.share_core.specs.declared.range.Range.{Range}
 use Rattle.share_core.specs.declared.shares.Cut.{Cut}
 
--- one cut comes before another
+-- one cut isn't after another
 abbrev pub IsCutBefore : {T : Type 0} → (T → T → Ordering) → Cut T → Cut T → Type 0
 IsCutBefore cmp a b = is_from cmp a.at b.at ≡ true
 
--- cuts that follow one another, each behind a range that has some of the workers
+-- cuts in order; the range before each has some of the workers
 pub record AreCuts {T : Type 0} (cmp : T → T → Ordering) (cuts : List (Cut T)) (workers : ℕ) : Type 0 where
   pub rise : AllPairs (IsCutBefore cmp) cuts
   pub some : All (λ (c : Cut T). (0 < c.workers) × (c.workers ≤ workers)) cuts
 
--- the end of the range of that number, where it has one
+-- the end of the range at index `i`, if it has one
 abbrev pub end_at : {T : Type 0} → List (Cut T) → ℕ → Option T
 end_at [] i = None
 end_at (cut ∷ cuts) zero = Some cut.at
 end_at (cut ∷ cuts) (suc i) = end_at cuts i
 
--- its first value, where the first range begins there
+-- the start of the range at index `i`, if the first range starts at `from`
 abbrev pub start_at : {T : Type 0} → Option T → List (Cut T) → ℕ → Option T
 start_at from cuts zero = from
 start_at from cuts (suc i) = end_at cuts i
 
--- the range of that number, where the first one begins there
+-- the range at index `i`, if the first one starts at `from`
 abbrev pub range_at : {T : Type 0} → Option T → List (Cut T) → ℕ → Range T
 range_at from cuts i = range (start_at from cuts i) (end_at cuts i)
 
--- how many workers the range of that number has, where the last one has so many
+-- how many workers the range at index `i` has, if the last one has `last`
 abbrev pub workers_at : {T : Type 0} → List (Cut T) → ℕ → ℕ → ℕ
 workers_at {T} cuts last i = unwrap_or (option_map (λ (c : Cut T). c.workers) (slice_get cuts i)) last
 
--- a range of those that cuts part, and the workers that it has
+-- one of the ranges between the cuts, with the number of its workers
 abbrev pub IsShare : {T : Type 0} → List (Cut T) → ℕ → Range T → ℕ → Type 0
 IsShare cuts last r n =
     (i : ℕ) × (i ≤ length cuts) × (r ≡ range_at None cuts i) × (n ≡ workers_at cuts last i)
 
--- some number of workers may answer a range by it
+-- a call for the range, with some number of workers, may return this value
 abbrev pub Gives : {T X E : Type 0} → (Range T → ℕ → Result X E → Type 0) → Range T → X → Type 0
 Gives post r x = (n : ℕ) × post r n (Ok x)
 
--- each range, from a value on, has what it came to
+-- the values belong, in order, to the ranges that the cuts separate from `from` on
 abbrev pub GivesFrom : {T X : Type 0} → (T → T → Ordering) → (Range T → X → Type 0) → Option T → List (Cut T) → List X
     → Type 0
 GivesFrom cmp gives from cuts [] = ⊥
@@ -51,15 +51,15 @@ GivesFrom cmp gives from [] (x ∷ (y ∷ ys)) = ⊥
 GivesFrom cmp gives from (cut ∷ cuts) (x ∷ xs) =
     (has_begun cmp from cut.at ≡ true) × gives (range from (Some cut.at)) x × GivesFrom cmp gives (Some cut.at) cuts xs
 
--- all workers of the ranges that end at cuts
+-- the workers of all ranges that end at a cut
 abbrev pub workers_in : {T : Type 0} → List (Cut T) → ℕ
 workers_in {T} cuts = sum_by (λ (c : Cut T). c.workers) cuts
 
--- each value lies in a range, one of those that the cuts part
+-- each value is in one of the ranges between the cuts
 abbrev pub HaveEach : {T : Type 0} → (T → T → Ordering) → List (Cut T) → Type 0
 HaveEach {T} cmp cuts = (x : T) → (i : ℕ) × (i ≤ length cuts) × (has cmp (range_at None cuts i) x ≡ true)
 
--- cuts that come up to a last value; some of the workers that are left are for the next range, and each part that is left
+-- cuts at values up to `last`. Some of the remaining workers (`some`) are for the next range, and each remaining part
 -- has one
 pub record IsCutUpto {T : Type 0} (cmp : T → T → Ordering) (workers parts : ℕ) (cuts : List (Cut T)) (last : T) (some left : ℕ)
     : Type 0 where

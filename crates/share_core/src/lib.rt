@@ -1,7 +1,7 @@
 #![tactic(auto)]
 
-//! Work shared out among workers: by ranges of values that follow one another, cut at the values of a few of what there
-//! is, so that each worker has about as much to do.
+//! Partitions of the work: consecutive ranges of values, cut at the values of a sample, so that all workers have about
+//! the same amount of work.
 
 mod pieces;
 mod range;

@@ -1,11 +1,11 @@
-//! Pieces of lists.
+//! The part of a list that a range of indexes selects.
 
 ghost use Rattle.std.specs.Prelude.{◌≡◌, ◌≤◌, min, unwrap_or};
 ghost use Rattle.share_core.specs.Pieces.{piece};
 
 use crate::range::Range;
 
-/// The places of a range, where there are so many: those from the first answer on and before the second.
+/// Returns the first index of the range and the index after its last, both limited to `count`.
 pub fn places_within(range: Range<usize>, count: usize) -> (usize, usize)
     ensures ordered { result.0 ≤ result.1 }
     ensures within { result.1 ≤ count }
@@ -17,7 +17,7 @@ pub fn places_within(range: Range<usize>, count: usize) -> (usize, usize)
     (from, to)
 }
 
-/// The items of a range's places.
+/// Returns the items at the indexes of the range.
 pub fn piece<T>(range: Range<usize>, items: &[T]) -> &[T]
     ensures { result.now ≡ piece range items.now }
 {

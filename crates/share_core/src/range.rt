@@ -1,21 +1,21 @@
-//! Ranges.
+//! Half-open ranges.
 
 ghost use Rattle.std.specs.Prelude.{◌≡◌};
 ghost use Rattle.share_core.specs.Ranges.{has, is_from};
 
 use std::cmp::Ordering;
 
-/// The values from one on and before another, where these are given.
+/// The values from one value on and before another; either end may be open.
 #[derive(Clone, Copy, Debug, PartialEq, Eq)]
 pub struct Range<T> {
-    /// The first value; all up to the end where there is none.
+    /// The first value, or `None` if the range has no lower end.
     pub from: Option<T>,
-    /// The first value behind it; all from the first on where there is none.
+    /// The first value after the range, or `None` if the range has no upper end.
     pub before: Option<T>,
 }
 
 impl<T: Ord> Range<T> {
-    /// Whether it has the value.
+    /// Returns whether the range contains the value.
     pub fn has(&self, value: &T) -> bool
         ensures { result ≡ has T.cmp self.now value.now }
     {
@@ -31,7 +31,7 @@ impl<T: Ord> Range<T> {
     }
 }
 
-/// Whether a value is a first one, or comes after it.
+/// Returns whether `value` is `first` or comes after it.
 fn is_from<T: Ord>(first: &T, value: &T) -> bool
     ensures { result ≡ is_from T.cmp first.now value.now }
 {

@@ -1,4 +1,4 @@
-//! Work done by share.
+//! Work done range by range.
 
 ghost use Rattle.std.specs.Prelude.{◌≡◌, ℕ, ◌<◌, ◌≤◌, None, Ok, map, length, IfOk};
 ghost use Rattle.std.specs.Thread.{IsSync};
@@ -11,12 +11,13 @@ use std::alloc::{AllocError, Global};
 use std::thread;
 use std::thread::Threads;
 
-/// What the work gives for each range, by the workers that it has, in their order: the work can be done for these shares
-/// alone. Each range is looked after by a thread of its own, where one can be started.
+/// Calls `work` with each range and the number of its workers, and returns the results in the order of the ranges. Each
+/// call runs on a thread of its own, if one can be started. `work` is called only with these ranges and numbers of
+/// workers.
 ///
 /// # Errors
 ///
-/// `AllocError` where the work gives one for a range, and where a growth is refused.
+/// `AllocError` if a call returns one, or if an allocation is refused.
 pub fn shared_out<
     R: Threads + Sync,
     T: Ord + Copy + Sync,
@@ -44,11 +45,11 @@ pub fn shared_out<
     all_found(alloc, answers)
 }
 
-/// What was found by each, in their order, where nothing was refused.
+/// Returns the values of all answers, in their order.
 ///
 /// # Errors
 ///
-/// The first refusal that is among the answers, and `AllocError` where a growth is refused.
+/// The first error among the answers, or `AllocError` if an allocation is refused.
 pub fn all_found<X: Drop>(
     alloc: Global,
     answers: Vec<Result<X, AllocError>>,

@@ -1,4 +1,4 @@
-//! Shares.
+//! Partitions of the work.
 
 ghost use Rattle.std.specs.Prelude.{◌≡◌, ◌+◌, ◌/◌, max, min, ℕ, ◌<◌, ◌≤◌, None, length, IfOk, IfSome, true};
 ghost use Rattle.share_core.specs.Ranges.{is_from};
@@ -7,7 +7,7 @@ ghost use Rattle.share_core.specs.Shares.{AreCuts, HaveEach, end_at, range_at, w
 use crate::range::Range;
 use std::alloc::{AllocError, Global};
 
-/// Where one range ends and the next begins.
+/// The boundary between two neighbouring ranges.
 #[derive(Clone, Copy, Debug, PartialEq, Eq)]
 pub struct Cut<T> {
     /// The first value of the next range.
@@ -16,33 +16,33 @@ pub struct Cut<T> {
     pub workers: u32,
 }
 
-/// Ranges that follow one another and have every value between them, each with some of the workers.
+/// Consecutive ranges that together contain every value, each with some of the workers.
 #[derive(Drop)]
 pub struct Shares<T: Ord> {
-    /// Where they are cut, by rising value.
+    /// The boundaries, by rising value.
     pub cuts: Vec<Cut<T>>,
-    /// How many workers the last one has.
+    /// How many workers the last range has.
     pub last: u32,
-    /// How many workers they have in all.
+    /// How many workers the ranges have in all.
     pub workers: u32,
     pub ghost rise: { AreCuts T.cmp cuts.items workers },
     pub ghost some: { (0 < last) × (last ≤ workers) },
     pub ghost shared: { workers_in cuts.items + last ≡ workers },
 }
 
-/// A worker with fewer items to look at would be over before another had started.
+/// A worker with fewer items would finish before another had started.
 const ITEMS_OF_SHARE: usize = 8_192;
 
-/// The cuts are found among so many items.
+/// At most this many items are sampled to find the boundaries.
 const SAMPLE: usize = 1_023;
 
 impl<T: Ord + Copy> Shares<T> {
-    /// The ranges of so many items, by the value that each has: as many for each worker, about, as far as their values
-    /// differ. Where items are few, or most are of one value, there are fewer ranges, which have more workers.
+    /// Partitions `count` items by their values. The shares of the workers are about equal, if the values differ
+    /// enough. If there are few items, or most have one value, there are fewer ranges, which have more workers.
     ///
     /// # Errors
     ///
-    /// `AllocError` where a growth is refused.
+    /// `AllocError` if an allocation is refused.
     pub fn of<F: Fn(usize) -> T>(
         alloc: Global,
         count: usize,
@@ -61,14 +61,14 @@ impl<T: Ord + Copy> Shares<T> {
         cut_at(alloc, &sample, parts, workers)
     }
 
-    /// How many ranges there are.
+    /// Returns the number of ranges.
     pub fn len(&self) -> usize
         ensures { result ≡ length self.now.cuts.items + 1 }
     {
         self.cuts.len() + 1
     }
 
-    /// The range of that number, from 0 on.
+    /// Returns the range at index `number`.
     pub fn range(&self, number: usize) -> Range<T>
         requires { number ≤ length self.now.cuts.items }
         ensures { result ≡ range_at None self.now.cuts.items number }
@@ -84,7 +84,7 @@ impl<T: Ord + Copy> Shares<T> {
         }
     }
 
-    /// How many workers the range of that number has.
+    /// Returns how many workers the range at index `number` has.
     pub fn workers_of(&self, number: usize) -> u32
         requires { number ≤ length self.now.cuts.items }
         ensures some { (0 < result) × (result ≤ self.now.workers) }
@@ -97,7 +97,7 @@ impl<T: Ord + Copy> Shares<T> {
     }
 }
 
-/// The end of the range of that number, where it has one.
+/// Returns the end of the range at index `number`, or `None` for the last one.
 fn end_of<T: Copy>(cuts: &[Cut<T>], number: usize) -> Option<T>
     ensures { result ≡ end_at cuts.now number }
 {
@@ -107,7 +107,7 @@ fn end_of<T: Copy>(cuts: &[Cut<T>], number: usize) -> Option<T>
     }
 }
 
-/// How many parts of so many items are worth a worker each.
+/// Returns for how many of the workers `count` items are enough work; at least 1.
 fn parts_for(count: usize, workers: u32) -> u32
     requires { 0 < workers }
     ensures { result ≡ max 1 (min (count / ITEMS_OF_SHARE) workers) }
@@ -120,7 +120,7 @@ fn parts_for(count: usize, workers: u32) -> u32
     }
 }
 
-/// The values of some of the items, in their order. None where there is one part alone.
+/// Returns the values of a sample of the items, sorted; no values if there is only one part.
 fn sample_of<T: Ord + Copy, F: Fn(usize) -> T>(
     alloc: Global,
     count: usize,
@@ -139,8 +139,8 @@ fn sample_of<T: Ord + Copy, F: Fn(usize) -> T>(
     Ok(sample)
 }
 
-/// The ranges of a sorted sample, cut into so many parts where its values differ there. Each has a worker for each part of
-/// it, and the last one those that are left.
+/// Cuts a sorted sample into `parts` parts, and drops a boundary whose value doesn't differ from the one before. Each
+/// range has a worker for each part in it, and the last range has all that remain.
 fn cut_at<T: Ord + Copy>(
     alloc: Global,
     sample: &[T],
@@ -178,7 +178,7 @@ fn cut_at<T: Ord + Copy>(
     })
 }
 
-/// The second value, where there is one that comes behind the first.
+/// Returns the second value if it is greater than the first.
 fn value_behind<T: Ord + Copy>(first: T, second: Option<&T>) -> Option<T>
     ensures { IfSome result (λ at. is_from T.cmp first at ≡ true) }
 {

@@ -1,4 +1,4 @@
-//! Changes that the tests make, and what a store answers to them.
+//! Changes for the tests, and checks of a store's answers.
 
 ghost use Rattle.store_core.specs.Passes.{IsPassOf};
 
@@ -11,11 +11,11 @@ use std::process::Abort;
 use std::sync::Wait;
 use store_core::{Pass, Store, StoreRefused};
 
-// A change can't be made: its table has no name, or memory is refused.
+// A change can't be made: its table's name is wrong, or memory is refused.
 #[derive(Clone, Copy, Debug, PartialEq, Eq)]
 pub(crate) struct NoChange;
 
-// The change that makes a table without columns.
+// Returns the change that makes a table without columns.
 pub(crate) fn make(alloc: Global, table: &[u8]) -> Result<Change, NoChange> {
     table_change(alloc, table).ok_or(NoChange)
 }
@@ -27,7 +27,7 @@ fn table_change(alloc: Global, table: &[u8]) -> Option<Change> {
     })
 }
 
-// The change that adds a row of one day to the table.
+// Returns the change that adds a row of one day to the table.
 pub(crate) fn load(alloc: Global, table: &[u8]) -> Result<Change, NoChange> {
     row_change(alloc, table).ok_or(NoChange)
 }
@@ -47,7 +47,7 @@ fn row_change(alloc: Global, table: &[u8]) -> Option<Change> {
     })
 }
 
-// Makes a table, which the store answers so.
+// Makes a table, and checks the store's answer.
 pub(crate) fn check_make(
     rt: &(impl Abort + Alloc<A = Global> + Wait),
     store: &Store,
@@ -63,7 +63,7 @@ pub(crate) fn check_make(
     assert_eq!(rt; answer, want.map_err(Failure::Refused));
 }
 
-// Adds a row to the table `t`, which the store answers so.
+// Adds a row to the table `t`, and checks the store's answer.
 pub(crate) fn check_load(
     rt: &(impl Abort + Alloc<A = Global> + Wait),
     store: &Store,

@@ -1,5 +1,4 @@
-//! Many callers at once: what they are answered is what one history answers, at points of it that follow one
-//! another for each of them.
+//! Many callers at once: their answers are those of one history, at points that don't go back for any caller.
 
 ghost use Rattle.std.specs.Prelude.{◌≡◌};
 ghost use Rattle.store_core.specs.Passes.{IsPassOf};
@@ -13,28 +12,28 @@ use std::test::Fail;
 use std::thread;
 use store_core::{Pass, Store, StoreRefused};
 
-// How many calls each caller makes.
+// The number of calls of each caller.
 const CALLS: u64 = 1_000;
 
-// What a call was answered.
+// The answer to a call.
 #[derive(Clone, Copy, PartialEq, Eq, Debug, Drop)]
 enum Answer {
-    // A change has this number.
+    // A change was committed, with this number.
     Committed(u64),
-    // The table is there already.
+    // The table exists already.
     Exists,
-    // A snapshot has this number, and shows so many rows.
+    // A snapshot has this number, and shows this many rows.
     Shown(u64, u64),
-    // A log has so many entries, whose callers come to this.
+    // A log has this many entries, whose callers have this hash.
     Logged(u64, u64),
 }
 
-// What the callers of commits come to, with one more.
+// Returns the hash of the callers of commits, with one more.
 fn mixed(sum: u64, by: u32) -> u64 {
     (sum % 1_000_003) * 31 + by as u64
 }
 
-// Makes the table, which one caller does first.
+// Makes the table; only the first caller succeeds.
 fn make_table<R: Wait>(rt: &R, alloc: Global, store: &Store, pass: &mut Pass) -> Option<Answer>
     requires { IsPassOf store.now pass.old }
     ensures { IsPassOf store.now pass.new }
@@ -70,7 +69,7 @@ fn read_log<R: Wait>(rt: &R, store: &Store, pass: &mut Pass) -> Option<Answer>
     Some(Answer::Logged(log.len() as u64, sum))
 }
 
-// The call of that number: the first makes the table; then loads, snapshots and logs take turns.
+// Makes the call with that number: the first makes the table; then loads, snapshots and logs alternate.
 fn call<R: Wait>(
     rt: &R,
     alloc: Global,
@@ -94,7 +93,7 @@ fn call<R: Wait>(
     }
 }
 
-// All calls of a caller.
+// Makes all calls of a caller.
 fn run<R: Wait>(rt: &R, alloc: Global, store: &Store, mut pass: Pass) -> Option<Vec<Answer>>
     requires { IsPassOf store.now pass }
 {
@@ -107,7 +106,7 @@ fn run<R: Wait>(rt: &R, alloc: Global, store: &Store, mut pass: Pass) -> Option<
     Some(answers)
 }
 
-// Notes who made a commit; false where that is known already, or there can't be so many.
+// Records the caller of a commit. Returns false if it is recorded already, or the number is too great.
 fn file(callers: &mut Vec<u32>, number: u64, caller: u32) -> bool {
     let place = number as usize;
     if place >= callers.len() || callers[place] != 0 {
@@ -117,7 +116,7 @@ fn file(callers: &mut Vec<u32>, number: u64, caller: u32) -> bool {
     true
 }
 
-// What the callers of all commits up to each come to.
+// Returns the hash of the callers of the first commits, up to each one.
 fn sums_of(alloc: Global, callers: &[u32]) -> Result<Vec<u64>, Fail> {
     let mut sums = Vec::new(alloc);
     let mut sum = 0;
@@ -128,7 +127,8 @@ fn sums_of(alloc: Global, callers: &[u32]) -> Result<Vec<u64>, Fail> {
     Ok(sums)
 }
 
-// After how many commits the history answers so, where it was no later than `seen`; None where it never does.
+// Returns the number of commits after which the history has this answer, if it isn't less than `seen`; `None` if there
+// is no such number.
 fn point_of(answer: Answer, seen: u64, sums: &[u64]) -> Option<u64> {
     let (number, stands) = match answer {
         Answer::Committed(number) => (number, number > seen),
@@ -143,7 +143,7 @@ fn point_of(answer: Answer, seen: u64, sums: &[u64]) -> Option<u64> {
     }
 }
 
-// Whether the history answers so at points that follow one another.
+// Returns whether the history has these answers at points in order.
 fn stand_in_order(answers: &[Answer], sums: &[u64]) -> bool {
     let mut seen = 0;
     for answer in answers {
@@ -155,7 +155,7 @@ fn stand_in_order(answers: &[Answer], sums: &[u64]) -> bool {
     true
 }
 
-// Notes who made each commit that the answers name.
+// Records the caller of each commit in the answers.
 fn file_all(callers: &mut Vec<u32>, answers: &[Answer], caller: u32) -> bool {
     for answer in answers {
         if let Answer::Committed(number) = *answer {
@@ -167,7 +167,7 @@ fn file_all(callers: &mut Vec<u32>, answers: &[Answer], caller: u32) -> bool {
     true
 }
 
-// Notes who made each commit that any caller's answers name; false where a call of one was refused, too.
+// Records the caller of each commit in all callers' answers. Returns false also if a call was refused.
 fn file_lists(callers: &mut Vec<u32>, lists: &[Option<Vec<Answer>>]) -> bool {
     for (list, caller) in lists.iter().zip(1u32..5) {
         let filed = match list {
@@ -181,7 +181,7 @@ fn file_lists(callers: &mut Vec<u32>, lists: &[Option<Vec<Answer>>]) -> bool {
     true
 }
 
-// Whether the history answers each caller so.
+// Returns whether the history has each caller's answers at points in order.
 fn lists_stand_in_order(lists: &[Option<Vec<Answer>>], sums: &[u64]) -> bool {
     for list in lists {
         let stands = match list {
@@ -195,7 +195,7 @@ fn lists_stand_in_order(lists: &[Option<Vec<Answer>>], sums: &[u64]) -> bool {
     true
 }
 
-// Whether the caller of each commit is known.
+// Returns whether the caller of each commit is recorded.
 fn are_known(callers: &[u32]) -> bool {
     callers.iter().skip(1).all(|caller| *caller != 0)
 }

@@ -1,4 +1,4 @@
-//! Four callers: who has heard the notes of all others reads what each of them did.
+//! Four callers: one that has heard the notes of all others reads what each of them did.
 
 ghost use Rattle.std.specs.Prelude.{◌≡◌, ◌+◌, ◌<◌, All, IfSome, vec_len};
 ghost use Rattle.store_core.specs.Passes.{IsPassOf};
@@ -58,7 +58,7 @@ fn four_passes(alloc: Global) -> Result<Four, Fail> {
 // A pass, and the number of the commit that it made.
 type Made = (Pass, u64);
 
-// Two callers at once, each of whom makes a table of its own.
+// Runs two callers at once; each makes a table of its own.
 fn make_two<R: Threads + Wait + Sync>(
     rt: &R,
     alloc: Global,
@@ -81,19 +81,19 @@ fn make_two<R: Threads + Wait + Sync>(
     }
 }
 
-// Whether the numbers are those from 1 to 4, each once.
+// Returns whether the numbers are 1 to 4, each once.
 fn are_counted(numbers: &[u64; 4]) -> bool {
     (1..=4u64).all(|wanted| numbers.iter().filter(|number| **number == wanted).count() == 1)
 }
 
-// Whether the callers from 1 on made the commits of these numbers.
+// Returns whether the callers from 1 on made the commits with these numbers.
 fn are_by(log: &[Entry], numbers: &[u64; 4]) -> bool {
     numbers.iter().zip(1u32..5).all(|(number, by)| log
         .iter()
         .any(|entry| entry.number == *number && entry.by == by))
 }
 
-// Tells a pass what another has seen.
+// Lets a pass hear what another has seen.
 fn tell(store: &Store, pass: &mut Pass, mut other: Pass)
     requires { IsPassOf store.now pass.old × IsPassOf store.now other }
     ensures { IsPassOf store.now pass.new }

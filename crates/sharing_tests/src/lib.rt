@@ -1,4 +1,4 @@
-//! Tests from outside of a store that callers on their own threads share.
+//! Tests from outside of a store that callers on several threads share.
 #![tactic(auto)]
 
 #[cfg(test)]

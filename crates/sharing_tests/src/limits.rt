@@ -1,4 +1,4 @@
-//! How many passes a store has, and how many calls each.
+//! The limits on a store's passes and their calls.
 
 ghost use Rattle.std.specs.Prelude.{IfOk};
 ghost use Rattle.store_core.specs.Passes.{IsPassOf};
@@ -14,7 +14,7 @@ use store_core::{
     BadCount, Future, Pass, PassSpent, Snapshot, SnapshotRefused, Store, StoreRefused,
 };
 
-// A store with one pass of so many calls.
+// Returns a store with one pass of `calls` calls.
 pub(crate) fn one_pass(alloc: Global, calls: u64) -> Result<(Store, Pass), Fail>
     ensures { IfOk result (λ made. IsPassOf made.0 made.1) }
 {
@@ -33,7 +33,7 @@ fn refuses_other_counts(rt: HostRuntime) {
     }
 }
 
-// Whether the passes have the numbers from 1 on, and so many calls each.
+// Returns whether the passes have the numbers from 1 on, and `calls` calls each.
 fn are_counted(passes: &[Pass], calls: u64) -> bool {
     passes.iter().zip(1u32..17).all(|(pass, number)| pass.number() == number
         && pass.left() == calls)
@@ -47,7 +47,7 @@ fn has_16_passes(rt: HostRuntime) -> Result<(), Fail> {
     Ok(())
 }
 
-// A snapshot is refused so.
+// Checks that a snapshot is refused for this reason.
 fn check_no_snapshot(
     rt: &(impl Abort + Wait),
     store: &Store,
@@ -62,7 +62,7 @@ fn check_no_snapshot(
     assert_eq!(rt; refused, Some(Failure::Refused(want)));
 }
 
-// Each of the three calls that count is refused, since the pass is spent.
+// Checks that each of the three calls that count is refused, since the pass is spent.
 fn check_spent(rt: &(impl Abort + Alloc<A = Global> + Wait), store: &Store, pass: &mut Pass)
     requires { IsPassOf store.now pass.old }
     ensures { IsPassOf store.now pass.new }
@@ -89,7 +89,7 @@ fn counts_each_call(rt: HostRuntime) -> Result<(), Fail> {
     Ok(())
 }
 
-// However often a spent pass calls, it is refused, before all other refusals, and can still pass on what it has seen.
+// A spent pass is refused however often it calls, before any other reason, and can still pass on what it has seen.
 #[test]
 fn refuses_each_call_of_a_pass_that_is_spent(rt: HostRuntime) -> Result<(), Fail> {
     let (store, mut pass) = one_pass(rt.alloc(), 2)?;
@@ -104,7 +104,7 @@ fn refuses_each_call_of_a_pass_that_is_spent(rt: HostRuntime) -> Result<(), Fail
     Ok(())
 }
 
-// Checks the number of a snapshot, and how many rows of `t` it shows.
+// Checks the number of a snapshot, and how many rows its table `t` has.
 pub(crate) fn check_snapshot(rt: &impl Abort, snapshot: &Snapshot, number: u64, rows: usize) {
     assert!(rt; snapshot.number() == number);
     let table = Name::parse(b"t").expect(rt, "a name");
@@ -135,7 +135,7 @@ fn keeps_a_snapshot_while_changes_go_on(rt: HostRuntime) -> Result<(), Fail> {
     Ok(())
 }
 
-// What a snapshot shows bounds those as of an earlier commit, not what its book has.
+// A snapshot of a snapshot is limited by the commits that the first shows, not by those of its book.
 #[test]
 fn looks_back_from_a_snapshot(rt: HostRuntime) -> Result<(), Fail> {
     let (store, mut pass) = one_pass(rt.alloc(), 4)?;

@@ -1,4 +1,4 @@
-//! Callers that meet: what one has seen, the other has seen then.
+//! Callers that meet: one has then seen all that the other has seen.
 
 ghost use Rattle.std.specs.Prelude.{IfOk, IfSome};
 ghost use Rattle.store_core.specs.Passes.{IsPassOf};
@@ -12,7 +12,7 @@ use std::test::Fail;
 use std::thread::join;
 use store_core::{Pass, Store, StoreRefused};
 
-// A store with two passes of three calls each.
+// Returns a store with two passes of three calls each.
 pub(crate) fn two_passes(alloc: Global) -> Result<(Store, Pass, Pass), Fail>
     ensures { IfOk result (λ made. IsPassOf made.0 made.1 × IsPassOf made.0 made.2) }
 {
@@ -23,7 +23,7 @@ pub(crate) fn two_passes(alloc: Global) -> Result<(Store, Pass, Pass), Fail>
     }
 }
 
-// Makes a table, and takes a snapshot, which has it: the pass, and the commit's number.
+// Makes a table, and takes a snapshot that has it. Returns the pass and the commit's number.
 pub(crate) fn make_and_look<R: Wait>(
     rt: &R,
     alloc: Global,
@@ -42,7 +42,7 @@ pub(crate) fn make_and_look<R: Wait>(
     Some((pass, number))
 }
 
-// Whether the first caller made that commit alone, and the second each other.
+// Returns whether the first caller made that commit only, and the second all others.
 pub(crate) fn are_by(log: &[Entry], number: u64) -> bool {
     log.iter().all(|entry| entry.by == if entry.number == number { 1 } else { 2 })
 }

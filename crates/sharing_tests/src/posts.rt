@@ -1,4 +1,4 @@
-//! Notes that go through a post, while their maker's thread runs on.
+//! Notes sent through a post while the sender's thread runs on.
 
 ghost use Rattle.std.specs.Prelude.{IfSome};
 ghost use Rattle.store_core.specs.Passes.{IsNoteOf, IsPassOf};
@@ -14,10 +14,10 @@ use std::thread;
 use std::thread::join;
 use store_core::{Note, Pass, Post, Store};
 
-// How often a thread looks whether a note has come.
+// How often a thread checks whether a note has arrived.
 const LOOKS: u64 = 10_000_000;
 
-// Makes a table, and sends a note of it: the commit's number.
+// Makes a table, and sends a note of it. Returns the commit's number.
 fn make_and_send<R: Wait>(
     rt: &R,
     alloc: Global,
@@ -35,7 +35,7 @@ fn make_and_send<R: Wait>(
     }
 }
 
-// The note that comes; none where it doesn't come in so many looks.
+// Returns the note that arrives, or `None` if none does before the checks are used up.
 fn wait_for_note<R: Wait>(rt: &R, store: &Store, post: &Post) -> Option<Note>
     requires { IsPostOf store.now post.now }
     ensures { IfSome result (IsNoteOf store.now) }
@@ -49,7 +49,7 @@ fn wait_for_note<R: Wait>(rt: &R, store: &Store, post: &Post) -> Option<Note>
     None
 }
 
-// Hears the note that comes, makes a table, and reads the log.
+// Hears the note that arrives, makes a table, and returns the log.
 fn hear_and_make<R: Wait>(
     rt: &R,
     alloc: Global,

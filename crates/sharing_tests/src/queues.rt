@@ -1,4 +1,4 @@
-//! More callers than processors, each of whom holds its turn for a moment: none is left waiting.
+//! More callers than processors, each of which holds its turn for a moment: all are served.
 
 ghost use Rattle.std.specs.Prelude.{◌≡◌, ℕ, ◌+◌, ◌<◌, IfOk, Some, slice_get};
 ghost use Rattle.turn_core.specs.Calls.{IsSameCaller};
@@ -13,13 +13,13 @@ use std::test::Fail;
 use std::thread;
 use turn_core::{Seat, Turn};
 
-// As many as a turn has seats.
+// The most seats of a turn.
 const CALLERS: u32 = 16;
 
-// How often a caller looks whether all others have added their numbers.
+// How often a caller checks whether all others have added their numbers.
 const LOOKS: u64 = 10_000_000;
 
-// A turn over no numbers, and its seats.
+// Returns a turn over no numbers, and its seats.
 fn many_seats(alloc: Global) -> Result<(Turn<Numbers>, Vec<Seat<Numbers>>), Fail>
     ensures { IfOk result (λ made. (i : ℕ) (seat : _) → slice_get made.1.items i ≡ Some seat
         → IsSeatOf made.0 seat × (0 < (view_of seat).number) × (1 < (view_of seat).left)) }
@@ -38,7 +38,7 @@ fn linger() {
     }
 }
 
-// Adds a number as the seat's caller, at a turn that is held for a moment; false where memory is refused.
+// Adds a number as the seat's caller, in a turn that it holds for a moment. Returns false if memory is refused.
 fn add_slowly<R: Wait>(rt: &R, turn: &Turn<Numbers>, seat: &mut Seat<Numbers>, number: u64) -> bool
     requires turn { IsSeatOf turn.now seat.old }
     requires caller { 0 < (view_of seat.old).number }
@@ -62,7 +62,7 @@ fn add_slowly<R: Wait>(rt: &R, turn: &Turn<Numbers>, seat: &mut Seat<Numbers>, n
     )
 }
 
-// Waits until all callers have added their numbers; false where they haven't after so many looks.
+// Waits until all callers have added their numbers. Returns false if they haven't before the checks are used up.
 fn have_all_added(added: &AtomicU64) -> bool {
     for _ in 0..LOOKS {
         if added.load(Ordering::SeqCst) == CALLERS as u64 {
@@ -73,7 +73,8 @@ fn have_all_added(added: &AtomicU64) -> bool {
     false
 }
 
-// Adds a number, and looks once all callers have done so; None where memory is refused, or one hasn't.
+// Adds a number, and reads all numbers after all callers have added theirs. Returns `None` if memory is refused, or a
+// caller hasn't added its number.
 fn add_and_look<R: Wait>(
     rt: &R,
     turn: &Turn<Numbers>,
@@ -94,7 +95,7 @@ fn add_and_look<R: Wait>(
     look(rt, turn, &mut seat)
 }
 
-// Whether a caller saw the number of each caller once, and nothing else.
+// Returns whether a caller saw the number of each caller once, and nothing else.
 fn saw_all(seen: &Option<Vec<Added>>) -> bool {
     match seen {
         Some(list) => list.len() == CALLERS as usize

@@ -13,8 +13,8 @@ use store_core::{Pass, Snapshot, Store};
 
 const ROUNDS: u64 = 1_000;
 
-// Adds a row, and takes a snapshot and the log, which have it: the first commit made the table, and each round
-// before this one added a row.
+// Adds a row, and checks that a snapshot and the log have it: the first commit made the table, and each earlier round
+// added a row.
 fn check_round(
     rt: &(impl Abort + Alloc<A = Global> + Wait),
     store: &Store,
@@ -33,7 +33,7 @@ fn check_round(
     snapshot
 }
 
-// Checks that the snapshot of the round before shows what it did, though a round has passed.
+// Checks that the snapshot of the round before is unchanged after this round.
 fn check_kept(rt: &impl Abort, kept: &Option<Snapshot>, round: u64)
     requires { (1 ≤ round) × (round ≤ 1000) }
 {

@@ -1,4 +1,4 @@
-//! A join on a snapshot, while another caller commits a change, and while others query other snapshots.
+//! A join on a snapshot, while another caller commits a change, and while other threads query other snapshots.
 
 ghost use Rattle.std.specs.Prelude.{IfOk};
 ghost use Rattle.store_core.specs.Passes.{IsPassOf};
@@ -20,10 +20,10 @@ use store_core::{Pass, Snapshot, Store};
 use table_core::{RowRef, SharedRows};
 use work_core::{Gate, PairName};
 
-// How often a thread looks whether another has come so far.
+// How often a thread checks how far another has come.
 const TURNS: u64 = 10_000_000;
 
-// Waits for a flag; false where it isn't set after so many looks.
+// Waits for a flag. Returns false if it isn't set before the checks are used up.
 fn comes(flag: &AtomicU64) -> bool {
     for _ in 0..TURNS {
         if flag.load(Ordering::SeqCst) == 1 {
@@ -34,7 +34,7 @@ fn comes(flag: &AtomicU64) -> bool {
     false
 }
 
-// Holds each pair of a join until another caller, or all others, have ended.
+// Delays each pair of a join until another caller, or all others, have ended.
 #[derive(Drop)]
 struct Holds {
     entered: AtomicU64,
@@ -79,7 +79,7 @@ fn join_itself<R: Threads + Sync>(
     join(rt, alloc, side, side, &[], 2, gate).ok()
 }
 
-// How many rows a snapshot's table has, and how many its join with itself.
+// Returns how many rows a snapshot's table has, and how many its join with itself.
 fn join_rows<R: Threads + Wait + Sync>(
     rt: &R,
     alloc: Global,
@@ -95,7 +95,7 @@ fn join_rows<R: Threads + Wait + Sync>(
     Some((rows.len(), joined.rows.len()))
 }
 
-// Once the join is held, commits a load and takes a snapshot: its number, and how many rows it shows.
+// Waits until the join is delayed, commits a load and takes a snapshot. Returns its number, and how many rows it shows.
 fn commit_and_look<R: Wait>(
     rt: &R,
     alloc: Global,
@@ -115,7 +115,7 @@ fn commit_and_look<R: Wait>(
     Some((snapshot.number(), rows.len()))
 }
 
-// A store whose table has one row, and its two passes.
+// Returns a store whose table has one row, and its two passes.
 fn one_row<R: Wait>(rt: &R, alloc: Global) -> Result<(Store, Pass, Pass), Fail>
     ensures { IfOk result (λ made. IsPassOf made.0 made.1 × IsPassOf made.0 made.2) }
 {
@@ -141,7 +141,7 @@ fn a_join_holds_no_commit_up(rt: HostRuntime) -> Result<(), Fail> {
     Ok(())
 }
 
-// The rows of a snapshot's table that hold on the day of the tests' rows.
+// Returns the rows of a snapshot's table that hold on the day of the tests' rows.
 fn rows_of_day(alloc: Global, snapshot: &Snapshot) -> Option<SharedRows> {
     let table = Name::parse(b"t").ok()?;
     let point = Point::parse(b"2024-01-01").ok()?;
@@ -153,7 +153,7 @@ fn rows_of_day(alloc: Global, snapshot: &Snapshot) -> Option<SharedRows> {
     at(alloc, side, point).ok()
 }
 
-// Once the join is held, queries two snapshots at once.
+// Waits until the join is delayed, and queries two snapshots at once.
 fn query_two<R: Threads + Sync>(
     rt: &R,
     alloc: Global,
@@ -173,7 +173,7 @@ fn query_two<R: Threads + Sync>(
     found
 }
 
-// The snapshots of a store's second and third commit, each of which added a row of one day.
+// Returns the snapshots of a store's second and third commit, each of which added a row of one day.
 fn two_snapshots<R: Wait>(rt: &R, alloc: Global) -> Result<(Snapshot, Snapshot), Fail> {
     let (store, mut first, mut second) = one_row(rt, alloc)?;
     store.commit(rt, &mut first, load(alloc, b"t")?)?;
@@ -182,7 +182,7 @@ fn two_snapshots<R: Wait>(rt: &R, alloc: Global) -> Result<(Snapshot, Snapshot),
     Ok((early, late))
 }
 
-// Checks that rows of the tests' day were found, which have the ids from 1 on.
+// Checks that `count` rows of the tests' day were found, with ids from 1 on.
 fn check_rows(rt: &impl Abort, found: Option<SharedRows>, count: usize) {
     let rows = found.expect(rt, "rows");
     assert!(rt; rows.len() == count);
@@ -195,7 +195,7 @@ fn is_row(row: RowRef<'_>, id: u64) -> bool {
     row.id() == id && is_day(row.period()) && row.width() == 0
 }
 
-// Whether the period is the day of the tests' rows.
+// Returns whether the period is the day of the tests' rows.
 fn is_day(period: Period) -> bool {
     match (Point::parse(b"2024-01-01"), Point::parse(b"2024-01-02")) {
         (Ok(from), Ok(to)) => Period::new(from, to) == Ok(period),
@@ -206,7 +206,7 @@ fn is_day(period: Period) -> bool {
 // The pairs of a join of two rows of one day with themselves.
 const PAIRS: [(u64, u64); 4] = [(1, 1), (1, 2), (2, 1), (2, 2)];
 
-// Checks that these are the ids of the rows that were joined.
+// Checks the ids of the rows that were joined.
 fn check_pairs(rt: &impl Abort, joined: Option<JoinAnswer>, pairs: &[(u64, u64)]) {
     let rows = joined.expect(rt, "a join").rows;
     assert!(rt; rows.len() == pairs.len());
@@ -240,7 +240,7 @@ fn a_join_holds_no_query_of_other_snapshots_up(rt: HostRuntime) -> Result<(), Fa
     Ok(())
 }
 
-// What holds two joins, of an earlier snapshot and of a later one.
+// Delays two joins, of an earlier snapshot and of a later one.
 #[derive(Drop)]
 struct TwoHolds {
     early: Holds,
@@ -262,8 +262,8 @@ fn join_two<R: Threads + Sync>(
     )
 }
 
-// Once both joins are held, commits a load and takes a snapshot, and only then lets them go on: the snapshot's number,
-// and how many rows it shows.
+// Waits until both joins are delayed, commits a load and takes a snapshot, and only then lets the joins continue.
+// Returns the snapshot's number, and how many rows it shows.
 fn commit_beside<R: Wait>(
     rt: &R,
     alloc: Global,

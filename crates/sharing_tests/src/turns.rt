@@ -1,4 +1,4 @@
-//! A turn over numbers: what each caller adds stands there once, and who has heard of it has seen it.
+//! A turn over numbers: each number that a caller adds is there once, and a caller that has heard of it has seen it.
 
 ghost use Rattle.std.specs.Prelude.{◌≡◌, ◌+◌, ◌<◌, ◌∷◌, ◌++◌, [], Contains, IfOk, IfSome, IsTrue};
 ghost use mathlib.Core.List.{IsPrefix};
@@ -19,7 +19,7 @@ pub(crate) struct Added {
     pub number: u64,
 }
 
-// The numbers that callers added, for so many seats.
+// The numbers that callers added, and the number of the turn's seats.
 #[derive(Drop)]
 pub(crate) struct Numbers {
     pub seats: u32,
@@ -37,7 +37,7 @@ impl Kept for Numbers {
 }
 
 impl Numbers {
-    // Adds a number; false where memory is refused.
+    // Adds a number. Returns false if memory is refused.
     pub fn add(&mut self, by: u32, number: u64) -> bool
         ensures seats { self.new.seats ≡ self.old.seats }
         ensures adds { AddsAtMostOne
@@ -50,7 +50,7 @@ impl Numbers {
     }
 }
 
-// A turn over no numbers, with two seats.
+// Returns a turn over no numbers, with two seats.
 fn two_seats(alloc: Global) -> Result<(Turn<Numbers>, Seat<Numbers>, Seat<Numbers>), Fail>
     ensures turn { IfOk result (λ made. IsSeatOf made.0 made.1 × IsSeatOf made.0 made.2) }
     ensures numbers { IfOk result (λ made. ((view_of made.1).number ≡ 1)
@@ -68,7 +68,7 @@ fn two_seats(alloc: Global) -> Result<(Turn<Numbers>, Seat<Numbers>, Seat<Number
     }
 }
 
-// Adds a number as the seat's caller, which has seen it then; false where memory is refused.
+// Adds a number as the seat's caller, which has then seen it. Returns false if memory is refused.
 fn add<R: Wait>(rt: &R, turn: &Turn<Numbers>, seat: &mut Seat<Numbers>, number: u64) -> bool
     requires turn { IsSeatOf turn.now seat.old }
     requires caller { 0 < (view_of seat.old).number }
@@ -95,7 +95,7 @@ fn add<R: Wait>(rt: &R, turn: &Turn<Numbers>, seat: &mut Seat<Numbers>, number: 
     )
 }
 
-// Adds a number, and gives the seat back; None where memory is refused.
+// Adds a number, and returns the seat; `None` if memory is refused.
 fn add_alone<R: Wait>(
     rt: &R,
     turn: &Turn<Numbers>,
@@ -118,7 +118,7 @@ fn add_alone<R: Wait>(
     }
 }
 
-// A copy of the numbers, which begin with those that the seat has seen; None where memory is refused.
+// Returns a copy of the numbers, which begin with those that the seat has seen; `None` if memory is refused.
 pub(crate) fn look<R: Wait>(
     rt: &R,
     turn: &Turn<Numbers>,
@@ -143,7 +143,7 @@ pub(crate) fn look<R: Wait>(
     )
 }
 
-// Tells the first seat what the second has seen.
+// Lets the first seat hear what the second has seen.
 fn tell(turn: &Turn<Numbers>, first: &mut Seat<Numbers>, second: &mut Seat<Numbers>)
     requires turn { IsSeatOf turn.now first.old × IsSeatOf turn.now second.old }
     requires caller { 0 < (view_of first.old).number }
@@ -157,7 +157,7 @@ fn tell(turn: &Turn<Numbers>, first: &mut Seat<Numbers>, second: &mut Seat<Numbe
     turn.join(first, other);
 }
 
-// How often the list has a number of that caller.
+// Returns how often the list has this number of that caller.
 pub(crate) fn count(list: &[Added], by: u32, number: u64) -> usize {
     let wanted = Added { by, number };
     list.iter().filter(|added| **added == wanted).count()

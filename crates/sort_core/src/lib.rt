@@ -1,6 +1,6 @@
 #![tactic(auto)]
 
-//! Sorting in place, on threads where there is enough to sort.
+//! Sorting in place, on several threads if there is enough to sort.
 
 ghost use Rattle.std.specs.Prelude.{◌≡◌, length, IsPermutation, IsSorted, OnOk};
 ghost use Rattle.std.specs.List.Sorted.{IsSortedByKeyClosure, IsStableByKeyClosure};
@@ -10,11 +10,11 @@ use std::alloc::{AllocError, Global};
 use std::marker::Send;
 use std::thread::Threads;
 
-/// From how many items on threads pay: fewer are sorted sooner by one.
+/// The smallest number of items that is sorted on several threads: fewer are sorted faster by one.
 const ITEMS_FOR_THREADS: usize = 100_000;
 
-/// Sorts the items: on as many threads as there are processors where they are many, and on one for one worker. Equal
-/// ones may change places.
+/// Sorts the items. Many items are sorted on one thread per processor, unless `workers` is 1. Equal items may be
+/// reordered.
 pub fn sort_unstable<R: Threads + Sync, T: Ord + Send>(rt: &R, items: &mut Vec<T>, workers: u32)
     ensures permutation { IsPermutation items.old.items items.new.items }
     ensures len { length items.new.items ≡ length items.old.items }
@@ -27,8 +27,8 @@ pub fn sort_unstable<R: Threads + Sync, T: Ord + Send>(rt: &R, items: &mut Vec<T
     }
 }
 
-/// Sorts the items by the keys that `key` gives, on as many threads as `sort_unstable` does. Items of equal keys may
-/// change places.
+/// Sorts the items by the keys that `key` returns, on threads as `sort_unstable` does. Items with equal keys may be
+/// reordered.
 pub fn sort_unstable_by_key<
     R: Threads + Sync,
     T: Send,
@@ -46,12 +46,13 @@ pub fn sort_unstable_by_key<
     }
 }
 
-/// Sorts the items by the keys that `key` gives, on as many threads as `sort_unstable` does. Items of equal keys stay in
-/// their order.
+/// Sorts the items by the keys that `key` returns, on threads as `sort_unstable` does. Items with equal keys keep their
+/// order.
 ///
 /// # Errors
 ///
-/// `AllocError` where a growth is refused: then the items may not be sorted, but those of equal keys stand in their order.
+/// `AllocError` if an allocation is refused. The items may then be unsorted, but items with equal keys keep their
+/// order.
 pub fn sort_by_key<
     R: Threads + Sync,
     T: Send,
@@ -70,7 +71,7 @@ pub fn sort_by_key<
     }
 }
 
-/// Whether one thread sorts so many items for so many workers.
+/// Returns whether one thread sorts `count` items for that many workers.
 fn one_is_enough(count: usize, workers: u32) -> bool {
     workers < 2 || count < ITEMS_FOR_THREADS
 }

@@ -31,17 +31,17 @@ own-alone pass one =
     )
 
 module _ (p q : Pass) (one : passes_of p ≡ 1) where
-  -- it has no other pass beside it after a call either
+  -- after a call it is still the only pass
   pub stays-alone : (added : History) → Counts p q added → passes_of q ≡ 1
   stays-alone added counts = counts.sees.passes ∙ one
 
-  -- what a call adds to its own changes, it adds to what it has seen
+  -- the changes that a call adds to its own, it adds to what it has seen
   pub grows-alone : (added : History) → Counts p q added → seen q ≡ seen p ++ added
   grows-alone added counts =
       (own-alone q (stays-alone added counts)).1
       ∙ (counts.mine ∙ ap (λ (l : History). l ++ added) (sym (own-alone p one).1))
 
-  -- a call that adds none leaves it
+  -- a call that adds none leaves what it has seen
   pub keeps-alone : Counts p q [] → seen q ≡ seen p
   keeps-alone counts = grows-alone [] counts ∙ append-nil (seen p)
 
@@ -57,13 +57,13 @@ module _ (p q : Pass) (one : passes_of p ≡ 1) where
       (same_from_push before (seen p) (commit (pass_number p) change) c (sym is ∙ grown)).0 in
       (subst (λ (h : History). refusal_after h change ≡ None) same accepted, grown, number)
 
-  -- and refused so
+  -- so is a refusal
   pub refuses-alone : (change : Change) (why : BookRefused) → Commits p change (Err (Refused (store.Book why))) q
       → CommitsTo (seen p) 1 change (Err (Refused why)) (seen q)
   refuses-alone change why (counts, refused) =
       let same = keeps-alone counts in (same, subst (λ (h : History). refusal_after h change ≡ Some why) same refused)
 
-  -- and for want of memory so
+  -- and a refusal of memory
   pub runs_out-alone : (change : Change) → Commits p change (Err NoMemory) q
       → CommitsTo (seen p) 1 change (Err NoMemory) (seen q)
   runs_out-alone change (counts, unrefused) =

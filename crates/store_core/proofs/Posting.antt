@@ -15,7 +15,7 @@ set_only [] x one = absurd (omega arith)
 set_only (h ∷ []) x one = refl
 set_only (h ∷ k ∷ hs) x one = absurd (omega arith)
 
--- a caller shuts the gate: it has the slot where the gate was open
+-- a caller shuts the gate; it has the slot if the gate was open
 pub may_shut : (slots : ℕ) (s : Store)
     → Arrives (KeepsNotesOf s) slots 0 (λ _. 1) (TakesSlot (s, []))
 may_shut slots s t r _ _ =
@@ -37,7 +37,7 @@ may_shut slots s t r _ _ =
       λ e. absurd (out (sym found ∙ e)),
     ))
 
--- who has the slot opens the gate, over a note of the store or none
+-- the caller with the slot opens the gate, with a note of the store in the slot, or without one
 pub may_reopen : (slots id : ℕ) (s v : Store) (lies : Option Note) (taken : List (ℕ × Option Note)) → slots ≡ 1
     → taken ≡ (0, lies) ∷ [] → IsOfStore s lies
     → Allows (KeepsNotesOf s) slots id (v, taken) 0 (λ _. 0) (λ _ _. Unit {0})

@@ -1,4 +1,4 @@
--- Why a book refuses a change, and what the exit of a `?` answers then.
+-- Why a book refuses a change, and the value that `?` returns then.
 use Rattle.std.proofs.Common.{◌≡◌, ℕ, inl, inr, Option, Some, None, Result, Ok, Err, IfErr, IfSome, IfNone, IsOkUnless, refl, ap, ◌∙◌, sym, subst}
 use Rattle.row_core.specs.declared.failure.Failure.{Failure}
 use Rattle.row_core.specs.declared.failure.Failure.TheVariants.{Refused, NoMemory}
@@ -25,7 +25,7 @@ module _ (h : History) (change : Change) where
   by-name (Refused why) (Some name) is (inl e) none = is ∙ ap Some (sym (ap (name_in name) e))
   by-name (Refused why) (Some name) is (inr e) none = absurd (let f = e.1 in cc)
 
-  -- what a book answers is the first refusal that applies, or memory is refused
+  -- a book returns the first reason that applies, or memory is refused
   pub RefusesCommit-of : (why : Failure BookRefused) → IfSome (refusal_after h change) (IsRefusedAs {T = ℕ} (Err why))
       → IfNone (refusal_after h change) (IsOkUnless {T = ℕ} (Err why) NoMemory) → RefusesCommit h change why
   RefusesCommit-of why some none = by-name why (refusal_after h change) refl some none
@@ -35,12 +35,12 @@ none_of None n some = refl
 none_of (Some name) n (inl e) = absurd (cc)
 none_of (Some name) n (inr e) = absurd (let f = e.1 in cc)
 
--- what is accepted nothing refuses
+-- an accepted change has no reason to be refused
 pub none-accepted : (h : History) (change : Change) (n : ℕ)
     → IfSome (refusal_after h change) (IsRefusedAs {T = ℕ} (Ok n)) → refusal_after h change ≡ None
 none-accepted h change n some = none_of (refusal_after h change) n some
 
--- what holds of the error holds of the answer
+-- a fact about the error is one about the answer
 pub exit-answers : {U E : Type 0} (r : Result U E) (e : E) (P : E → Type 0) → (y : E) × (r ≡ Err y) × (y ≡ e) → P e
     → IfErr r P
 exit-answers r e P (y, is, same) p = subst (λ o. IfErr o P) (sym is) (subst P (sym same) p)

@@ -1,4 +1,4 @@
--- The history of a store: whose changes it has, and what one more does to it.
+-- The history of a store: the passes' changes, and the effect of one more.
 use Rattle.std.specs.Prelude.{◌≡◌, ℕ, [], ◌∷◌, ◌++◌, length, take, Option, None, Some, Result, Ok, Err, refl, ◌⊎◌}
 use Rattle.std.proofs.Common.{sym, ◌∙◌, ap}
 use mathlib.Core.Path.{path_j'}
@@ -24,19 +24,19 @@ commit by change = record { by = by; change = change }
 abbrev pub refusal_after : History → Change → Option BookRefused
 refusal_after h change = refusal_of (length h) (state_after h) change
 
--- the change is refused by the first name that applies after the history; memory is only where none does, or where the
--- test of keys would refuse the change
+-- the change is refused for the first reason that applies after the history; it is `NoMemory` only if no reason
+-- applies, or if the test of keys would refuse the change
 abbrev pub RefusesCommit : History → Change → Failure BookRefused → Type 0
 RefusesCommit h change (Refused why) = refusal_after h change ≡ Some why
 RefusesCommit h change NoMemory = (refusal_after h change ≡ None) ⊎ (refusal_after h change ≡ Some KeyOverlap)
 
--- what a change of a pass does to the history, and is answered: it is accepted, and its number is how many changes
--- there are with it, or the history stays
+-- the effect of a pass's change on the history, and the reply: it is accepted, and the reply is the number of changes
+-- with it, or the history stays
 abbrev pub CommitsTo : History → ℕ → Change → Result ℕ (Failure BookRefused) → History → Type 0
 CommitsTo h by change (Ok n) k = (refusal_after h change ≡ None) × (k ≡ h ++ commit by change ∷ []) × (n ≡ length k)
 CommitsTo h by change (Err why) k = (k ≡ h) × RefusesCommit h change why
 
--- that there is no value can be shown in one way, so that a type may keep that a history is legal
+-- a proof that an option has no value is unique, so that a type may record that a history is legal
 module _ {T : Type 0} where
   abbrev IsNo : Option T → Type 0
   IsNo None = Unit {0}
@@ -60,6 +60,6 @@ module _ {T : Type 0} where
   none-prop : (o : Option T) → IsProp (o ≡ None)
   none-prop o p q = sym (round o p) ∙ ap (no_value o) (IsNo-prop o (is_no o p) (is_no o q)) ∙ round o q
 
--- that a history is legal is not so in two ways
+-- a proof that a history is legal is unique
 pub IsLegal-prop : (h : History) → IsProp (IsLegal h)
 IsLegal-prop h = Π_prop (λ n. Π_prop (λ c. →_prop (none-prop (refusal_of n (state_after (take n h)) c.change))))

@@ -51,8 +51,8 @@ calls_left p = p.left
 abbrev pub IsPassOf : Store → Pass → Type 0
 IsPassOf s p = IsSeatOf s.turn p.seat
 
--- what a pass knows after a call: it has seen what it had seen, and maybe more, in one legal history, which has its
--- own changes, each once, and else only those of other passes
+-- what a pass knows after a call: it has seen all that it had seen, and maybe more, in one legal history, which has
+-- each of its own changes once, and otherwise only changes of other passes
 pub record Sees (p q : Pass) : Type 0 where
   pub number : pass_number q ≡ pass_number p
   pub passes : passes_of q ≡ passes_of p
@@ -61,7 +61,7 @@ pub record Sees (p q : Pass) : Type 0 where
   pub own : own by_of (pass_number q) (seen q) ≡ mine q
   pub numbered : AreOfCallers by_of (passes_of q) (seen q)
 
--- the same of a call that counts, by which these changes of its own came
+-- the same of a call that counts, with the changes of its own that it added
 pub record Counts (p q : Pass) (added : History) : Type 0 where
   pub left : calls_left q + 1 ≡ calls_left p
   pub sees : Sees p q
@@ -71,8 +71,8 @@ pub record Counts (p q : Pass) (added : History) : Type 0 where
 abbrev pub IsSpent : Pass → Pass → Type 0
 IsSpent p q = (calls_left p ≡ 0) × (q ≡ p)
 
--- what a pass is replied when it commits a change: its change is the last that it has seen, accepted in its place,
--- or it is refused as after all that it has seen, by name or for want of memory
+-- the reply to a pass that commits a change: its change is the last one that it has seen, accepted in the state before
+-- it; or it is refused after all that the pass has seen, for a reason or for lack of memory
 abbrev pub Commits : Pass → Change → Result ℕ (Failure StoreRefused) → Pass → Type 0
 Commits p change (Ok n) q = Counts p q (commit (pass_number p) change ∷ [])
     × ((before : History)
@@ -82,20 +82,20 @@ Commits p change (Err (Refused store.PassSpent)) q = IsSpent p q
 Commits p change (Err (Refused (store.Book why))) q = Counts p q [] × (refusal_after (seen q) change ≡ Some why)
 Commits p change (Err NoMemory) q = Counts p q [] × RefusesCommit (seen q) change NoMemory
 
--- and when it takes a snapshot: one of all that it has seen
+-- the reply to a pass that takes a snapshot: one of all that it has seen
 abbrev pub TakesSnapshot : Pass → Option ℕ → Result Snapshot (Failure SnapshotRefused) → Pass → Type 0
 TakesSnapshot p n (Ok s) q = Counts p q [] × Shows (seen q) n (Ok s)
 TakesSnapshot p n (Err (Refused snapshot.PassSpent)) q = IsSpent p q
 TakesSnapshot p n (Err (Refused snapshot.Future)) q = Counts p q [] × Shows (seen q) n (Err (Refused record {}))
 TakesSnapshot p n (Err NoMemory) q = Counts p q [] × Shows (seen q) n (Err NoMemory)
 
--- and when it reads the log: that of all that it has seen
+-- the reply to a pass that reads the log: the log of all that it has seen
 abbrev pub ReadsLog : Pass → Result (List Entry) (Failure PassSpent) → Pass → Type 0
 ReadsLog p (Ok log) q = Counts p q [] × (log ≡ log_of (seen q))
 ReadsLog p (Err (Refused spent)) q = IsSpent p q
 ReadsLog p (Err NoMemory) q = Counts p q []
 
--- a pass that has seen nothing and made nothing, of this number, of so many, with so many calls
+-- a new pass with this number, of n passes, with this many calls; it has seen nothing and made nothing
 pub record IsFresh (k n calls : ℕ) (p : Pass) : Type 0 where
   pub number : pass_number p ≡ k
   pub passes : passes_of p ≡ n
@@ -103,12 +103,12 @@ pub record IsFresh (k n calls : ℕ) (p : Pass) : Type 0 where
   pub seen : seen p ≡ []
   pub mine : mine p ≡ []
 
--- the passes of a new store: so many, each with so many calls, and at place i the one with number i + 1
+-- the passes of a new store: n of them, each with this many calls; the one at index i has the number i + 1
 pub record AreNew (n calls : ℕ) (s : Store) (ps : List Pass) : Type 0 where
   pub count : length ps ≡ n
   pub each : (i : ℕ) (p : Pass) → slice_get ps i ≡ Some p → IsPassOf s p × IsFresh (i + 1) n calls p
 
--- what a note says: the number of the pass that made it, what it had seen, and its own changes
+-- what a note says: the number of the pass that made it, what that pass had seen, and its own changes
 abbrev pub note_view : Note → View Commit
 note_view n = view_of n.seat
 
@@ -116,7 +116,7 @@ note_view n = view_of n.seat
 abbrev pub IsNoteOf : Store → Note → Type 0
 IsNoteOf s n = IsSeatOf s.turn n.seat
 
--- the note says what the pass knows, which stays as it is
+-- the note says what the pass knows; the pass doesn't change
 pub record MakesNote (s : Store) (p q : Pass) (n : Note) : Type 0 where
   pub pass : IsPassOf s q
   pub note : IsNoteOf s n
@@ -126,8 +126,8 @@ pub record MakesNote (s : Store) (p q : Pass) (n : Note) : Type 0 where
   pub seen : (note_view n).seen ≡ seen p
   pub mine : (note_view n).mine ≡ mine p
 
--- the pass has seen all that it had seen, and all that the note says, in one legal history, which one of the two had
--- seen, and in which the changes of both stand, each once; its own changes and its calls stay
+-- the pass has seen all that it had seen, and all that the note says, in one legal history that one of the two had
+-- seen; it has the changes of both, each once. The pass's own changes and its calls stay
 pub record Hears (s : Store) (p : Pass) (n : Note) (q : Pass) : Type 0 where
   pub pass : IsPassOf s q
   pub left : calls_left q ≡ calls_left p

@@ -8,6 +8,6 @@ use Rattle.store_core.specs.declared.shelf.Shelf.{Shelf}
 abbrev pub shelf_history : Shelf → History
 shelf_history shelf = arc_value shelf.book
 
--- how many passes it is for
+-- the number of its store's passes
 abbrev pub passes_in : Shelf → ℕ
 passes_in shelf = shelf.passes

@@ -1,13 +1,13 @@
 #![tactic(auto)]
 
-//! A store that callers on their own threads share: one history of changes, of which each sees a front.
+//! A store that callers on several threads share: one history of changes. Each caller has seen a prefix of it.
 //!
-//! A `Store` is a `Shelf` that its callers take in turn; each of them has a `Pass`, which may make so many calls.
-//! A commit, a snapshot or a log answers what the book of one thread answers after what the pass has then seen,
-//! and all that a pass has seen is one legal history. A `Snapshot` shares its book and holds nothing up. A `Note`
-//! tells another pass what one has seen; who hears it sees no less from then on.
+//! A `Store` is a `Shelf` that its callers take in turn. Each caller has a `Pass` with a limited number of calls. A
+//! commit, a snapshot or a log returns what a book of a single thread returns after the changes that the pass has then
+//! seen. All that a pass has seen is one legal history. A `Snapshot` shares its book and delays nobody. A `Note`
+//! carries what one pass has seen to another pass, which has seen at least as much once it `hear`s the note.
 //!
-//! A `Post` takes a note to a thread that runs, and keeps that it is of the store.
+//! A `Post` passes a note to a running thread, and its type records that the note is of this store.
 
 mod pass;
 mod post;

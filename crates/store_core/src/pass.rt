@@ -8,8 +8,8 @@ ghost use Rattle.store_core.specs.Histories.{IsLegal-prop};
 use crate::shelf::Shelf;
 use turn_core::Seat;
 
-/// A caller's right to so many calls of a store. Contracts see its number, the history that it has seen, and which
-/// changes in it are its own.
+/// A caller's right to a number of calls of a store. Contracts see its number, the history that it has seen, and its
+/// own changes in that history.
 #[derive(Drop)]
 pub struct Pass {
     pub(crate) left: u64,
@@ -17,7 +17,7 @@ pub struct Pass {
     ghost left_is: { left ≤ (view_of seat).left },
     // Its number is 1 or more.
     pub ghost some: { 0 < (view_of seat).number },
-    // All that it has seen was accepted in its place.
+    // Each change that it has seen was accepted in the state before it.
     pub ghost legal: { IsLegal (view_of seat).seen } by { IsLegal-prop (view_of seat).seen },
 }
 
@@ -25,28 +25,28 @@ pub struct Pass {
 #[derive(Drop)]
 pub struct Note {
     pub(crate) seat: Seat<Shelf>,
-    // All that was seen was accepted in its place.
+    // Each change that was seen was accepted in the state before it.
     pub ghost legal: { IsLegal (view_of seat).seen } by { IsLegal-prop (view_of seat).seen },
 }
 
 impl Pass {
     ghost use Rattle.store_core.specs.Passes.{calls_left, mine, pass_number, passes_of, seen};
 
-    /// Its number, from 1 on.
+    /// Returns the pass's number, from 1 on.
     pub fn number(&self) -> u32
         ensures { result ≡ pass_number self.now }
     {
         self.seat.number()
     }
 
-    /// How many calls it has left.
+    /// Returns how many calls are left.
     pub fn left(&self) -> u64
         ensures { result ≡ calls_left self.now }
     {
         self.left
     }
 
-    /// A law: in a store of one pass, all that the pass has seen is its own.
+    /// A law: in a store with one pass, all changes that the pass has seen are its own.
     pub fn has_seen_its_own(&self)
         ensures { passes_of self.now ≡ 1 → (pass_number self.now ≡ 1)
             × (seen self.now ≡ mine self.now) }

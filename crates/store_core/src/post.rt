@@ -1,4 +1,4 @@
-//! Posts: where a note lies between the thread that made it and the one that hears it.
+//! Posts, which pass notes between threads.
 
 ghost use Rattle.std.specs.Prelude.{◌≡◌, IfOk, IfSome};
 ghost use Rattle.store_core.specs.PostRule.{IsOfStore, KeepsNotesOf, TakesSlot};
@@ -11,17 +11,17 @@ use std::alloc::Global;
 use std::sync::Wait;
 use std::thread;
 
-// The place of the word in the table, and of the slot.
+// The indexes of the word and of the slot in the table.
 const GATE: usize = 0;
 
 const SLOT: usize = 0;
 
-// The gate while the slot is at home, and while a caller has it.
+// The values of the gate: the slot is in place, or a caller has it.
 const OPEN: u64 = 0;
 
 const SHUT: u64 = 1;
 
-// The rule: what lies at home is a note of the store that the table was given.
+// The rule: a note in the slot is one of the store that the table was made with.
 struct OneStore;
 
 impl TableRule<Option<Note>, Store, Store> for OneStore {
@@ -30,21 +30,21 @@ impl TableRule<Option<Note>, Store, Store> for OneStore {
     ghost first = { λ store. store };
 }
 
-// Shuts the gate; who found it open has the slot.
+// Shuts the gate; a caller that found it open has the slot.
 struct Shut;
 
 impl Play<Option<Note>, Store> for Shut {
     ghost then = { λ st m n w. TakesSlot m n w };
 }
 
-// Gives the slot back.
+// Opens the gate, with the slot back in place.
 struct Reopen;
 
 impl Play<Option<Note>, Store> for Reopen {
     ghost then = { λ st m n w. Unit {0} };
 }
 
-/// A place for one note of a store, which threads share. Whatever lies there is of that store.
+/// A mailbox for one note of a store, shared by threads. Any note in it is of that store.
 #[derive(Drop)]
 pub struct Post {
     table: Table<Option<Note>, Store, Store, OneStore, Global>,
@@ -53,7 +53,7 @@ pub struct Post {
 }
 
 impl Post {
-    // Lays this in the place of what lies there.
+    // Replaces the content of the slot, and returns the old content.
     fn exchange<R: Wait>(&self, rt: &R, new: Option<Note>) -> Option<Note>
         requires { IsOfStore self.now.table.shared.key new }
         ensures { IsOfStore self.now.table.shared.key result }
@@ -75,7 +75,7 @@ impl Store {
     ghost use Rattle.store_core.specs.Passes.{IsNoteOf};
     ghost use Rattle.store_core.specs.Posts.{IsPostOf};
 
-    /// A post for notes of this store, where none lies yet.
+    /// Returns an empty post for notes of this store.
     pub fn open_post(&self, alloc: Global) -> Result<Post, NoMemory>
         ensures { IfOk result (IsPostOf self.now) }
     {
@@ -83,7 +83,7 @@ impl Store {
         Ok(Post { table })
     }
 
-    /// Lays a note into the post, in the place of one that nobody took, which comes back. No call is counted.
+    /// Puts a note into the post, and returns the note that it replaces, if nobody took that one. Counts no call.
     pub fn send<R: Wait>(&self, rt: &R, post: &Post, note: Note) -> Option<Note>
         requires post { IsPostOf self.now post.now }
         requires note { IsNoteOf self.now note }
@@ -92,7 +92,7 @@ impl Store {
         post.exchange(rt, Some(note))
     }
 
-    /// Takes the note that lies in the post, if one does. No call is counted.
+    /// Takes the note out of the post, if there is one. Counts no call.
     pub fn receive<R: Wait>(&self, rt: &R, post: &Post) -> Option<Note>
         requires { IsPostOf self.now post.now }
         ensures { IfSome result (IsNoteOf self.now) }

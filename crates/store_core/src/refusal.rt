@@ -3,7 +3,7 @@
 use book_core::BookRefused;
 use thiserror::Error;
 
-/// There are not 1 to 16 passes of 1 to 2^40 calls each.
+/// The numbers aren't 1 to 16 passes and 1 to 2^40 calls for each.
 #[derive(Clone, Copy, Debug, PartialEq, Eq, Error)]
 #[error("not 1 to 16 passes of 1 to 2^40 calls each")]
 pub struct BadCount;
@@ -18,7 +18,7 @@ pub struct PassSpent;
 #[error("there are fewer commits")]
 pub struct Future;
 
-/// Why a store doesn't make a change, in the order of the tests.
+/// Why a store refuses a change, in the order of the tests.
 #[derive(Clone, Copy, Debug, PartialEq, Eq, Error)]
 pub enum StoreRefused {
     /// The pass has no call left.
@@ -29,7 +29,7 @@ pub enum StoreRefused {
     Book(BookRefused),
 }
 
-/// Why a store gives no snapshot, in the order of the tests.
+/// Why a store refuses a snapshot, in the order of the tests.
 #[derive(Clone, Copy, Debug, PartialEq, Eq, Error)]
 pub enum SnapshotRefused {
     /// The pass has no call left.
@@ -40,13 +40,13 @@ pub enum SnapshotRefused {
     Future,
 }
 
-/// Why a snapshot doesn't give the versions of a range of commits, in the order of the tests.
+/// Why a snapshot refuses the versions of a range of commits, in the order of the tests.
 #[derive(Clone, Copy, Debug, PartialEq, Eq, Error)]
 pub enum RangeRefused {
     /// The two commits are not in order.
     #[error("the two commits are not in order")]
     BadPeriod,
-    /// No table of that name is there.
+    /// No table has that name.
     #[error("no table of that name is there")]
     NoTable,
 }

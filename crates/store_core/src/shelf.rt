@@ -1,4 +1,4 @@
-//! The shelf: a book, and the snapshots that share it.
+//! The shelf: a book, shared with snapshots.
 
 ghost use Rattle.std.specs.Prelude.{◌≡◌, ◌<◌, ◌≤◌, [], ◌∷◌, ◌++◌, IfOk, IfErr, OnOk};
 ghost use Rattle.std.specs.Arc.{arc_value};
@@ -17,16 +17,16 @@ use std::alloc::Global;
 use std::sync::Arc;
 use turn_core::Kept;
 
-/// The book of a store that has so many passes. Snapshots share it. Contracts see the book's history, and the
-/// number of passes.
+/// The book of a store, and the number of the store's passes. Snapshots share the book. Contracts see the book's
+/// history and the number of passes.
 #[derive(Drop)]
 pub struct Shelf {
     alloc: Global,
     passes: u32,
     book: Arc<Book>,
-    // Each commit was accepted in its place.
+    // Each commit was accepted in the state before it.
     pub ghost legal: { IsLegal (arc_value book) } by { IsLegal-prop (arc_value book) },
-    // Each commit is of a pass.
+    // Each commit has a pass's number.
     pub ghost numbered: { AreOfCallers by_of passes (arc_value book) },
 }
 
@@ -42,7 +42,8 @@ impl Kept for Shelf {
     ghost mark = { passes_in };
 }
 
-// A copy of a book, with one more change. What is refused by name is refused before anything is copied.
+// Returns a copy of a book with one change more. A change that the book refuses without testing keys is refused before
+// anything is copied.
 fn changed_copy(
     alloc: Global,
     book: &Book,
@@ -61,7 +62,7 @@ fn changed_copy(
     Ok(Arc::new(alloc, copy)?)
 }
 
-// Makes a change of a shared book. Where others share it, a copy is changed, and takes its place here.
+// Makes a change of a shared book. If others share it, a copy is changed and replaces it here.
 fn change_book(
     alloc: Global,
     shared: &mut Arc<Book>,
@@ -88,7 +89,7 @@ fn change_book(
 impl Shelf {
     ghost use Rattle.store_core.specs.Shelves.{passes_in, shelf_history};
 
-    /// The shelf of a book without a table, for so many passes.
+    /// Returns the shelf of a book without tables, for that many passes.
     pub fn new(alloc: Global, passes: u32) -> Result<Shelf, NoMemory>
         requires { (1 ≤ passes) × (passes ≤ seat_limit) }
         ensures { IfOk result (λ shelf. (shelf_history shelf ≡ []) × (passes_in shelf ≡ passes)) }
@@ -103,13 +104,13 @@ impl Shelf {
         })
     }
 
-    /// Makes a change of the pass with the number `by`, and answers the commit's number, from 1 on. Where a
-    /// snapshot shares the book a copy is changed, unless the change is refused; else rows alone are copied, where
-    /// a list shares them and the change adds more.
+    /// Makes a change of the pass with the number `by`, and returns the number of its commit. Commits are numbered from
+    /// 1. If a snapshot shares the book, the change is made in a copy, unless it is refused before its keys are tested.
+    /// The table's versions and rows are copied only if they are shared too.
     ///
     /// # Errors
     ///
-    /// As for the book, in this order; `NoMemory` also where the copy is refused. After a refusal the shelf is
+    /// The book's, in the same order; `NoMemory` also if a copy is refused memory. After an error the shelf is
     /// unchanged, and the change is dropped.
     pub fn commit(&mut self, by: u32, change: Change) -> Result<u64, Failure<BookRefused>>
         requires { (0 < by) × (by ≤ passes_in self.old) }
@@ -123,12 +124,12 @@ impl Shelf {
         Ok(book.commits())
     }
 
-    /// What the book shows now of the first n commits; of all where no number is given.
+    /// Returns a snapshot of the first `n` commits, or of all commits without a number.
     ///
     /// # Errors
     ///
-    /// `Future` where there are fewer than n commits; `NoMemory` where the book can't have more sharers. It asks
-    /// for no memory.
+    /// `Future` if there are fewer than `n` commits; `NoMemory` if the book can't be shared once more. It allocates
+    /// nothing.
     pub fn snapshot(&self, n: Option<u64>) -> Result<Snapshot, Failure<Future>>
         ensures { Shows (shelf_history self.now) n result }
     {
@@ -143,7 +144,7 @@ impl Shelf {
         }
     }
 
-    /// The commits, oldest first, each with the number of versions that it made and closed.
+    /// Returns the commits, oldest first, each with the numbers of versions that it added and closed.
     pub fn log(&self) -> Result<Log, NoMemory>
         ensures { IfOk result (λ log. log ≡ log_of (shelf_history self.now)) }
     {

@@ -1,4 +1,4 @@
-//! Snapshots: what the first commits of a history show.
+//! Snapshots of the first commits of a history.
 
 ghost use Rattle.std.specs.Prelude.{◌≡◌, ◌≤◌, length, filter, map, All, IfOk, IsTrue, IfSome, OnErr, None, Some, nat_lt, nat_le};
 ghost use Rattle.std.specs.Arc.{arc_value};
@@ -18,25 +18,25 @@ use period_core::Point;
 use row_core::{Failure, Name, Schema};
 use std::sync::Arc;
 
-/// What the first commits of a history show. It shares the book, and stays as it is, whatever is committed later.
-/// Contracts see the history as it was when the snapshot was taken, and the number of commits that it shows.
+/// A view of the tables as of a commit. It shares the book, and doesn't change, whatever is committed later. Contracts
+/// see the history as it was when the snapshot was taken, and the number of commits that it shows.
 ///
-/// Which tables there are, and their columns, is what the newest state of that history says; a table that is newer
-/// than the commits shown has no rows.
+/// The newest state of that history determines which tables exist, and their columns. A table that was made after the
+/// commits shown has no rows.
 #[derive(Drop)]
 pub struct Snapshot {
     number: u64,
     book: Arc<Book>,
     // It shows no more commits than there are.
     pub ghost within: { number ≤ length (arc_value book) },
-    // Each commit was accepted in its place.
+    // Each commit was accepted in the state before it.
     pub ghost legal: { IsLegal (arc_value book) } by { IsLegal-prop (arc_value book) },
 }
 
 impl Snapshot {
     ghost use Rattle.store_core.specs.Snapshots.{history, number_shown, refusal_of_range, rows_of_snapshot, ShowsFirst};
 
-    /// The first commits of a shared book.
+    /// Returns a snapshot of the first commits of a shared book.
     pub(crate) fn of(number: u64, book: Arc<Book>) -> Snapshot
         requires within { number ≤ length (arc_value book) }
         requires legal { IsLegal (arc_value book) }
@@ -45,30 +45,30 @@ impl Snapshot {
         Snapshot { number, book }
     }
 
-    /// How many commits it shows.
+    /// Returns how many commits it shows.
     pub fn number(&self) -> u64
         ensures number { result ≡ number_shown self.now }
         ensures within { result ≤ length (history self.now) }
 
-        // Each commit was accepted in its place.
+        // Each commit was accepted in the state before it.
         ensures legal { IsLegal (history self.now) }
     {
         self.number
     }
 
-    /// How many commits there were when it was taken; it shows the first `number` of them.
+    /// Returns how many commits there were when it was taken; it shows the first `number` of them.
     pub fn commits(&self) -> u64
         ensures { result ≡ length (history self.now) }
     {
         self.book.commits()
     }
 
-    /// What the first n of its commits show, of the same book, which is shared once more, not copied.
+    /// Returns a snapshot of the first `n` of its commits. The new snapshot shares the book, without copying it.
     ///
     /// # Errors
     ///
-    /// `Future` where it shows fewer than n commits; `NoMemory` where no more sharers of the book can be counted;
-    /// nothing is allocated.
+    /// `Future` if this one shows fewer than `n` commits; `NoMemory` if the book can't be shared once more. Nothing is
+    /// allocated.
     pub fn as_of(&self, n: u64) -> Result<Snapshot, Failure<Future>>
         ensures { ShowsFirst (history self.now) (number_shown self.now) n result }
     {
@@ -81,7 +81,7 @@ impl Snapshot {
         }
     }
 
-    /// The columns of a table.
+    /// Returns the columns of a table.
     pub fn schema(&self, name: Name) -> Result<&Schema, NoTable>
         ensures found { IfOk result (λ schema. schema_in (history self.now) name
             ≡ Some schema.now) }
@@ -90,7 +90,7 @@ impl Snapshot {
         self.book.schema(name)
     }
 
-    /// The rows of a table, by rising id.
+    /// Returns the rows of a table, by rising id.
     ///
     /// # Errors
     ///
@@ -99,7 +99,7 @@ impl Snapshot {
         ensures given { IsAnswer
             (rows_of_snapshot (history self.now) (number_shown self.now) name) result }
 
-        // They are at most 1,000,000, and each fits the table's columns.
+        // There are at most 1,000,000 of them, and each fits the table's columns.
         ensures few { IfOk result (λ rows. length rows ≤ version_limit) }
         ensures rise { IfOk result RowsRise }
         ensures fit { IfOk result (λ rows. IfSome (schema_in (history self.now) name)
@@ -113,13 +113,13 @@ impl Snapshot {
         }
     }
 
-    /// The rows of a table that hold at the point, by rising id.
+    /// Returns the rows of a table that hold at the point, by rising id.
     ///
     /// # Errors
     ///
     /// `NoTable`; `NoMemory`, in this order.
     pub fn rows_holding(&self, name: Name, point: Point) -> Result<SharedRows, Failure<NoTable>>
-        // Of the rows that `rows` gives, those that hold.
+        // The rows of `rows` that hold at the point.
         ensures given { IsAnswer (map_ok (filter (λ (row : Row). holds_at point row.period))
             (rows_of_snapshot (history self.now) (number_shown self.now) name)) result }
 
@@ -136,12 +136,12 @@ impl Snapshot {
         }
     }
 
-    /// The versions that some commit from m to n shows, by rising id. An end past the snapshot is shown as open.
-    /// m and n may lie past it: an open version counts as shown there.
+    /// Returns the versions visible as of some commit from `m` to `n`, by rising id. An end after the snapshot counts
+    /// as open. `m` and `n` may be after the snapshot: an open version counts as visible there.
     ///
     /// # Errors
     ///
-    /// `BadPeriod` where m is greater than n; `NoTable`; `NoMemory`, in this order.
+    /// `BadPeriod` if `m` is greater than `n`; `NoTable`; `NoMemory`, in this order.
     pub fn between(
         &self,
         m: u64,
@@ -151,7 +151,7 @@ impl Snapshot {
         ensures given { AnswersOr (refusal_of_range (history self.now) (nat_lt n m) name)
             (AreBetween (history self.now) (number_shown self.now) m n name) result }
 
-        // At one commit they are those whose rows it shows.
+        // At a single commit, their rows are the ones visible as of it.
         ensures at_once { m ≡ n → n ≤ number_shown self.now
             → IfOk result (λ versions. map (λ v. v.row) versions
             ≡ rows_at (history self.now) n name) }
@@ -169,12 +169,12 @@ impl Snapshot {
         }
     }
 
-    /// The versions that some commit from m on and before n shows, by rising id. An end past the snapshot is shown
-    /// as open. m and n may lie past it, as for `between`.
+    /// Returns the versions visible as of some commit from `m` on and before `n`, by rising id. An end after the
+    /// snapshot counts as open. `m` and `n` may be after the snapshot, as for `between`.
     ///
     /// # Errors
     ///
-    /// `BadPeriod` where m isn't less than n; `NoTable`; `NoMemory`, in this order.
+    /// `BadPeriod` if `m` isn't less than `n`; `NoTable`; `NoMemory`, in this order.
     pub fn from_to(
         &self,
         m: u64,

@@ -20,14 +20,14 @@ use std::alloc::Global;
 use std::sync::Wait;
 use turn_core::{CALL_LIMIT, SEAT_LIMIT, Seat, Turn};
 
-/// A book that callers on their own threads share, each with a pass of its own. That a pass or a note is of this
-/// store is the caller's condition.
+/// A book that callers on several threads share, each with a pass of its own. The caller must use passes and notes of
+/// this store only.
 #[derive(Drop)]
 pub struct Store {
     turn: Turn<Shelf>,
 }
 
-// A pass for each new seat.
+// Makes a pass for each new seat.
 fn passes_for(seats: Vec<Seat<Shelf>>, calls_each: u64, list: &mut Vec<Pass>)
     requires room { (list.old.items ≡ []) × (vec_len seats ≤ vec_capacity list.old) }
     requires new { All (λ seat. (0 < (view_of seat).number) × (calls_each ≤ (view_of seat).left)
@@ -46,7 +46,7 @@ fn passes_for(seats: Vec<Seat<Shelf>>, calls_each: u64, list: &mut Vec<Pass>)
 impl Store {
     ghost use Rattle.store_core.specs.Passes.{AreNew, Commits, Hears, IsNoteOf, IsPassOf, MakesNote, ReadsLog, TakesSnapshot};
 
-    /// A store without a table, and its passes: the one with number i + 1 stands at place i.
+    /// Returns a store without tables, and its passes. The pass at index `i` has the number `i + 1`.
     ///
     /// # Errors
     ///
@@ -69,14 +69,14 @@ impl Store {
         Ok((Store { turn }, list))
     }
 
-    /// Commits a change, and answers the commit's number, from 1 on. Where a snapshot shares the book a copy is
-    /// changed, unless the change is refused; else rows alone are copied, where a list shares them and the change
-    /// adds more.
+    /// Commits a change, and returns the number of its commit. Commits are numbered from 1. If a snapshot shares the
+    /// book, the change is made in a copy, unless it is refused before its keys are tested. The table's versions and
+    /// rows are copied only if they are shared too.
     ///
     /// # Errors
     ///
-    /// `PassSpent`, which counts no call; then as for the book, and `NoMemory` also where the copy is refused. A
-    /// refused change is dropped, and the history is as it was.
+    /// `PassSpent`, which counts no call; then the book's errors, and `NoMemory` also if a copy is refused memory. A
+    /// refused change is dropped, and the history is unchanged.
     pub fn commit<R: Wait>(
         &self,
         rt: &R,
@@ -110,12 +110,12 @@ impl Store {
         }
     }
 
-    /// What the store shows now of the first n commits; of all where no number is given.
+    /// Returns a snapshot of the first `n` commits, or of all commits without a number.
     ///
     /// # Errors
     ///
-    /// `PassSpent`, which counts no call; `Future` where there are fewer than n commits; `NoMemory` where the book
-    /// can't have more sharers. It asks for no memory.
+    /// `PassSpent`, which counts no call; `Future` if there are fewer than `n` commits; `NoMemory` if the book can't be
+    /// shared once more. It allocates nothing.
     pub fn snapshot<R: Wait>(
         &self,
         rt: &R,
@@ -145,7 +145,7 @@ impl Store {
         }
     }
 
-    /// The commits, oldest first, each with the number of versions that it made and closed.
+    /// Returns the commits, oldest first, each with the numbers of versions that it added and closed.
     ///
     /// # Errors
     ///
@@ -173,7 +173,7 @@ impl Store {
         }
     }
 
-    /// What the pass has seen, for another pass to hear. No call is counted.
+    /// Returns a note of what the pass has seen, for another pass to hear. Counts no call.
     pub fn note(&self, pass: &mut Pass) -> Note
         requires { IsPassOf self.now pass.old }
         ensures { MakesNote self.now pass.old pass.new result }
@@ -183,7 +183,7 @@ impl Store {
         }
     }
 
-    /// From now on the pass has seen no less than the note says. No call is counted.
+    /// Lets the pass hear the note: it has then seen at least as much as the note says. Counts no call.
     pub fn hear(&self, pass: &mut Pass, note: Note)
         requires pass { IsPassOf self.now pass.old }
         requires note { IsNoteOf self.now note }

@@ -1,4 +1,4 @@
-//! A book, its changes and what it is asked.
+//! A book, its changes and its queries, with memory refused.
 
 use crate::fixtures::{name, period, text};
 use book_core::{Book, BookRefused, Change, Pairs, RowsRefused};
@@ -8,7 +8,7 @@ use refusal_core::{Ended, Fault, holds, refuses, try_each};
 use row_core::{Draft, Failure, Kind, Name, Schema, Value, Values};
 use std::alloc::Global;
 
-// A load of one row with that value.
+// Returns a load of one row with that value.
 fn load(alloc: Global, table: Name, value: Value) -> Result<Change, Ended> {
     let mut values = Values::new(alloc);
     values.push(value)?;
@@ -20,7 +20,8 @@ fn load(alloc: Global, table: Name, value: Value) -> Result<Change, Ended> {
     Ok(Change::Load { table, rows })
 }
 
-// An update of two days of it; its one setting is added once more where memory was refused, and then none was.
+// Returns an update of two days of it. If adding its setting is refused memory, checks that none was added, and adds it
+// again.
 fn update(alloc: Global, table: Name, column: Name) -> Result<Change, Ended> {
     let mut sets = Pairs::new(alloc);
     if sets.push((column, text(alloc, b"y")?)).is_err() {
@@ -35,7 +36,7 @@ fn update(alloc: Global, table: Name, column: Name) -> Result<Change, Ended> {
     })
 }
 
-// The change of that number: a table with a text column, its row, and an update.
+// Returns the change with that number: a table with a text column, its row, and an update.
 fn change(alloc: Global, number: u64) -> Result<Change, Ended> {
     let (table, column) = (name(b"u")?, name(b"v")?);
     match number {
@@ -48,7 +49,8 @@ fn change(alloc: Global, number: u64) -> Result<Change, Ended> {
     }
 }
 
-// Makes the change of that number; once more where memory was refused, and then there are as many commits as before.
+// Makes the change with that number. If memory is refused, checks that the number of commits is unchanged, and makes it
+// again.
 fn apply(alloc: Global, book: &mut Book, number: u64) -> Result<(), Ended> {
     let before = book.commits();
     let change = change(alloc, number)?;
@@ -62,7 +64,7 @@ fn apply(alloc: Global, book: &mut Book, number: u64) -> Result<(), Ended> {
     holds(made == number && book.commits() == number)
 }
 
-// The versions that stood at some commits: the row before it was updated.
+// Checks the versions as of some commits: the row before it was updated.
 fn ask_versions(alloc: Global, book: &Book, table: Name) -> Result<(), Ended> {
     let open = book.between(2, 2, 9, table)?.list(alloc)?;
     holds(open.len() == 1)?;
@@ -74,7 +76,7 @@ fn ask_versions(alloc: Global, book: &Book, table: Name) -> Result<(), Ended> {
     holds(version.row().id() == 1 && version.systo() == Some(3))
 }
 
-// What is asked of the book of three changes, and what it refuses.
+// Checks the queries of the book with three changes, and its refusals.
 fn ask(alloc: Global, book: &mut Book) -> Result<(), Ended> {
     let table = name(b"u")?;
     let rows = book.rows_at(2, table)?;
@@ -87,7 +89,7 @@ fn ask(alloc: Global, book: &mut Book) -> Result<(), Ended> {
     holds(book.commits() == 3)
 }
 
-// Makes a book by its changes, and asks it and its copy.
+// Makes a book by its changes, and queries it and its copy.
 fn change_and_ask(alloc: Global) -> Result<(), Ended> {
     let mut book = Book::new(alloc);
     for number in 1..4 {

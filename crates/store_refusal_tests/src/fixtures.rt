@@ -1,4 +1,4 @@
-//! What the trials make: names, periods and values.
+//! Names, periods and values for the trials.
 
 use period_core::{Period, Point};
 use refusal_core::Ended;

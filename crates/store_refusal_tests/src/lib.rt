@@ -1,4 +1,4 @@
-//! What stands where memory is refused to points, rows, books, turns and stores.
+//! The state after memory is refused to points, rows, books, turns and stores.
 #![tactic(auto)]
 
 #[cfg(test)]

@@ -1,4 +1,4 @@
-//! Points, columns, keys, values and rows.
+//! Points, columns, keys, values and rows, with memory refused.
 
 use crate::fixtures::{day, name, text};
 use draft_core::{Drafts, RowReader};
@@ -11,7 +11,7 @@ use row_core::{
 use std::alloc::Global;
 use std::convert::AsSlice;
 
-// Writes points behind a text that is there; once more where memory was refused, and then that text alone is there.
+// Writes points after a byte. If memory is refused, checks that only this byte is there, and writes the point again.
 fn write_points(alloc: Global) -> Result<(), Ended> {
     for text in [
         &b"1970-01-01"[..],
@@ -39,13 +39,13 @@ fn points_are_written_later(rt: HostRuntime) -> Result<(), Fault> {
     try_each(&rt, write_points)
 }
 
-// Columns `c` of numbers and `d` of texts.
+// Returns a column `c` of numbers and a column `d` of texts.
 fn columns(alloc: Global) -> Result<Schema, Ended> {
     let columns = [(name(b"c")?, Kind::Int), (name(b"d")?, Kind::Text)];
     Ok(Schema::new(alloc, &columns)?)
 }
 
-// Makes columns and copies them, and refuses those that can't be.
+// Makes columns and copies them, and checks that wrong ones are refused.
 fn make_columns(alloc: Global) -> Result<(), Ended> {
     let schema = columns(alloc)?;
     let copy = schema.copy(alloc)?;
@@ -55,7 +55,7 @@ fn make_columns(alloc: Global) -> Result<(), Ended> {
     refuses(Schema::new(alloc, &many), SchemaRefused::TooMany)
 }
 
-// Gives columns a key, and refuses one that can't be.
+// Makes a key, and checks that a wrong one is refused.
 fn make_key(alloc: Global) -> Result<(), Ended> {
     let (c, d) = (name(b"c")?, name(b"d")?);
     let keyed = columns(alloc)?.with_key(alloc, &[d, c])?;
@@ -75,7 +75,7 @@ fn columns_and_keys_are_made_or_memory_is_refused(rt: HostRuntime) -> Result<(),
     try_each(&rt, make_key)
 }
 
-// The fields of these bytes.
+// Returns fields with these bytes.
 fn fields(alloc: Global, texts: &[&[u8]]) -> Result<Vec<Field>, Ended> {
     let mut fields = Vec::new(alloc);
     for text in texts {
@@ -84,7 +84,7 @@ fn fields(alloc: Global, texts: &[&[u8]]) -> Result<Vec<Field>, Ended> {
     Ok(fields)
 }
 
-// Reads a row, and refuses two: one has too few fields, and one ends before it begins.
+// Reads a row, and checks that two are refused: one has too few fields, and one ends before it begins.
 fn read_rows(alloc: Global) -> Result<(), Ended> {
     let schema = columns(alloc)?;
     let right = fields(alloc, &[b"2024-01-01", b"2024-01-02", b"-7", b"y"])?;
@@ -100,7 +100,7 @@ fn read_rows(alloc: Global) -> Result<(), Ended> {
     )
 }
 
-// Reads a row behind another, and refuses a third.
+// Reads two rows, and checks that a third is refused.
 fn read_more_rows(alloc: Global) -> Result<(), Ended> {
     let schema = columns(alloc)?;
     let long = b"a text of more than fourteen bytes";
@@ -118,7 +118,7 @@ fn read_more_rows(alloc: Global) -> Result<(), Ended> {
     refuses(reader.read(narrow), RowRefused::WrongWidth)
 }
 
-// Values of a number and a text; each is added once more where memory was refused, and then none was.
+// Returns a number and a text. If adding one is refused memory, checks that it wasn't added, and adds it again.
 fn values(alloc: Global) -> Result<Values, Ended> {
     let schema = columns(alloc)?;
     holds(schema.width() == 2)?;
@@ -136,7 +136,7 @@ fn values(alloc: Global) -> Result<Values, Ended> {
     Ok(values)
 }
 
-// A draft of a day, with those values.
+// Returns a draft of a day, with those values.
 fn draft(alloc: Global, values: &Values) -> Result<Draft, Ended> {
     Ok(Draft {
         period: day()?,
@@ -144,7 +144,7 @@ fn draft(alloc: Global, values: &Values) -> Result<Draft, Ended> {
     })
 }
 
-// Adds drafts to a list in each way, once more where memory was refused; then none was added.
+// Adds drafts to a list in each way. If memory is refused, checks that none was added, and adds them again.
 fn add_each_way(alloc: Global, values: &Values) -> Result<Drafts, Ended> {
     let mut drafts = Drafts::new(alloc);
     if drafts.push(draft(alloc, values)?).is_err() {
@@ -164,7 +164,7 @@ fn add_each_way(alloc: Global, values: &Values) -> Result<Drafts, Ended> {
     Ok(drafts)
 }
 
-// Adds drafts of other kinds to a list, once more where memory was refused; then none was added.
+// Adds drafts of other kinds to a list. If memory is refused, checks that none was added, and adds them again.
 fn add_unlike(alloc: Global) -> Result<(), Ended> {
     let values = values(alloc)?;
     let mut drafts = add_each_way(alloc, &values)?;
@@ -198,7 +198,7 @@ fn add_drafts(alloc: Global) -> Result<(), Ended> {
     Ok(())
 }
 
-// Adds a row to a list, once more where memory was refused; then none was added.
+// Adds a row to a list. If memory is refused, checks that it wasn't added, and adds it again.
 fn add_row(alloc: Global) -> Result<(), Ended> {
     let row = Row {
         id: 5,

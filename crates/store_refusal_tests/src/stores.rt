@@ -1,4 +1,4 @@
-//! A store whose snapshot is alive, and what its calls leave.
+//! A store whose snapshot is alive, and its state after each call, with memory refused.
 
 ghost use Rattle.std.specs.Prelude.{IfOk};
 ghost use Rattle.store_core.specs.Passes.{IsPassOf};
@@ -13,7 +13,7 @@ use std::sync::Wait;
 use std::test::Fail;
 use store_core::{Pass, Snapshot, Store, StoreRefused};
 
-// The change that makes the table, which has no columns.
+// Returns the change that makes the table, which has no columns.
 fn make(alloc: Global) -> Result<Change, Ended> {
     Ok(Change::Make {
         table: name(b"t")?,
@@ -21,7 +21,7 @@ fn make(alloc: Global) -> Result<Change, Ended> {
     })
 }
 
-// The change that adds a row of one day.
+// Returns the change that adds a row of one day.
 fn load(alloc: Global) -> Result<Change, Ended> {
     let mut rows = Drafts::new(alloc);
     rows.push(Draft {
@@ -34,7 +34,7 @@ fn load(alloc: Global) -> Result<Change, Ended> {
     })
 }
 
-// A store with one pass of a hundred calls.
+// Returns a store with one pass of a hundred calls.
 fn one_pass(alloc: Global) -> Result<(Store, Pass), Ended>
     ensures { IfOk result (λ made. IsPassOf made.0 made.1) }
 {
@@ -45,7 +45,7 @@ fn one_pass(alloc: Global) -> Result<(Store, Pass), Ended>
     }
 }
 
-// A store whose table has one row, and its one pass.
+// Returns a store whose table has one row, and its one pass.
 fn one_row<R: Wait>(rt: &R, alloc: Global) -> Result<(Store, Pass), Ended>
     ensures { IfOk result (λ made. IsPassOf made.0 made.1) }
 {
@@ -55,12 +55,13 @@ fn one_row<R: Wait>(rt: &R, alloc: Global) -> Result<(Store, Pass), Ended>
     Ok((store, pass))
 }
 
-// The number of a snapshot, and how many rows its table has.
+// Returns the number of a snapshot, and how many rows its table has.
 fn shown(snapshot: &Snapshot) -> Result<(u64, usize), Ended> {
     Ok((snapshot.number(), snapshot.rows(name(b"t")?)?.len()))
 }
 
-// Asks for the newest snapshot and the log: its number, its rows and the log's entries. Each counts one call.
+// Requests the newest snapshot and the log, which count one call each. Returns the snapshot's number, its rows and the
+// log's entries.
 fn look<R: Wait>(rt: &R, store: &Store, pass: &mut Pass) -> Result<(u64, usize, usize), Ended>
     requires { IsPassOf store.now pass.old }
     ensures { IsPassOf store.now pass.new }
@@ -73,8 +74,8 @@ fn look<R: Wait>(rt: &R, store: &Store, pass: &mut Pass) -> Result<(u64, usize, 
     Ok((number, rows, log.len()))
 }
 
-// Commits a load while a snapshot is alive; once more where memory was refused, and then nothing was changed but that a
-// call is counted.
+// Commits a load while a snapshot is alive. If memory is refused, checks that only the call was counted and nothing
+// else changed, and commits again.
 fn commit_beside<R: Wait>(rt: &R, alloc: Global) -> Result<(), Ended> {
     let (store, mut pass) = one_row(rt, alloc)?;
     let kept = store.snapshot(rt, &mut pass, None)?;
@@ -97,7 +98,7 @@ fn a_refused_commit_is_made_later(rt: HostRuntime) -> Result<(), Fault> {
     try_each(&rt, |alloc| commit_beside(&rt, alloc))
 }
 
-// What a snapshot of the first commit shows.
+// Checks a snapshot of the first commit.
 fn ask_snapshot<R: Wait>(rt: &R, alloc: Global) -> Result<(), Ended> {
     let (store, mut pass) = one_row(rt, alloc)?;
     let snapshot = store.snapshot(rt, &mut pass, Some(1))?;
@@ -126,8 +127,8 @@ fn a_post_is_opened_or_memory_is_refused(rt: HostRuntime) -> Result<(), Fault> {
     try_each(&rt, |alloc| send_note(&rt, alloc))
 }
 
-// A change that is refused by name copies no book, though a snapshot shares it: so it is answered while no memory is
-// left.
+// A change that is refused before its keys are tested copies no book, even if a snapshot shares it, so it is answered
+// while no memory is left.
 #[test]
 fn a_refusal_by_name_needs_no_memory(rt: HostRuntime) -> Result<(), Fail> {
     let alloc = rt.alloc();

@@ -1,4 +1,4 @@
-//! A turn over numbers, whose callers add one each, on threads of their own.
+//! A turn over numbers; each caller adds one, on a thread of its own, with memory refused.
 
 ghost use Rattle.std.specs.Prelude.{◌≡◌, ◌+◌, ◌<◌, IfOk, IfSome};
 ghost use Rattle.turn_core.specs.Calls.{IsSameCaller};
@@ -18,7 +18,7 @@ struct Added {
     number: u64,
 }
 
-// The numbers that callers added, for so many seats.
+// The numbers that callers added, and the number of the turn's seats.
 #[derive(Drop)]
 struct Numbers {
     seats: u32,
@@ -36,7 +36,7 @@ impl Kept for Numbers {
 }
 
 impl Numbers {
-    // Adds a number; false where memory is refused.
+    // Adds a number. Returns false if memory is refused.
     fn add(&mut self, by: u32, number: u64) -> bool
         ensures seats { self.new.seats ≡ self.old.seats }
         ensures adds { AddsAtMostOne
@@ -46,7 +46,7 @@ impl Numbers {
     }
 }
 
-// A turn over no numbers, with two seats.
+// Returns a turn over no numbers, with two seats.
 fn two_seats(alloc: Global) -> Result<(Turn<Numbers>, Seat<Numbers>, Seat<Numbers>), Ended>
     ensures turn { IfOk result (λ made. IsSeatOf made.0 made.1 × IsSeatOf made.0 made.2) }
     ensures numbers { IfOk result (λ made. ((view_of made.1).number ≡ 1)
@@ -64,7 +64,7 @@ fn two_seats(alloc: Global) -> Result<(Turn<Numbers>, Seat<Numbers>, Seat<Number
     }
 }
 
-// Adds a number as the seat's caller; false where memory is refused.
+// Adds a number as the seat's caller. Returns false if memory is refused.
 fn add<R: Wait>(rt: &R, turn: &Turn<Numbers>, seat: &mut Seat<Numbers>, number: u64) -> bool
     requires turn { IsSeatOf turn.now seat.old }
     requires caller { 0 < (view_of seat.old).number }
@@ -85,7 +85,7 @@ fn add<R: Wait>(rt: &R, turn: &Turn<Numbers>, seat: &mut Seat<Numbers>, number: 
     )
 }
 
-// Adds a number, once more where memory was refused, and gives the seat back; None where it is refused again.
+// Adds a number, a second time if memory was refused, and returns the seat; `None` if it is refused again.
 fn add_alone<R: Wait>(
     rt: &R,
     turn: &Turn<Numbers>,
@@ -106,7 +106,7 @@ fn add_alone<R: Wait>(
     }
 }
 
-// Whether the numbers are these two, in some order.
+// Returns whether the numbers are these two, in some order.
 fn are_both<R: Wait>(
     rt: &R,
     turn: &Turn<Numbers>,
@@ -130,7 +130,7 @@ fn are_both<R: Wait>(
     )
 }
 
-// Each caller adds a number, and the first hears of it and sees both.
+// Each caller adds a number; the first hears of the second's and sees both.
 fn add_both<R: Threads + Wait + Sync>(rt: &R, alloc: Global) -> Result<(), Ended> {
     let (turn, first, second) = two_seats(alloc)?;
     let (first, second) = join(

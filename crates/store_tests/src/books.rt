@@ -1,4 +1,4 @@
-//! Books: what each commit shows, their copies, and their limits.
+//! Books: the rows as of each commit, copies of books, and their limits.
 
 use crate::fixtures::{day, name, period, schema};
 use book_core::{Book, BookRefused, Change, Pairs};
@@ -10,7 +10,7 @@ use std::alloc::Global;
 use std::process::Abort;
 use table_core::SharedRows;
 
-// The change that makes a table without columns.
+// Returns the change that makes a table without columns.
 fn make(rt: &(impl Abort + Alloc<A = Global>), table: &[u8]) -> Change {
     Change::Make {
         table: name(rt, table),
@@ -18,7 +18,7 @@ fn make(rt: &(impl Abort + Alloc<A = Global>), table: &[u8]) -> Change {
     }
 }
 
-// So many rows of one period, without values.
+// Returns `rows` rows with the same period, without values.
 fn drafts(rt: &(impl Abort + Alloc<A = Global>), period: &Period, rows: usize) -> Drafts {
     let mut drafts = Drafts::new(rt.alloc());
     for _ in 0..rows {
@@ -31,7 +31,7 @@ fn drafts(rt: &(impl Abort + Alloc<A = Global>), period: &Period, rows: usize) -
     drafts
 }
 
-// The change that adds so many rows of one day to the table `t`.
+// Returns the change that adds `rows` rows of one day to the table `t`.
 fn load(rt: &(impl Abort + Alloc<A = Global>), rows: usize) -> Change {
     Change::Load {
         table: name(rt, b"t"),
@@ -39,7 +39,7 @@ fn load(rt: &(impl Abort + Alloc<A = Global>), rows: usize) -> Change {
     }
 }
 
-// Makes a change, which the book answers so.
+// Makes a change, and checks the book's answer.
 pub(crate) fn check_apply(
     rt: &impl Abort,
     book: &mut Book,
@@ -59,7 +59,7 @@ fn check_load(
     check_apply(rt, book, load(rt, rows), want);
 }
 
-// Whether the ids are the numbers from 1 on.
+// Returns whether the ids are the numbers from 1 on.
 fn are_counted(rows: &SharedRows) -> bool {
     for place in 0..rows.len() {
         if rows.at(place).id() != place as u64 + 1 {
@@ -69,7 +69,7 @@ fn are_counted(rows: &SharedRows) -> bool {
     true
 }
 
-// Checks that a commit shows so many rows of a table, with the ids from 1 on.
+// Checks that the table has `count` rows as of a commit, with ids from 1 on.
 fn check_rows(rt: &impl Abort, book: &Book, table: &[u8], commit: u64, count: usize) {
     let rows = book.rows_at(commit, name(rt, table)).expect(rt, "rows");
     assert!(rt; rows.len() == count);
@@ -95,7 +95,7 @@ fn shows_each_commit(rt: HostRuntime) {
     check_rows(&rt, &book, b"t", 3, 3);
 }
 
-// The change that makes the table `u`, with a column of texts.
+// Returns the change that makes the table `u`, with a column of texts.
 fn make_texts(rt: &(impl Abort + Alloc<A = Global>)) -> Change {
     let column = (name(rt, b"v"), Kind::Text);
     Change::Make {
@@ -104,7 +104,7 @@ fn make_texts(rt: &(impl Abort + Alloc<A = Global>)) -> Change {
     }
 }
 
-// The change that adds a row with a number to the table `u`.
+// Returns the change that adds a row with a number to the table `u`.
 fn load_number(rt: &(impl Abort + Alloc<A = Global>)) -> Change {
     let mut values = Values::new(rt.alloc());
     values.push(Value::Int(1)).expect(rt, "memory");
@@ -131,7 +131,7 @@ fn refuses_values_of_another_kind(rt: HostRuntime) {
     check_rows(&rt, &book, b"u", 1, 0);
 }
 
-// Makes a copy of a change, which the book answers so.
+// Makes a copy of a change, and checks the book's answer.
 fn check_copy(
     rt: &(impl Abort + Alloc<A = Global>),
     book: &mut Book,
@@ -162,12 +162,12 @@ fn copies_go_their_own_way(rt: HostRuntime) {
     check_rows(&rt, &copy, b"t", 3, 6);
 }
 
-// The day behind that of the other rows.
+// Returns the day after the other rows' day.
 fn next_day(rt: &impl Abort) -> Period {
     period(rt, b"2024-01-02", b"2024-01-03")
 }
 
-// The change that adds a row of the next day to the table `t`.
+// Returns the change that adds a row of the next day to the table `t`.
 fn load_next(rt: &(impl Abort + Alloc<A = Global>)) -> Change {
     Change::Load {
         table: name(rt, b"t"),
@@ -175,7 +175,7 @@ fn load_next(rt: &(impl Abort + Alloc<A = Global>)) -> Change {
     }
 }
 
-// The change that takes out what holds on that day.
+// Returns the change that deletes the rows of that day.
 fn delete_next(rt: &(impl Abort + Alloc<A = Global>)) -> Change {
     Change::Delete {
         table: name(rt, b"t"),
@@ -184,7 +184,7 @@ fn delete_next(rt: &(impl Abort + Alloc<A = Global>)) -> Change {
     }
 }
 
-// Once a change has closed a row, a list has the places of the others, as each list of earlier rows has.
+// After a change has closed a row, a list has the indexes of the remaining rows, like each list of earlier rows.
 #[test]
 fn lists_thousands_of_rows(rt: HostRuntime) {
     let mut book = Book::new(rt.alloc());

@@ -1,4 +1,4 @@
-//! What the tests make: names, periods, values and columns. Where memory is refused, the test ends.
+//! Names, periods, values and columns for the tests. The test ends if memory is refused.
 
 use period_core::{Period, Point};
 use row_core::{Kind, Name, Schema, Text, Value};

@@ -1,4 +1,4 @@
-//! Keys of books: where rows of one key would share an instant, that is the refusal while there is memory.
+//! Keys of books: overlapping rows with the same key are refused as `KeyOverlap` while memory is available.
 
 use crate::books::check_apply;
 use crate::fixtures::{day, name, schema};
@@ -8,7 +8,7 @@ use row_core::{Draft, Kind, Value, Values};
 use std::alloc::Global;
 use std::process::Abort;
 
-// The change that makes the table `t`, whose key is a column of numbers.
+// Returns the change that makes the table `t`, whose key is a column of numbers.
 fn make(rt: &(impl Abort + Alloc<A = Global>)) -> Change {
     let k = name(rt, b"k");
     let keyed = schema(rt, &[(k, Kind::Int)]).with_key(rt.alloc(), &[k]);
@@ -18,7 +18,7 @@ fn make(rt: &(impl Abort + Alloc<A = Global>)) -> Change {
     }
 }
 
-// The change that adds rows of one day with these numbers.
+// Returns the change that adds rows of one day with these numbers.
 fn load(rt: &(impl Abort + Alloc<A = Global>), numbers: &[i64]) -> Change {
     let mut rows = Drafts::new(rt.alloc());
     for number in numbers {
@@ -33,7 +33,7 @@ fn load(rt: &(impl Abort + Alloc<A = Global>), numbers: &[i64]) -> Change {
     }
 }
 
-// Many new rows are sorted with those that are there. One beside sixteen is looked for among them.
+// Many new rows are sorted together with the old ones. A single row is looked up among the sixteen old ones.
 #[test]
 fn refuses_rows_of_one_key_by_name(rt: HostRuntime) {
     let mut book = Book::new(rt.alloc());

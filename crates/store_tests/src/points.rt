@@ -5,7 +5,7 @@ use period_core::{BadPoint, Point};
 use std::alloc::Global;
 use std::process::Abort;
 
-// Checks the number of a text, and the text that is written and shown of it.
+// Checks the number of a text, and how the point is written and shown.
 fn check_point(rt: &(impl Abort + Alloc<A = Global>), text: &[u8], number: i64, written: &[u8]) {
     let point = Point::parse(text).expect(rt, "a point");
     assert!(rt; point.number() == number);

@@ -1,4 +1,4 @@
-//! Changes of a portion of time: what commits show of them, their versions, the log, and copies.
+//! Changes of a portion of time: rows as of commits, versions, the log, and copies.
 
 use crate::fixtures::{name, period, schema, text};
 use book_core::{
@@ -12,7 +12,7 @@ use std::alloc::Global;
 use std::process::Abort;
 use table_core::{RowRef, SharedRows};
 
-// The pairs of the column `v` with a text, and of the column `k` with a number.
+// Returns the pairs of the column `v` with a text, and of the column `k` with a number.
 fn pairs(rt: &(impl Abort + Alloc<A = Global>), v: Option<&[u8]>, k: Option<i64>) -> Pairs {
     let mut pairs = Pairs::new(rt.alloc());
     if let Some(bytes) = v {
@@ -26,7 +26,7 @@ fn pairs(rt: &(impl Abort + Alloc<A = Global>), v: Option<&[u8]>, k: Option<i64>
     pairs
 }
 
-// The change that sets the text `y` on two days, under conditions.
+// Returns the change that sets the text `y` on two days, under conditions.
 fn update(rt: &(impl Abort + Alloc<A = Global>), v: Option<&[u8]>, k: Option<i64>) -> Change {
     Change::Update {
         table: name(rt, b"u"),
@@ -44,7 +44,7 @@ fn delete(rt: &(impl Abort + Alloc<A = Global>), v: Option<&[u8]>) -> Change {
     }
 }
 
-// The change that makes the table, with a column `v` of texts and a column `k` of numbers.
+// Returns the change that makes the table, with a column `v` of texts and a column `k` of numbers.
 fn make(rt: &(impl Abort + Alloc<A = Global>)) -> Change {
     let columns = [(name(rt, b"v"), Kind::Text), (name(rt, b"k"), Kind::Int)];
     Change::Make {
@@ -53,7 +53,7 @@ fn make(rt: &(impl Abort + Alloc<A = Global>)) -> Change {
     }
 }
 
-// A row of nine days, with the text `x` and a number.
+// Returns a row of nine days, with the text `x` and a number.
 fn draft(rt: &(impl Abort + Alloc<A = Global>), k: i64) -> Draft {
     let mut values = Values::new(rt.alloc());
     values.push(text(rt, b"x")).expect(rt, "memory");
@@ -64,7 +64,7 @@ fn draft(rt: &(impl Abort + Alloc<A = Global>), k: i64) -> Draft {
     }
 }
 
-// The change that adds so many rows, with the numbers up to 99 in turn.
+// Returns the change that adds `rows` rows, with the numbers from 0 to 99 in turn.
 fn load(rt: &(impl Abort + Alloc<A = Global>), rows: i64) -> Change {
     let mut drafts = Drafts::new(rt.alloc());
     for k in 0..rows {
@@ -80,7 +80,7 @@ fn apply(rt: &impl Abort, book: &mut Book, by: u32, change: Change) {
     book.apply(by, change).expect(rt, "a commit");
 }
 
-// The book of the table with so many rows.
+// Returns a book whose table has `rows` rows.
 fn book(rt: &(impl Abort + Alloc<A = Global>), rows: i64) -> Book {
     let mut book = Book::new(rt.alloc());
     apply(rt, &mut book, 1, make(rt));
@@ -88,14 +88,14 @@ fn book(rt: &(impl Abort + Alloc<A = Global>), rows: i64) -> Book {
     book
 }
 
-// The book of the table with one row, which was updated.
+// Returns a book whose table has one row, which was updated.
 fn updated_book(rt: &(impl Abort + Alloc<A = Global>)) -> Book {
     let mut book = book(rt, 1);
     apply(rt, &mut book, 1, update(rt, None, None));
     book
 }
 
-// Whether the rows have these ids and periods.
+// Returns whether the rows have these ids and periods.
 fn are_portions(rows: &SharedRows, want: &[(u64, Period)]) -> bool {
     if rows.len() != want.len() {
         return false;
@@ -109,7 +109,7 @@ fn are_portions(rows: &SharedRows, want: &[(u64, Period)]) -> bool {
     true
 }
 
-// Whether the rows' texts are these.
+// Returns whether the rows have these texts.
 fn are_texts(rows: &SharedRows, want: &[&[u8]]) -> bool {
     if rows.len() != want.len() {
         return false;
@@ -129,7 +129,7 @@ fn is_text(row: RowRef<'_>, want: &[u8]) -> bool {
     }
 }
 
-// Checks the ids, periods and texts of the rows that a commit shows.
+// Checks the ids, periods and texts of the rows as of a commit.
 fn check_rows(
     rt: &impl Abort,
     book: &Book,
@@ -156,10 +156,10 @@ fn puts_parts_in_place_of_a_row(rt: HostRuntime) {
     check_rows(&rt, &book, 3, &after, &[b"x", b"y", b"x"]);
 }
 
-// The id of a version, the commit that shows it first, and the one that shows it no more.
+// The id of a version, its first commit, and the commit that closed it.
 type SystemPeriod = (u64, u64, Option<u64>);
 
-// Whether the versions have these ids and commits.
+// Returns whether the versions have these ids and commits.
 fn have_system_periods(versions: &SharedVersions, want: &[SystemPeriod]) -> bool {
     if versions.len() != want.len() {
         return false;
@@ -236,7 +236,7 @@ fn refuses_rows(rt: HostRuntime) {
     }
 }
 
-// What the log should have of a commit.
+// Returns the expected log entry of a commit.
 fn entry(
     rt: &impl Abort,
     number: u64,
@@ -268,7 +268,7 @@ fn logs_what_commits_did(rt: HostRuntime) {
     assert!(rt; log.as_slice() == want.as_slice());
 }
 
-// Whether commits made and closed so many versions.
+// Returns whether the commits added and closed these numbers of versions.
 fn are_counts(entries: &[Entry], want: &[(u64, u64)]) -> bool {
     entries.len() == want.len()
         && entries
@@ -277,7 +277,7 @@ fn are_counts(entries: &[Entry], want: &[(u64, u64)]) -> bool {
             .all(|(entry, want)| (entry.added, entry.closed) == *want)
 }
 
-// In a table that is long enough for indexes of its columns.
+// The table is long enough for indexes of its columns.
 #[test]
 fn finds_rows_by_their_values(rt: HostRuntime) {
     let mut book = book(&rt, 300);
@@ -291,7 +291,7 @@ fn finds_rows_by_their_values(rt: HostRuntime) {
     assert!(rt; are_counts(log.as_slice(), &want));
 }
 
-// Whether the pair at a place of the list is that name and number.
+// Returns whether the pair at the given index is this name and number.
 fn is_pair(pairs: &Pairs, place: usize, want: (Name, i64)) -> bool {
     match pairs.get(place) {
         Some((name, Value::Int(number))) => (*name, *number) == want,
@@ -312,7 +312,7 @@ fn adds_pairs_at_the_end(rt: HostRuntime) {
     assert!(rt; copy.as_slice() == pairs.as_slice());
 }
 
-// What a change of a portion says: its table, portion, settings and conditions. A deletion has no settings.
+// Returns the table, portion, settings and conditions of a change of a portion. A delete has no settings.
 fn parts_of(change: &Change) -> Option<(Name, Period, &[(Name, Value)], &[(Name, Value)])> {
     match change {
         Change::Update {

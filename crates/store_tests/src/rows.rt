@@ -11,7 +11,7 @@ use std::alloc::Global;
 use std::convert::AsSlice;
 use std::process::Abort;
 
-// Columns `c` of numbers and `d` of texts.
+// Returns a column `c` of numbers and a column `d` of texts.
 fn columns(rt: &(impl Abort + Alloc<A = Global>)) -> Schema {
     let columns = [(name(rt, b"c"), Kind::Int), (name(rt, b"d"), Kind::Text)];
     schema(rt, &columns)
@@ -31,12 +31,12 @@ fn is_text(value: &Value, want: &[u8]) -> bool {
     }
 }
 
-// Whether the values are a number and a text.
+// Returns whether the values are a number and a text.
 fn are_both(values: &[Value], number: i64, text: &[u8]) -> bool {
     values.len() == 2 && is_int(&values[0], number) && is_text(&values[1], text)
 }
 
-// Checks that a text is a name's, and is shown of it.
+// Checks that the text parses as a name, which is shown as this text.
 fn check_name(rt: &(impl Abort + Alloc<A = Global>), text: &[u8]) {
     let name = name(rt, text);
     assert!(rt; name.as_bytes() == text);
@@ -81,7 +81,7 @@ fn refuses_columns(rt: HostRuntime) {
     assert!(rt; many == Some(Failure::Refused(SchemaRefused::TooMany)));
 }
 
-// Checks that the key is the column `d` and then `c`.
+// Checks that the key has the columns `d` and `c`, in this order.
 fn check_key(rt: &(impl Abort + Alloc<A = Global>), schema: &Schema) {
     assert!(rt; schema.key_len() == 2);
     assert!(rt; schema.key_column(0) == 1);
@@ -137,7 +137,7 @@ fn reads_rows(rt: HostRuntime) {
     assert!(rt; schema.fits(&draft.values));
 }
 
-// The fields of a row of that number, whose text has that many letters.
+// Returns the fields of a row with that number, and a text of that many letters.
 fn fields_of(rt: &(impl Abort + Alloc<A = Global>), number: usize, letters: usize) -> [Field; 4] {
     let digits = number.to_string(rt.alloc()).expect(rt, "memory");
     let letters = b"abcdefghijklmnopqrst"
@@ -151,7 +151,7 @@ fn fields_of(rt: &(impl Abort + Alloc<A = Global>), number: usize, letters: usiz
     ]
 }
 
-// Thousands of rows, with texts of none to nineteen letters.
+// Reads thousands of rows, with texts of 0 to 19 letters.
 #[test]
 fn reads_rows_one_after_another(rt: HostRuntime) {
     let schema = columns(&rt);
@@ -225,7 +225,7 @@ fn orders_numbers_by_value_before_texts_by_bytes(rt: HostRuntime) {
     }
 }
 
-// The values 1 and `a`.
+// Returns the values 1 and `a`.
 fn values(rt: &(impl Abort + Alloc<A = Global>)) -> Values {
     let mut values = Values::new(rt.alloc());
     values.push(Value::Int(1)).expect(rt, "memory");
@@ -233,7 +233,7 @@ fn values(rt: &(impl Abort + Alloc<A = Global>)) -> Values {
     values
 }
 
-// Drafts of those values: one by itself, one of its values, and copies of both behind them.
+// Returns drafts with those values: one added as a draft, one by its values, and copies of both.
 fn drafts(rt: &(impl Abort + Alloc<A = Global>)) -> Drafts {
     let mut drafts = Drafts::new(rt.alloc());
     let draft = Draft {
@@ -263,7 +263,7 @@ fn adds_values_and_drafts(rt: HostRuntime) {
     assert!(rt; drafts.get(4).is_none());
 }
 
-// How many values the draft at that place has, and the first of them where that is a number.
+// Returns how many values the draft at the given index has, and the first of them if it is a number.
 fn shown(rt: &impl Abort, drafts: &Drafts, place: usize) -> (usize, Option<i64>) {
     let draft = drafts.get(place).expect(rt, "a row");
     match draft.value(0) {

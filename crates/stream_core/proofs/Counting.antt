@@ -1,4 +1,4 @@
--- How far the count of failed calls grows.
+-- How much the count of failed calls grows.
 use Rattle.std.proofs.Common.{ℕ, ◌+◌, ◌≤◌, Bool, true, false, arith}
 use Rattle.stream_core.specs.FailureCount.{count_after}
 

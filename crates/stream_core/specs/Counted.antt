@@ -10,20 +10,20 @@ inner_of counted = counted.inner
 abbrev pub failures_of : {T : Type 0} → Counted T → ℕ
 failures_of counted = counted.failures
 
--- a reader at one moment: the bytes that it has left, where they are known, and how many of its calls have failed
+-- a reader at one moment: its unread bytes, if known, and how many of its calls have failed
 pub record Source : Type 0 where
   pub unread : Option (List ℕ)
   pub failures : ℕ
 
--- a writer at one moment: the bytes that it was given, where they are known, and how many of its calls have failed
+-- a writer at one moment: the bytes written to it, if known, and how many of its calls have failed
 pub record Sink : Type 0 where
   pub written : Option (List ℕ)
   pub failures : ℕ
 
--- a counted reader at this moment, where `remaining` gives the bytes that a reader has left
+-- a counted reader at this moment, if `remaining` has the unread bytes of a reader
 abbrev pub source_of : {R : Type 0} → (R → Option (List ℕ)) → Counted R → Source
 source_of remaining reader = record { unread = remaining (inner_of reader); failures = failures_of reader }
 
--- a counted writer at this moment, where `contents` gives the bytes that a writer was given
+-- a counted writer at this moment, if `contents` has the bytes written to a writer
 abbrev pub sink_of : {W : Type 0} → (W → Option (List ℕ)) → Counted W → Sink
 sink_of contents writer = record { written = contents (inner_of writer); failures = failures_of writer }

@@ -5,15 +5,15 @@ use Rattle.std.specs.Prelude.{ℕ, ◌+◌, ◌-◌, ◌^◌, ◌≤◌, ◌==�
 abbrev pub greatest_count : ℕ
 greatest_count = 2 ^ 64 - 1
 
--- the count after a call, of which `failed` says whether it failed
+-- the count after a call; `failed` says whether the call failed
 abbrev pub count_after : ℕ → Bool → ℕ
 count_after count failed = if failed then min (count + 1) greatest_count else count
 
--- the count has grown by one at least, unless it is at its end
+-- the count has grown by at least one, unless it is the greatest
 abbrev pub HasGrown : ℕ → ℕ → Type 0
 HasGrown old new = count_after old true ≤ new
 
--- a write failed: an error, or none of some bytes was taken
+-- a write failed: with an error, or it accepted none of some bytes
 abbrev pub is_failed_write : {E : Type 0} → Result ℕ E → List ℕ → Bool
 is_failed_write (Err e) bytes = true
 is_failed_write (Ok taken) bytes = (taken == 0) && not (length bytes == 0)

@@ -10,7 +10,7 @@ use Rattle.stream_core.specs.declared.fault.RunFault.TheVariants.{ReadFault, Too
 abbrev pub script_limit : ℕ
 script_limit = 67_108_864
 
--- the most failed calls of a run that are tried again
+-- the most failed calls of a run that are retried
 abbrev pub retry_limit : ℕ
 retry_limit = 1_000
 
@@ -19,16 +19,16 @@ abbrev pub HasReadTooMuch : Source → Source → Type 0
 HasReadTooMuch before after =
     (bytes : List ℕ) × Consumes before.unread after.unread bytes × (script_limit < length bytes)
 
--- bytes were read, and put behind those of a text
+-- bytes were read, and appended to a text
 abbrev pub HasReadOn : Option (List ℕ) → Option (List ℕ) → List ℕ → List ℕ → Type 0
 HasReadOn unread left text longer = (bytes : List ℕ) × Consumes unread left bytes × (longer ≡ text ++ bytes)
 
--- some of these bytes were written, from the first on, but never all
+-- a prefix of these bytes was written, but not all
 abbrev pub WritesPartOf : List ℕ → Sink → Sink → Type 0
 WritesPartOf bytes before after =
     (taken : ℕ) × (taken < length bytes) × Appends before.written after.written (take taken bytes)
 
--- how many failed calls end a run, beside those that were tried again
+-- how many failed calls end a run, in addition to the retried ones
 abbrev pub last_failures : {T : Type 0} → Result T RunFault → ℕ
 last_failures (Ok value) = 0
 last_failures (Err ReadFault) = 1
@@ -43,7 +43,7 @@ ExplainsReading before after TooLong = HasReadTooMuch before after
 ExplainsReading before after NoMemory = ⊤
 ExplainsReading before after WriteFault = ⊥
 
--- why reading on behind the bytes of a text stopped, which may have so many
+-- why appending to a text with a limit stopped
 abbrev pub ExplainsReadingOn : List ℕ → ℕ → Source → Source → RunFault → Type 0
 ExplainsReadingOn text limit before after ReadFault = HasGrown before.failures after.failures
 ExplainsReadingOn text limit before after TooLong =

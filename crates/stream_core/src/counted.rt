@@ -17,7 +17,7 @@ pub struct Counted<T> {
 impl<T> Counted<T> {
     ghost use Rattle.stream_core.specs.Counted.{inner_of, failures_of};
 
-    /// A reader or a writer of which no call has failed yet.
+    /// Wraps a reader or a writer; no call has failed yet.
     pub fn new(inner: T) -> Self
         ensures inner { inner_of result ≡ inner }
         ensures none { failures_of result ≡ 0 }
@@ -25,21 +25,21 @@ impl<T> Counted<T> {
         Counted { inner, failures: 0 }
     }
 
-    /// How many calls have failed. The count stays at its greatest number once it is there.
+    /// Returns how many calls have failed. The count stays at the greatest `u64` once it reaches it.
     pub fn failures(&self) -> u64
         ensures { result ≡ failures_of self.now }
     {
         self.failures
     }
 
-    /// The reader or writer underneath.
+    /// Returns the reader or writer underneath.
     pub fn into_inner(self) -> T
         ensures { result ≡ inner_of self }
     {
         self.inner
     }
 
-    // Counts a call that failed.
+    // Counts a call if it failed.
     fn note(&mut self, failed: bool)
         ensures count { failures_of self.new ≡ count_after (failures_of self.old) failed }
         ensures grows { failures_of self.old ≤ failures_of self.new }
@@ -54,8 +54,8 @@ impl<T> Counted<T> {
 impl<R: Read> Counted<R> {
     ghost use Rattle.stream_core.specs.Counted.{inner_of, failures_of};
 
-    /// One read of the reader underneath, with its answer. It has failed where it answers an error, an
-    /// interruption too.
+    /// Reads once from the reader underneath, and returns its result. An error counts as a failed call, even an
+    /// interruption.
     pub fn read(&mut self, buf: &mut [u8]) -> io::Result<usize>
         ensures bound { ReadsAtMost result buf.new }
         ensures bytes { ReadConsumes
@@ -72,8 +72,8 @@ impl<R: Read> Counted<R> {
 impl<W: Write> Counted<W> {
     ghost use Rattle.stream_core.specs.Counted.{inner_of, failures_of};
 
-    /// One write of the writer underneath, with its answer. It has failed where it answers an error, an
-    /// interruption too, or takes none of some bytes.
+    /// Writes once to the writer underneath, and returns its result. An error counts as a failed call, even an
+    /// interruption, and so does a write that accepts none of some bytes.
     pub fn write(&mut self, buf: &[u8]) -> io::Result<usize>
         ensures bound { WritesAtMost result buf.now }
         ensures bytes { WriteAppends (W.contents (inner_of self.old))

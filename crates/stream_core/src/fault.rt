@@ -14,10 +14,10 @@ pub enum RunFault {
     /// The script has more than 67,108,864 bytes.
     #[error("script too long")]
     TooLong,
-    /// A growth was refused.
+    /// An allocation was refused.
     #[error("out of memory")]
     NoMemory,
-    /// A write failed, took none of some bytes, or was interrupted once too often.
+    /// A write failed, accepted none of some bytes, or was interrupted once too often.
     #[error("write fault")]
     WriteFault,
 }

@@ -1,4 +1,4 @@
-//! Reads a script, some of it at a time.
+//! Reading a script, a part at a time.
 ghost use Rattle.std.specs.Prelude.{◌≡◌, ◌+◌, ◌≤◌, ◌<◌, IfOk, IfErr, OnOk, OnErr, take, length, true, false};
 ghost use Rattle.std.specs.Io.KnownBytes.{Consumes, IsAtEnd, Keeps};
 ghost use Rattle.stream_core.specs.Counted.{failures_of, inner_of, source_of};
@@ -16,7 +16,7 @@ pub const SCRIPT_LIMIT: usize = 67_108_864;
 
 const CHUNK: usize = 8192;
 
-/// One read, tried again where it was interrupted.
+/// Reads once, and again after an interruption while `patience` lasts.
 fn read_some<R: Read>(
     reader: &mut Counted<R>,
     patience: &mut Patience,
@@ -49,13 +49,13 @@ fn read_some<R: Read>(
     }
 }
 
-/// Reads on behind the bytes of a text, until it has as many as are wanted or the input is at its end; returns whether
-/// it is.
+/// Appends bytes from the reader to a text, until it has at least `wanted` bytes or the input ends. Returns whether the
+/// input has ended.
 ///
 /// # Errors
 ///
-/// `ReadFault` where a read failed, or was interrupted and no patience is left; `TooLong` where the text comes to have
-/// more bytes than its limit; `NoMemory` where a growth is refused.
+/// `ReadFault` if a read failed, or was interrupted and no patience is left; `TooLong` if the text gets more than
+/// `limit` bytes; `NoMemory` if an allocation is refused.
 pub fn read_on<R: Read>(
     reader: &mut Counted<R>,
     patience: &mut Patience,

@@ -1,4 +1,4 @@
-//! Streams: a script is read, bytes are written whole, and every failed call is counted.
+//! Streams: reading a script, writing bytes in full, and counting every failed call.
 #![tactic(auto)]
 
 mod counted;

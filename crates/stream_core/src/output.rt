@@ -1,4 +1,4 @@
-//! Writes an answer.
+//! Writing an answer.
 ghost use Rattle.std.specs.Prelude.{◌≡◌, ◌+◌, ◌≤◌, ◌<◌, IfOk, IfErr, OnOk, OnErr, take, length};
 ghost use Rattle.std.specs.Io.KnownBytes.{Appends, Keeps};
 ghost use Rattle.stream_core.specs.Counted.{failures_of, inner_of, sink_of};
@@ -10,7 +10,7 @@ use crate::fault::RunFault;
 use crate::patience::Patience;
 use std::io::{ErrorKind, Write};
 
-/// One write of some bytes, tried again where it was interrupted.
+/// Writes some of the bytes once, and again after an interruption while `patience` lasts.
 fn write_some<W: Write>(
     writer: &mut Counted<W>,
     patience: &mut Patience,
@@ -47,8 +47,8 @@ fn write_some<W: Write>(
 ///
 /// # Errors
 ///
-/// `WriteFault` where a write failed, took none of some bytes, or was interrupted and no patience is left:
-/// then a front of the bytes is written, which is less than all of them.
+/// `WriteFault` if a write failed, accepted none of some bytes, or was interrupted and no patience is left. A prefix of
+/// the bytes has then been written, but not all of them.
 pub fn write_all<W: Write>(
     writer: &mut Counted<W>,
     patience: &mut Patience,

@@ -1,4 +1,4 @@
--- Rows that are numbered as they come.
+-- Rows numbered in order.
 use Rattle.std.proofs.Common.{◌≡◌, ℕ, ◌+◌, ◌<◌, List, [], ◌∷◌, ◌++◌, Some, length, get_or, zero, suc, refl, ap, sym, ◌∙◌, arith}
 use Rattle.std.specs.Prelude.{slice_get}
 use Rattle.row_core.specs.declared.draft.Draft.{Draft}
@@ -8,7 +8,7 @@ pub length-numbered : (used : ℕ) (ds : List Draft) → length (numbered used d
 length-numbered used [] = refl
 length-numbered used (d ∷ ds) = ap suc (length-numbered (used + 1) ds)
 
--- more drafts take the ids behind those of others
+-- the ids of more drafts follow those before
 pub numbered-append : (used : ℕ) (ds es : List Draft)
     → numbered used (ds ++ es) ≡ numbered used ds ++ numbered (used + length ds) es
 numbered-append used [] es = let none : used ≡ used + 0 = omega arith in ap (λ n. numbered n es) none
@@ -17,7 +17,7 @@ numbered-append used (d ∷ ds) es =
     ap (λ rows. row_of (used + 1) d ∷ rows)
     (numbered-append (used + 1) ds es ∙ ap (λ n. numbered (used + 1) ds ++ numbered n es) rest)
 
--- the row of the draft at a place
+-- the row of the draft at an index
 pub slice_get-numbered : (used : ℕ) (ds : List Draft) (i : ℕ) (d : Draft) → slice_get ds i ≡ Some d
     → slice_get (numbered used ds) i ≡ Some (row_of (used + i + 1) d)
 slice_get-numbered used [] i d e = absurd (cc)
@@ -34,7 +34,7 @@ length-with_ids [] ds same = refl
 length-with_ids (i ∷ is) [] same = absurd (omega (arith, same))
 length-with_ids (i ∷ is) (d ∷ ds) same = ap suc (length-with_ids is ds (omega (arith, same)))
 
--- one more of them
+-- one row more
 pub with_ids-push : (ids : List ℕ) (ds : List Draft) (id : ℕ) (d : Draft) → length ids ≡ length ds
     → with_ids (ids ++ id ∷ []) (ds ++ d ∷ []) ≡ with_ids ids ds ++ row_of id d ∷ []
 with_ids-push [] [] id d same = refl
@@ -42,7 +42,7 @@ with_ids-push [] (x ∷ xs) id d same = absurd (omega (arith, same))
 with_ids-push (i ∷ is) [] id d same = absurd (omega (arith, same))
 with_ids-push (i ∷ is) (x ∷ xs) id d same = ap (λ rows. row_of i x ∷ rows) (with_ids-push is xs id d (omega (arith, same)))
 
--- one of them
+-- one of the rows
 pub slice_get-with_ids : (ids : List ℕ) (ds : List Draft) (i id : ℕ) (d : Draft) → i < length ids → id ≡ get_or ids i id
     → slice_get ds i ≡ Some d → slice_get (with_ids ids ds) i ≡ Some (row_of id d)
 slice_get-with_ids [] ds i id d inside e f = absurd (omega (arith, inside))

@@ -1,6 +1,6 @@
 #![tactic(auto)]
 
-//! The rows of a table, which lists of them share: a list that shows some of them has their places.
+//! The rows of a table, shared by lists of rows. A list that shows only some of them has their indexes.
 
 mod row_ref;
 mod shared_rows;

@@ -1,4 +1,4 @@
-//! A row where it lies.
+//! Borrowed rows.
 
 ghost use Rattle.std.specs.Prelude.{◌≡◌, ◌+◌, ◌<◌, ◌^◌, length, option_map, slice_get, IfOk};
 ghost use Rattle.draft_core.specs.Lent.{lent_draft};
@@ -12,7 +12,7 @@ use period_core::Period;
 use row_core::{Draft, Row, Value, ValueRef};
 use std::alloc::Global;
 
-/// A row of a table, lent by a list of rows.
+/// A row of a table, borrowed from a list of rows.
 #[derive(Clone, Copy)]
 pub struct RowRef<'a> {
     pub(crate) id: u64,
@@ -20,7 +20,7 @@ pub struct RowRef<'a> {
 }
 
 impl<'a> RowRef<'a> {
-    /// The row of the draft at that place of a table, which gives it its id.
+    /// Returns the row of the draft at the given index of a table, which determines its id.
     #[inline(always)]
     pub fn of_draft(place: usize, draft: DraftRef<'a>) -> RowRef<'a>
         requires { place + 1 < 2 ^ 64 }
@@ -32,14 +32,14 @@ impl<'a> RowRef<'a> {
         }
     }
 
-    /// Its id.
+    /// Returns the row's id.
     pub fn id(self) -> u64
         ensures { result ≡ (lent_row self.entry).id }
     {
         self.id
     }
 
-    /// When it holds.
+    /// Returns the row's period.
     #[inline(always)]
     pub fn period(self) -> Period
         ensures { result ≡ (lent_row self.entry).period }
@@ -47,7 +47,7 @@ impl<'a> RowRef<'a> {
         self.draft.period()
     }
 
-    /// The row without its id.
+    /// Returns the row without its id.
     #[inline(always)]
     pub fn draft(self) -> DraftRef<'a>
         ensures { lent_draft result ≡ unnumbered (lent_row self.entry) }
@@ -55,14 +55,14 @@ impl<'a> RowRef<'a> {
         self.draft
     }
 
-    /// How many values it has.
+    /// Returns the number of values.
     pub fn width(self) -> usize
         ensures { result ≡ length (lent_row self.entry).values }
     {
         self.draft.width()
     }
 
-    /// Its value in the column at that place; none past the last.
+    /// Returns the value in the column at index `column`, or `None` past the last.
     #[inline(always)]
     pub fn value(self, column: usize) -> Option<ValueRef<'a>>
         ensures { option_map lent_value result ≡ slice_get (lent_row self.entry).values column }
@@ -70,18 +70,18 @@ impl<'a> RowRef<'a> {
         self.draft.value(column)
     }
 
-    /// A copy of its value in the column at that place; none past the last.
+    /// Returns a copy of the value in the column at index `column`, or `None` past the last.
     ///
     /// # Errors
     ///
-    /// `NoMemory` where a growth is refused.
+    /// `NoMemory` if an allocation is refused.
     pub fn copy_value(self, alloc: Global, column: usize) -> Result<Option<Value>, NoMemory>
         ensures { IfOk result (λ value. value ≡ slice_get (lent_row self.entry).values column) }
     {
         self.draft.copy_value(alloc, column)
     }
 
-    /// A copy of the row.
+    /// Returns a copy of the row.
     pub fn copy(self, alloc: Global) -> Result<Row, NoMemory>
         ensures { IfOk result (λ row. row ≡ lent_row self.entry) }
     {

@@ -1,4 +1,4 @@
-//! Rows of a table that a list shares with it.
+//! Lists that share the rows of a table.
 
 ghost use Rattle.std.specs.Prelude.{◌≡◌, ◌<◌, All, Some, filter, length, slice_get, IfOk};
 ghost use Rattle.period_core.specs.Period.{holds_at};
@@ -15,8 +15,8 @@ use std::alloc::{AllocError, Global};
 use std::marker::Model;
 use std::sync::Arc;
 
-/// Rows of a table, by rising id, which no list copies: one that shows them all shares them, and one that
-/// shows some has their places beside. Contracts see the list of those that it shows.
+/// Rows of a table, by rising id, shared by reference count. A list that doesn't show all rows has the indexes of those
+/// that it shows. Contracts see the list of the shown rows.
 #[derive(Debug, Drop)]
 pub struct SharedRows {
     pub(crate) source: Source,
@@ -37,7 +37,7 @@ impl Model for SharedRows {
 }
 
 impl SharedRows {
-    /// The rows of a list, which nothing shares yet.
+    /// Returns a list of these rows, which nothing else shares yet.
     pub fn of(alloc: Global, rows: RowList) -> Result<SharedRows, NoMemory>
         ensures { IfOk result (λ shared. shared ≡ rows) }
     {
@@ -47,14 +47,14 @@ impl SharedRows {
         })
     }
 
-    /// How many there are.
+    /// Returns the number of rows.
     pub fn len(&self) -> usize
         ensures { result ≡ length self.now }
     {
         count_of(&self.source, &self.places)
     }
 
-    /// The row at that place, from 0.
+    /// Returns the row at the given index.
     pub fn at(&self, place: usize) -> RowRef<'_>
         requires { place < length self.now }
         ensures { slice_get self.now place ≡ Some (lent_row result) }
@@ -62,11 +62,11 @@ impl SharedRows {
         row_at(&self.source, &self.places, place)
     }
 
-    /// A list of them, which are copied.
+    /// Returns copies of the rows.
     ///
     /// # Errors
     ///
-    /// `NoMemory` where a growth is refused.
+    /// `NoMemory` if an allocation is refused.
     pub fn list(&self, alloc: Global) -> Result<RowList, NoMemory>
         ensures { IfOk result (λ list. list ≡ self.now) }
     {
@@ -77,11 +77,12 @@ impl SharedRows {
         Ok(RowList::from(list))
     }
 
-    /// Those that hold at the point, which are not copied.
+    /// Returns the rows that hold at the point, without copying them.
     ///
     /// # Errors
     ///
-    /// `NoMemory` where a growth is refused, or one that holds lies behind 2^32 others, as no table has.
+    /// `NoMemory` if an allocation is refused, or if such a row's index is 2^32 or more; no table has as many rows as
+    /// that.
     pub fn holding(&self, alloc: Global, point: Point) -> Result<SharedRows, NoMemory>
         ensures { IfOk result (λ rows. rows ≡ filter (λ row. holds_at point row.period) self.now) }
     {
@@ -93,7 +94,7 @@ impl SharedRows {
     }
 }
 
-/// How many rows a list shows: those at the places, or all.
+/// Returns how many rows a list shows: one for each index, or all.
 fn count_of(source: &Source, places: &Option<Vec<u32>>) -> usize
     requires { AreWithin places.now (rows_from source.now) }
     ensures { result ≡ length (shown_at places.now (rows_from source.now)) }
@@ -104,7 +105,7 @@ fn count_of(source: &Source, places: &Option<Vec<u32>>) -> usize
     }
 }
 
-/// The row at that place of a list that shows the rows at those places, or all.
+/// Returns the row at the given index of a list that shows the rows at `places`, or all.
 fn row_at<'a>(source: &'a Source, places: &Option<Vec<u32>>, place: usize) -> RowRef<'a>
     requires within { AreWithin places.now (rows_from source.now) }
     requires there { place < length (shown_at places.now (rows_from source.now)) }
@@ -114,7 +115,7 @@ fn row_at<'a>(source: &'a Source, places: &Option<Vec<u32>>, place: usize) -> Ro
     source.at(place_among(source, places, place))
 }
 
-/// Where the row at that place of a list lies among all rows.
+/// Returns the index, among all rows, of the row at the given index of the list.
 fn place_among(source: &Source, places: &Option<Vec<u32>>, place: usize) -> usize
     requires within { AreWithin places.now (rows_from source.now) }
     requires there { place < length (shown_at places.now (rows_from source.now)) }
@@ -128,7 +129,7 @@ fn place_among(source: &Source, places: &Option<Vec<u32>>, place: usize) -> usiz
     }
 }
 
-/// The places of those of a list's rows that hold at the point. No table has more rows than 32 bits count.
+/// Returns the indexes of the list's rows that hold at the point. 32 bits are enough for the rows of a table.
 fn places_holding(
     alloc: Global,
     source: &Source,
@@ -150,18 +151,18 @@ fn places_holding(
     Ok(held)
 }
 
-/// Whether the row holds at the point.
+/// Returns whether the row holds at the point.
 fn holds_at(row: RowRef<'_>, point: Point) -> bool
     ensures { result ≡ holds_at point (lent_row row.entry).period }
 {
     row.period().holds(point)
 }
 
-/// The place in 32 bits. No table has more rows than these count; a list that a caller made may.
+/// Returns the index in 32 bits. They are enough for each table, but a list that a caller made may be longer.
 ///
 /// # Errors
 ///
-/// `NoMemory` where it is past them: no growth is refused then.
+/// `NoMemory` if it doesn't fit; no allocation was refused then.
 pub fn as_place(place: usize) -> Result<u32, NoMemory>
     ensures { IfOk result (λ p. p ≡ place) }
 {

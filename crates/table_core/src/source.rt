@@ -13,7 +13,7 @@ use std::alloc::Global;
 use std::marker::Model;
 use std::sync::Arc;
 
-/// Rows that have ids of their own. Contracts see the list.
+/// Rows with ids of their own. Contracts see the list.
 #[derive(Debug, Drop)]
 pub(crate) struct RowsWithIds {
     ids: Vec<u64>,
@@ -33,7 +33,7 @@ impl Model for RowsWithIds {
 }
 
 impl RowsWithIds {
-    /// Those of a list.
+    /// Returns the rows of a list.
     pub(crate) fn of(alloc: Global, list: RowList) -> Result<RowsWithIds, NoMemory>
         ensures { IfOk result (λ rows. rows ≡ list) }
     {
@@ -60,14 +60,14 @@ impl RowsWithIds {
         Ok(())
     }
 
-    /// How many there are.
+    /// Returns the number of rows.
     fn len(&self) -> usize
         ensures { result ≡ length self.now }
     {
         self.ids.len()
     }
 
-    /// The row at that place.
+    /// Returns the row at the given index.
     fn at(&self, place: usize) -> RowRef<'_>
         requires { place < length self.now }
         ensures { slice_get self.now place ≡ Some (lent_row result) }
@@ -79,8 +79,7 @@ impl RowsWithIds {
     }
 }
 
-/// Rows that lists share: those of a table, whose ids are their places from 1 on, or a caller's, which
-/// have ids of their own.
+/// Rows that lists share: those of a table, whose ids are their indexes plus 1, or a caller's, with ids of their own.
 #[derive(Debug, Drop)]
 pub(crate) enum Source {
     Numbered(Arc<Drafts>),
@@ -88,7 +87,7 @@ pub(crate) enum Source {
 }
 
 impl Source {
-    /// One more owner.
+    /// Returns another owner.
     pub(crate) fn share(&self) -> Result<Source, NoMemory>
         ensures { IfOk result (λ source. rows_from source ≡ rows_from self.now) }
     {
@@ -98,7 +97,7 @@ impl Source {
         }
     }
 
-    /// How many rows there are.
+    /// Returns the number of rows.
     pub(crate) fn len(&self) -> usize
         ensures { result ≡ length (rows_from self.now) }
     {
@@ -108,7 +107,7 @@ impl Source {
         }
     }
 
-    /// The row at that place.
+    /// Returns the row at the given index.
     pub(crate) fn at(&self, place: usize) -> RowRef<'_>
         requires { place < length (rows_from self.now) }
         ensures { slice_get (rows_from self.now) place ≡ Some (lent_row result) }
@@ -120,12 +119,12 @@ impl Source {
     }
 }
 
-/// The row of the draft at that place of a table.
+/// Returns the row of the draft at the given index of a table.
 pub(crate) fn numbered_at(drafts: &Drafts, place: usize) -> RowRef<'_>
     requires { place < length drafts.now }
     ensures { slice_get (numbered 0 drafts.entry.now) place ≡ Some (lent_row result) }
 {
-    // The length fits 64 bits, and so does the id of a place below it.
+    // The length fits 64 bits, and so does the id of an index below it.
     prove!(place < drafts.len());
     RowRef::of_draft(place, drafts.at(place))
 }

@@ -16,8 +16,7 @@ use std::alloc::Global;
 use std::marker::Model;
 use std::sync::Arc;
 
-/// All rows that a table has ever had, whose ids are their places from 1 on. Lists share them.
-/// Contracts see the list.
+/// All rows that a table has ever had; a row's id is its index plus 1. Lists share them. Contracts see the list.
 #[derive(Drop)]
 pub struct TableRows {
     drafts: Arc<Drafts>,
@@ -35,7 +34,7 @@ impl Model for TableRows {
 }
 
 impl TableRows {
-    /// No rows.
+    /// Returns an empty list of rows.
     pub fn new(alloc: Global) -> Result<TableRows, NoMemory>
         ensures { IfOk result (λ rows. rows ≡ []) }
     {
@@ -44,14 +43,14 @@ impl TableRows {
         })
     }
 
-    /// How many there are.
+    /// Returns the number of rows.
     pub fn len(&self) -> usize
         ensures { result ≡ length self.now }
     {
         self.drafts.len()
     }
 
-    /// The row at that place; none past the last.
+    /// Returns the row at the given index, or `None` past the last.
     pub fn get(&self, place: usize) -> Option<RowRef<'_>>
         ensures { option_map lent_row result ≡ slice_get self.now place }
     {
@@ -62,7 +61,7 @@ impl TableRows {
         }
     }
 
-    /// All rows without their ids, in their order.
+    /// Returns all rows without their ids, in order.
     #[inline(always)]
     pub fn drafts(&self) -> &Drafts
         ensures { numbered 0 result.now ≡ self.now }
@@ -70,7 +69,7 @@ impl TableRows {
         &self.drafts
     }
 
-    /// The same rows, which are not copied.
+    /// Returns the same rows, without copying them.
     pub fn share(&self) -> Result<TableRows, NoMemory>
         ensures { IfOk result (λ rows. rows ≡ self.now) }
     {
@@ -79,7 +78,7 @@ impl TableRows {
         })
     }
 
-    /// A list of all rows, which are not copied.
+    /// Returns a list of all rows, without copying them.
     pub fn all(&self) -> Result<SharedRows, NoMemory>
         ensures { IfOk result (λ rows. rows ≡ self.now) }
     {
@@ -89,7 +88,7 @@ impl TableRows {
         })
     }
 
-    /// A list of the rows at those places, which are not copied.
+    /// Returns a list of the rows at these indexes, without copying them.
     pub fn at_places(&self, places: Vec<u32>) -> Result<SharedRows, NoMemory>
         requires { All (λ place. place < length self.now) places.items }
         ensures { IfOk result (λ rows. rows ≡ at_places places.items self.now) }
@@ -100,8 +99,8 @@ impl TableRows {
         })
     }
 
-    /// Adds rows at the end, with the ids that follow. Where lists share those that are there, these
-    /// are copied first. On refusal there are none more.
+    /// Adds rows at the end, with the next ids. If lists share the old rows, these are copied first. If memory is
+    /// refused, the rows are unchanged.
     pub fn append(&mut self, alloc: Global, more: Drafts) -> Result<(), NoMemory>
         ensures ok { OnOk result (self.new ≡ self.old ++ numbered (length self.old) more) }
         ensures err { OnErr result (self.new ≡ self.old) }
@@ -110,7 +109,7 @@ impl TableRows {
     }
 }
 
-/// Adds drafts to those that are shared.
+/// Adds drafts to shared drafts, which are copied first if another owner shares them.
 fn append(alloc: Global, shared: &mut Arc<Drafts>, more: Drafts) -> Result<(), NoMemory>
     ensures ok { OnOk result (arc_value shared.new ≡ arc_value shared.old ++ more) }
     ensures err { OnErr result (arc_value shared.new ≡ arc_value shared.old) }

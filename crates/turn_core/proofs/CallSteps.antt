@@ -1,4 +1,4 @@
--- The steps of one call keep the rule: a ticket is drawn, it is looked for, and the turn is passed on.
+-- The steps of one call keep the rule: drawing a ticket, checking for it, and passing the turn on.
 use Rattle.std.proofs.Common.{◌≡◌, ◌≢◌, ℕ, ◌+◌, ◌-◌, ◌%◌, ◌^◌, ◌<◌, ◌≤◌, Bool, true, false, List, [], ◌∷◌, slice_index, slice_set, Option, Some, sym, refl, ap, ◌∙◌, subst, arith, le_refl, append-nil, None}
 use mathlib.Core.Option.{some, none}
 use mathlib.Core.List.{IsPrefix}
@@ -17,7 +17,7 @@ use Rattle.turn_core.proofs.RoundLemmas.{pick, pick-yes, pick-no, each-set}
 use Rattle.turn_core.proofs.ViewSums.{sum-set, one-le-sum}
 use Rattle.turn_core.proofs.EntryLemmas.{prefix-trans, own-added, prefix-added, numbered-added}
 
--- the state in the first slot that is out
+-- the state taken out of the first slot
 state_of : {S : Type 0} → S → List (ℕ × Option S) → S
 state_of y [] = y
 state_of y ((n, None) ∷ c) = y
@@ -36,7 +36,7 @@ module _ {S E : Type 0} (entries : S → List E) (by : E → ℕ) (mark_of : S �
   abbrev Rule : St → Type 0
   Rule = Serves entries by mark_of seats
 
-  -- one more ticket, drawn by me
+  -- one ticket more, drawn by me
   abbrev with_ticket : Round E → ℕ → Round E
   with_ticket x me = record x { drawn = x.drawn + 1; drawer = λ k. pick (ℕ_discrete k x.drawn) me (x.drawer k) }
 
@@ -117,7 +117,7 @@ module _ {S E : Type 0} (entries : S → List E) (by : E → ℕ) (mark_of : S �
         (refl, ap (λ (k : ℕ). record v { left = v.left - 1; stage = Waiting k }) (sym n)),
       )
 
-  -- a seat fits a round with the same log and numbers, where its stage does
+  -- a seat fits a round with the same log and numbers if its stage does
   refits : (x x' : Round E) (i : ℕ) (v : V) → x.log ≡ x'.log → x.holder ≡ x'.holder → Fits by seats x i v
       → StageFits x' i v.seen v.stage → Fits by seats x' i v
   refits x x' i v same hold f stage = record {
@@ -255,7 +255,7 @@ module _ {S E : Type 0} (entries : S → List E) (by : E → ℕ) (mark_of : S �
       dite (ℕ_discrete r.x.served k) (λ hit. hit-keeps slots id me k s r p is at hit)
       (λ miss. miss-keeps slots id me k s r is at miss)
 
-  -- the round after the state came home as y
+  -- the round after the state was put back as y
   abbrev passed_on : Round E → S → Round E
   passed_on x y = record x { log = entries y; served = x.served + 1; out = false }
 

@@ -1,4 +1,4 @@
--- The views of the seats as they are dealt.
+-- The views of new seats.
 use Rattle.std.proofs.Common.{◌≡◌, ℕ, zero, suc, ◌+◌, ◌-◌, ◌*◌, ◌⊎◌, inl, inr, ⊎_elim, List, [], ◌∷◌, ◌++◌, length, slice_get, Some, sym, refl, ap, ◌∙◌, subst, arith}
 use Rattle.std.specs.Option.{unwrap_or}
 use Rattle.std.proofs.lemmas.Option.{slice_get_within}
@@ -19,7 +19,7 @@ module _ {A : Type 0} where
   get-push (x ∷ xs) a s zero e = inl e
   get-push (x ∷ xs) a s (suc i) e = ⊎_elim inl (λ t. inr (ap suc t.0, t.1)) (get-push xs a s i e)
 
-  -- a fact about each element and its place, after one more came
+  -- a fact about each element and its index, after one more was added
   pub each-push : (P : ℕ → A → Type 0) (l m : List A) (a : A) → m ≡ l ++ a ∷ []
       → ((i : ℕ) (s : A) → slice_get l i ≡ Some s → P i s) → P (length l) a
       → (i : ℕ) (s : A) → slice_get m i ≡ Some s → P i s

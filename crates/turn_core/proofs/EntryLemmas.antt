@@ -1,4 +1,4 @@
--- Fronts of lists, and the entries of one caller.
+-- Prefixes of lists, and the entries of one caller.
 use Rattle.std.proofs.Common.{◌≡◌, ◌≢◌, ℕ, zero, suc, ◌==◌, ◌<◌, ◌≤◌, ◌⊎◌, inl, inr, List, [], ◌∷◌, ◌++◌, All, length, sym, refl, ap, ◌∙◌, subst, arith, eq-eqb, ne_eqb, ⊎_elim, cond, Bool, append-nil, append_assoc, length-append, drop, get_or}
 use Rattle.std.proofs.lemmas.List.{nil_from_length}
 use Rattle.std.proofs.lemmas.List.Elements.{filter-append, All-push}
@@ -29,7 +29,7 @@ pub numbered-front : {E : Type 0} (by : E → ℕ) (mark : ℕ) (xs ys : List E)
 numbered-front by mark xs ys (t, e) h =
     all-front (λ x. (0 < by x) × (by x ≤ mark)) xs t (subst (AreOfCallers by mark) (sym e) h)
 
--- of two fronts of one list the longer is a front of it, and both are fronts of the longer
+-- the longer of two prefixes of a list is a prefix too, and both are prefixes of it
 pub longer-meets : {A : Type 0} (xs ys t u : List A) → xs ++ t ≡ ys ++ u
     → IsPrefix (longer xs ys) (xs ++ t) × IsPrefix xs (longer xs ys) × IsPrefix ys (longer xs ys)
 longer-meets [] ys t u e = ((u, sym e), (ys, refl), ([], append-nil ys))
@@ -81,7 +81,7 @@ module _ {E : Type 0} (by : E → ℕ) where
       filter-append (λ x. by x == p) xs (e ∷ [])
       ∙ (ap (λ ys. own by p xs ++ ys) (own-none p e h) ∙ append-nil (own by p xs))
 
-  -- what a caller q adds changes nothing for another
+  -- an entry that caller q adds changes nothing for another caller
   pub own-added : (p q : ℕ) (xs ys : List E) → p ≢ q → AddsAtMostOne by q xs ys → own by p ys ≡ own by p xs
   own-added p q xs ys ne (inl same) = ap (own by p) same
   own-added p q xs ys ne (inr (e, of, is)) = ap (own by p) is ∙ own-other p xs e (λ h. ne (sym h ∙ of))

@@ -1,4 +1,4 @@
--- Changes of one view, and of who has a number or a ticket.
+-- Changes of one view, and of the owners of numbers and tickets.
 use Rattle.std.proofs.Common.{◌≡◌, ◌≢◌, ℕ, List, set, sym, refl, subst, ⊎_elim}
 use mathlib.Core.Option.{some}
 use lib.ListN.{get_elem?}

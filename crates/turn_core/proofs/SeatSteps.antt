@@ -1,4 +1,4 @@
--- The steps that make seats and join them keep the rule.
+-- The steps that make and join seats keep the rule.
 use Rattle.std.proofs.Common.{◌≡◌, ◌≢◌, ℕ, zero, suc, ◌+◌, ◌<◌, ◌≤◌, false, List, [], ◌∷◌, set, length, slice_index, slice_set, Option, Some, sym, refl, ap, ◌∙◌, subst, ⊎_elim, arith, le_refl, length-set}
 use mathlib.Core.Option.{some, none, some-injective, some-ne-none}
 use mathlib.Core.List.{IsPrefix}
@@ -73,7 +73,7 @@ module _ {S E : Type 0} (entries : S → List E) (by : E → ℕ) (mark_of : S �
     each = opens-each some_seat;
   }
 
-  -- the numbers above p go to a new seat
+  -- the numbers above p pass to a new seat
   abbrev handed : Round E → ℕ → ℕ → Round E
   handed x p to = record x { holder = λ k. pick (dec_lt p k) to (x.holder k) }
 

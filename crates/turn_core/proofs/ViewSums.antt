@@ -6,7 +6,7 @@ use mathlib.Core.Option.{some, some-injective, some-ne-none}
 use lib.ListN.{get_elem?}
 
 module _ {A : Type 0} (f : A → ℕ) where
-  -- the sum after a change of one
+  -- the sum after one view changed
   pub sum-set : (xs : List A) (i : ℕ) (v w : A) → get_elem? xs i ≡ some v
       → sum_by f (set xs i w) + f v ≡ sum_by f xs + f w
   sum-set [] i v w at = absurd (some-ne-none v (sym at))
@@ -17,7 +17,7 @@ module _ {A : Type 0} (f : A → ℕ) where
       let h = sum-set xs i v w at in
       omega (arith, h, sum_by-cons f x xs, sum_by-cons f x (set xs i w))
 
-  -- what one has is no more than the sum
+  -- one view's number is at most the sum
   pub one-le-sum : (xs : List A) (i : ℕ) (v : A) → get_elem? xs i ≡ some v → f v ≤ sum_by f xs
   one-le-sum [] i v at = absurd (some-ne-none v (sym at))
   one-le-sum (x ∷ xs) zero v at = let e = ap f (some-injective x v at) in omega (arith, sum_by-cons f x xs)

@@ -1,4 +1,5 @@
--- What a contract says of one call: what a closure that is lent the state owes, and what its caller has seen after.
+-- What a contract says of one call: the duties of the closure that gets the state, and what the caller has seen
+-- afterwards.
 use Rattle.std.specs.Prelude.{◌≡◌, ℕ, List, ◌⊎◌, [], ◌∷◌, ◌++◌}
 use denote.Ref.{MutBor}
 use Rattle.std.specs.Fn.{Once, FnOnceTakesAtMut, FnOnceReturnsAtMut}
@@ -14,16 +15,16 @@ pub record IsSameCaller {E : Type 0} (v w : View E) : Type 0 where
 
 module _ {S E F R : Type 0} (entries : S → List E) (by : E → ℕ) (mark_of : S → ℕ)
     (g : Once F (MutBor S × Unit {0}) (R × (MutBor S × Unit {0}))) (f : F) (v : View E) where
-  -- f may be called at each state that the seat may be lent; it keeps the mark and the entries, and adds at most
-  -- one, of the seat's number
+  -- f may be called with each state that the seat may get; it keeps the mark and the entries, and adds at most one,
+  -- with the seat's number
   abbrev pub KeepsEntries : Type 0
   KeepsEntries = (x : S) → Lent entries by mark_of v x
       → FnOnceTakesAtMut g f x
       × ((r : R) (y : S) → FnOnceReturnsAtMut g f x r y
       → (mark_of y ≡ mark_of x) × AddsAtMostOne by v.number (entries x) (entries y))
 
-  -- f was called once, at a state that begins with all that the seat had seen; the seat has now seen what f left,
-  -- and of its own it has what it had, and what f added
+  -- f was called once, with a state that begins with all that the seat had seen; the seat has now seen the entries that
+  -- f left, and its own entries are the old ones and the one that f added
   pub record Ran (r : R) (w : View E) : Type 0 where
     pub lent : S
     pub left : S

@@ -1,4 +1,4 @@
--- How much of each there may be.
+-- Limits.
 use Rattle.std.specs.Prelude.{ℕ, ◌^◌}
 
 -- the most seats of a turn
@@ -9,6 +9,6 @@ seat_limit = 16
 abbrev pub call_limit : ℕ
 call_limit = 2 ^ 40
 
--- the most tickets that are ever drawn: the words count them
+-- the most tickets that are ever drawn; a word can count this many
 abbrev pub ticket_limit : ℕ
 ticket_limit = 2 ^ 44

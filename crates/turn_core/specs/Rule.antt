@@ -1,5 +1,5 @@
--- The rule of the turn, over the two words, the slot and the views of all seats. Word 0 counts the tickets that
--- were drawn, word 1 those that were served. The slot has the state, unless the caller that is served has it.
+-- The rule of the turn, over the two words, the slot and the views of all seats. Word 0 counts the tickets that were
+-- drawn, word 1 those that were served. The slot has the state, unless the caller being served has it.
 use Rattle.std.specs.Prelude.{◌≡◌, ℕ, ◌+◌, ◌<◌, ◌≤◌, Bool, true, false, List, [], ◌∷◌, Option, Some, sum_by}
 use mathlib.Core.Option.{some, none}
 use mathlib.Core.List.{IsPrefix}
@@ -11,8 +11,8 @@ use Rattle.turn_core.specs.declared.view.View.{View}
 use Rattle.turn_core.specs.declared.view.Stage.{Stage}
 use Rattle.turn_core.specs.declared.view.Stage.TheVariants.{Resting, Waiting, Serving}
 
--- all entries, the tickets drawn and served, whether the state is out, which seat drew a ticket, and which has a
--- number
+-- all entries, the tickets drawn and served, whether the state is out, the seat that drew each ticket, and the seat
+-- that has each number
 pub record Round (E : Type 0) : Type 0 where
   pub log : List E
   pub drawn : ℕ
@@ -22,14 +22,14 @@ pub record Round (E : Type 0) : Type 0 where
   pub holder : ℕ → ℕ
 
 module _ {E : Type 0} (x : Round E) (i : ℕ) (seen : List E) where
-  -- a ticket that waits is the seat's own and not served yet; the seat that is served has the state, and has
-  -- seen all
+  -- a waiting ticket is the seat's own, and isn't served yet; a seat being served has the state, and has seen all
+  -- entries
   abbrev pub StageFits : Stage → Type 0
   StageFits Resting = Unit {0}
   StageFits (Waiting k) = (x.served ≤ k) × (k < x.drawn) × (x.drawer k ≡ i) × (k ≡ x.served → x.out ≡ false)
   StageFits (Serving k) = (k ≡ x.served) × (x.drawer k ≡ i) × (x.out ≡ true) × (seen ≡ x.log)
 
--- a seat of a caller: its number and those that are not dealt yet are its own, and it knows all of its entries
+-- a caller's seat: its number and the ones not given out yet are its own, and it knows all of its entries
 pub record Sits {E : Type 0} (by : E → ℕ) (seats : ℕ) (x : Round E) (i : ℕ) (v : View E) : Type 0 where
   pub mark : v.mark ≡ seats
   pub source : v.source ≡ v.number
@@ -39,7 +39,7 @@ pub record Sits {E : Type 0} (by : E → ℕ) (seats : ℕ) (x : Round E) (i : �
   pub mine : own by v.number x.log ≡ v.mine
   pub unused : (k : ℕ) → v.number < k → k ≤ v.number + v.spare → own by k x.log ≡ []
 
--- a seat: what it has seen begins all entries, and has its source's own
+-- a seat: the entries that it has seen are a prefix of all, and include all its source's
 pub record Fits {E : Type 0} (by : E → ℕ) (seats : ℕ) (x : Round E) (i : ℕ) (v : View E) : Type 0 where
   pub sits : 0 < v.number → Sits by seats x i v
   pub seen : IsPrefix v.seen x.log

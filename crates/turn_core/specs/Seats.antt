@@ -6,7 +6,7 @@ use Rattle.turn_core.specs.declared.seat.Seat.{Seat}
 use Rattle.turn_core.specs.declared.turn.Turn.{Turn}
 use Rattle.turn_core.specs.declared.view.View.{View}
 
--- which table the turn is played at
+-- the table of the turn
 abbrev pub table_in : {S E : Type 0} → Turn S E → TableId
 table_in turn = turn.table.shared.table_id
 
@@ -15,6 +15,6 @@ module _ {S E : Type 0} {kept : Ghosts S E} where
   abbrev pub view_of : Seat S E kept → View E
   view_of seat = seat.seat.me.0
 
-  -- the seat is one of this turn, or was split off one
+  -- the seat is one of this turn, or was split off from one
   abbrev pub IsSeatOf : Turn S E → Seat S E kept → Type 0
   IsSeatOf turn seat = seat.seat.table_id ≡ table_in turn

@@ -1,10 +1,10 @@
-//! What a turn lends.
+//! The state that a turn lends.
 
 ghost use Rattle.std.specs.Prelude.{ℕ, List};
 
-/// A state that stands for a list of entries.
+/// A state that represents a list of entries.
 pub trait Kept: Drop {
-    /// What callers add.
+    /// The type of the entries that callers add.
     type Entry;
 
     // The entries, oldest first.

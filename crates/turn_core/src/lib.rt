@@ -1,11 +1,12 @@
 #![tactic(auto)]
 
-//! A state that callers on their own threads take in turn, each in the order of the tickets.
+//! A state that callers on several threads take in turn, in the order of their tickets.
 //!
-//! A `Turn` keeps the state, which stands for a list of entries (`Kept`), and a caller has a `Seat` at it. Each
-//! `with` draws a ticket, waits until it is served, is lent the state, and may add an entry of its own. So the
-//! entries that a caller finds begin with all that it had seen, and those of its own number are the ones that
-//! it added. A seat that `split` gives shows another caller what was seen; after `join` that one knows as much.
+//! A `Turn` stores the state, which represents a list of entries (`Kept`), and each caller has a `Seat` at it. `with`
+//! draws a ticket, waits until it is served, and passes the state to a closure, which may add one entry of the
+//! caller's. The entries that a caller finds begin with all that it had seen, and the ones with its own number are
+//! exactly the ones that it added. `split` makes a seat that carries what a caller has seen to another caller, which
+//! has seen at least this after `join`.
 
 mod kept;
 mod plays;

@@ -1,4 +1,4 @@
-//! The rule of the table, and what each step on it shows. These types are for proofs alone.
+//! The rule of the table, and what each step on it proves. These types are for proofs only.
 
 ghost use Rattle.turn_core.specs.Rule.{Serves};
 ghost use Rattle.turn_core.specs.Steps.{view_from, sole, following, telling, hearing, spent_view, DrawsTicket, Looks, PassesOn, Learns};
@@ -8,7 +8,8 @@ use crate::view::View;
 use atomic_table::{Join, Play, Split, TableRule};
 use std::marker::PhantomData;
 
-// The rule: callers are served in the order of their tickets, and the state is at home or with the one served.
+// The rule: callers are served in the order of their tickets, and the state is in its slot or with the caller being
+// served.
 pub(crate) struct InOrder<S> {
     state: PhantomData<S>,
 }
@@ -19,7 +20,7 @@ impl<S: Kept> TableRule<Option<S>, View<S::Entry>, u32> for InOrder<S> {
     ghost first = { λ seats. view_from 1 seats };
 }
 
-// A new seat, with the next number.
+// Splits off a new seat, with the next number.
 pub(crate) struct Deal;
 
 impl<E> Split<View<E>> for Deal {
@@ -35,21 +36,21 @@ impl<S: Kept> Play<Option<S>, View<S::Entry>> for Draw {
     ghost then = { λ st m n w. DrawsTicket st m n w };
 }
 
-// Looks whether the ticket is served; at its turn the state comes out.
+// Checks whether the ticket is served; if so, the state is taken out.
 pub(crate) struct Look;
 
 impl<S: Kept> Play<Option<S>, View<S::Entry>> for Look {
     ghost then = { Looks S.entries S.by S.mark };
 }
 
-// Puts the state home, and serves the next ticket.
+// Puts the state back, and serves the next ticket.
 pub(crate) struct PassOn;
 
 impl<S: Kept> Play<Option<S>, View<S::Entry>> for PassOn {
     ghost then = { PassesOn S.entries S.by };
 }
 
-// A seat that passes on what was seen.
+// Splits off a seat that carries what was seen.
 pub(crate) struct Tell;
 
 impl<E> Split<View<E>> for Tell {
@@ -58,7 +59,7 @@ impl<E> Split<View<E>> for Tell {
     ghost right = { λ v. telling v };
 }
 
-// Takes in what such a seat passes on.
+// Adds what such a seat carries.
 pub(crate) struct Hear;
 
 impl<E> Join<View<E>> for Hear {
@@ -67,7 +68,7 @@ impl<E> Join<View<E>> for Hear {
     ghost spent = { spent_view };
 }
 
-// Learns that all was seen of one list.
+// Concludes that everything seen is from one list.
 pub(crate) struct Learn;
 
 impl<S: Kept> Play<Option<S>, View<S::Entry>> for Learn {

@@ -1,4 +1,4 @@
-//! The turn: a word of tickets drawn, a word of tickets served, and one slot for the state.
+//! The turn: a word that counts the tickets drawn, a word that counts those served, and one slot for the state.
 
 ghost use Rattle.std.specs.Prelude.{◌≡◌, ◌⊎◌, ℕ, ◌+◌, ◌-◌, ◌<◌, ◌≤◌, [], ◌∷◌, Some, None, slice_get, IfOk, vec_len, vec_capacity};
 ghost use Rattle.turn_core.specs.declared.view.Stage.TheVariants.{Resting, Waiting, Serving};
@@ -23,7 +23,7 @@ pub const SEAT_LIMIT: u32 = 16;
 /// The most calls of a seat.
 pub const CALL_LIMIT: u64 = 1 << 40;
 
-// The places of the two words in the table.
+// The indexes of the two words in the table.
 const TICKET: usize = 0;
 
 const SERVING: usize = 1;
@@ -39,8 +39,12 @@ pub struct Turn<S: Kept> {
 impl<S: Kept> Turn<S> {
     ghost use Rattle.turn_core.specs.Seats.{IsSeatOf, table_in, view_of};
 
-    /// A turn over a state without entries, and its seats: the one with number i + 1 stands at place i, and may
-    /// make 2^40 calls. A state whose turn is out of memory is dropped.
+    /// Returns a turn over a state without entries, and its seats. The seat at index `i` has the number `i + 1`, and
+    /// may make 2^40 calls.
+    ///
+    /// # Errors
+    ///
+    /// `AllocError` if an allocation is refused; the state is then dropped.
     pub fn new(alloc: Global, state: S, seats: u32) -> Result<(Turn<S>, Vec<Seat<S>>), AllocError>
         requires seats { (1 ≤ seats) × (seats ≤ seat_limit) }
         requires empty { S.entries state ≡ [] }
@@ -61,7 +65,7 @@ impl<S: Kept> Turn<S> {
         Ok((turn, list))
     }
 
-    // Deals a seat for each number.
+    // Makes a seat for each number.
     fn deal(&self, first: TableSeat<S>, seats: u32, list: &mut Vec<Seat<S>>)
         requires turn { first.table_id ≡ table_in self.now }
         requires seats { 1 ≤ seats }
@@ -82,8 +86,8 @@ impl<S: Kept> Turn<S> {
         list.push_reserved(Seat { number, seat: last });
     }
 
-    /// Lends the state once it is this caller's turn. What is lent has all entries so far, which begin with those
-    /// that the caller had seen; `f` leaves them, and may add one, of the caller's number.
+    /// Waits for this caller's turn, and calls `f` with the state. The state has all entries added before, which begin
+    /// with those that the caller had seen. `f` must keep them, and may add one with the caller's number.
     pub fn with<T, F: FnOnce(&mut S) -> T, R: Wait>(&self, rt: &R, seat: &mut Seat<S>, f: F) -> T
         requires turn { IsSeatOf self.now seat.old }
         requires number { 0 < (view_of seat.old).number }
@@ -102,7 +106,7 @@ impl<S: Kept> Turn<S> {
         result
     }
 
-    /// A seat that passes on what this one knows, and serves `join` alone.
+    /// Returns a seat that carries what this one knows. It can only be used for `join`.
     pub fn split(&self, seat: &mut Seat<S>) -> Seat<S>
         requires turn { IsSeatOf self.now seat.old }
         ensures turn { IsSeatOf self.now seat.new × IsSeatOf self.now result }
@@ -116,8 +120,8 @@ impl<S: Kept> Turn<S> {
         }
     }
 
-    /// Takes in what a seat of `split` passes on: of what the two have seen, one begins with the other, and from now
-    /// on the caller has seen the longer. Its calls that are left and its own entries stay.
+    /// Adds what a seat from `split` carries. What the two had seen are prefixes of one list, and the caller has now
+    /// seen the longer one. Its remaining calls and its own entries don't change.
     pub fn join(&self, seat: &mut Seat<S>, other: Seat<S>)
         requires turn { IsSeatOf self.now seat.old × IsSeatOf self.now other }
         requires number { 0 < (view_of seat.old).number }
@@ -174,7 +178,7 @@ impl<S: Kept> Turn<S> {
         unreachable!()
     }
 
-    // Puts the state home, and lets the next caller have it.
+    // Puts the state back, and serves the next ticket.
     fn pass_on(&self, seat: &mut TableSeat<S>, state: S)
         requires turn { seat.old.table_id ≡ table_in self.now }
         requires number { 0 < seat.old.me.0.number }

@@ -2,9 +2,9 @@
 
 use std::collections::LinkedList;
 
-/// How far a call of a seat has come. The number is its ticket.
+/// The stage of a seat's call, with its ticket.
 pub enum Stage {
-    /// No call goes on.
+    /// No call is in progress.
     Resting,
     /// It has drawn its ticket.
     Waiting(u64),
@@ -12,26 +12,26 @@ pub enum Stage {
     Serving(u64),
 }
 
-/// What a seat knows. It stands in proofs alone: no value of it is made.
+/// What a seat knows. It exists in proofs only: no value of this type is ever made.
 pub struct View<E> {
-    /// The number of its caller; 0 for a seat that was split off.
+    /// The caller's number, or 0 for a seat that was split off.
     pub number: u32,
-    /// The number of the caller whose entries `mine` has.
+    /// The number of the caller whose entries are in `mine`.
     pub source: u32,
-    /// How many seats the turn was made with.
+    /// The number of the turn's seats.
     pub mark: u32,
-    /// How many of the numbers that follow its own are not dealt yet.
+    /// How many of the next numbers haven't been given to a seat yet.
     pub spare: u32,
     /// How many calls it may still make.
     pub left: u64,
-    /// The entries that it has seen: a front of all.
+    /// The entries that it has seen: a prefix of all entries.
     pub seen: LinkedList<E>,
-    /// Those of its source, of which it has seen each.
+    /// The entries of its source, all of which it has seen.
     pub mine: LinkedList<E>,
     /// What it had seen before the last join.
     pub before: LinkedList<E>,
-    /// What it heard at the last join.
+    /// What the other seat had seen at the last join.
     pub heard: LinkedList<E>,
-    /// How far its call has come.
+    /// The stage of its call.
     pub stage: Stage,
 }

@@ -1,4 +1,4 @@
--- Lists of places stay true as versions are closed and added.
+-- Lists of positions stay correct as versions are closed and added.
 use Rattle.std.proofs.Common.{◌≡◌, ℕ, ◌+◌, ◌<◌, ◌≤◌, List, [], ◌∷◌, ◌++◌, Bool, true, false, ◌&&◌, not, cond, Option, Some, None, length, map, take, ◌*◌, zero, suc, refl, ap, sym, subst, ◌∙◌, arith, append_assoc, length-append}
 use Rattle.std.specs.Prelude.{slice_get, filter, unwrap_or, option_map, is_none, is_some, All}
 use Rattle.std.specs.List.{AllByRecursion, list_any, range_with_len}
@@ -41,7 +41,7 @@ filter_filter p q (x ∷ xs) =
       | false ↦ rest
     ]
 
--- two tests that agree at the elements
+-- two tests that agree on all elements
 filter_agree-within : (p q : ℕ → Bool) (xs : List ℕ) → AllByRecursion (λ x. p x ≡ q x) xs → filter p xs ≡ filter q xs
 filter_agree-within p q [] h = refl
 filter_agree-within p q (x ∷ xs) h =
@@ -58,7 +58,7 @@ filter_again p xs = filter_filter p p xs ∙ filter_agree (λ x. p x && p x) p (
 length-filter-le : (p : ℕ → Bool) (xs : List ℕ) → length (filter p xs) ≤ length xs
 length-filter-le p xs = omega (arith, length-filter p xs, count_by-le-length p xs)
 
--- tests of versions at places
+-- tests of versions at positions
 
 passes-and : (vs : List Version) (p q : Version → Bool) (place : ℕ)
     → passes vs (λ v. p v && q v) place ≡ (passes vs p place && passes vs q place)
@@ -102,7 +102,7 @@ places_from-mapped f p q same at (v ∷ vs) =
     ap (λ b. cond b (at ∷ places_from p (at + 1) (map f vs)) (places_from p (at + 1) (map f vs))) (same v)
     ∙ ap (λ l. cond (q v) (at ∷ l) l) (places_from-mapped f p q same (at + 1) vs)
 
--- the open versions at the places that pass one test more
+-- the open versions at the positions that pass a second test
 pub filter-listed : (vs : List Version) (test : Row → Bool) (p : Version → Bool) (places : List ℕ)
     → ListsOpen vs test places
     → filter (passes vs (λ v. is_open v && p v)) places ≡ places_from (λ v. (is_open v && test v.row) && p v) 0 vs
@@ -113,7 +113,7 @@ filter-listed vs test p places h =
     ∙ ap (filter (passes vs p)) h.exact
     ∙ filter-places_from (λ v. is_open v && test v.row) p vs
 
--- what a change takes
+-- what a change removes
 
 narrowed : (o t r : Bool) → (r ≡ true → t ≡ true) → ((o && t) && r) ≡ (o && r)
 narrowed o true r h = ap (λ b. b && r) (and-true o)
@@ -194,7 +194,7 @@ listed-append vs us test places more h e =
     ∙ ap (λ l. places_from (λ v. is_open v && test v.row) 0 vs ++ l) e
     ∙ sym (places_from-append (λ v. is_open v && test v.row) 0 vs us)
 
--- one that is not listed
+-- a version that isn't listed
 pub ListsOpen-skipped : (vs : List Version) (v : Version) (test : Row → Bool) (places : List ℕ)
     → (is_open v && test v.row) ≡ false → ListsOpen vs test places → ListsOpen (vs ++ v ∷ []) test places
 ListsOpen-skipped vs v test places e h = record {
@@ -204,7 +204,7 @@ ListsOpen-skipped vs v test places e h = record {
       ∙ listed-append vs (v ∷ []) test places [] h (sym (ap (λ b. cond b ((0 + length vs) ∷ []) []) e));
 }
 
--- one that is
+-- a version that is
 pub ListsOpen-pushed : (vs : List Version) (v : Version) (test : Row → Bool) (places : List ℕ) (place : ℕ)
     → place ≡ length vs → is_open v ≡ true → test v.row ≡ true → ListsOpen vs test places
     → ListsOpen (vs ++ v ∷ []) test (places ++ place ∷ [])
@@ -222,7 +222,7 @@ ListsOpen-pushed vs v test places place at opened tested h =
           ∙ ap (λ p. cond (is_open v && test v.row) (p ∷ []) []) (omega arith));
     }
 
--- all, where any row is listed
+-- all versions, if any row is listed
 
 range-places : (at : ℕ) (us : List Version) → range_with_len at (length us) ≡ places_from (λ v. true) at us
 range-places at [] = refl
@@ -259,7 +259,7 @@ ListsOpen-grown vs us places before count at many h =
     length-range at zero = refl
     length-range at (suc n) = ap suc (length-range (at + 1) n)
 
--- places of closed versions are dropped
+-- positions of closed versions are removed
 pub ListsOpen-swept : (vs : List Version) (test : Row → Bool) (places : List ℕ) → ListsOpen vs test places
     → ListsOpen vs test (filter (passes vs is_open) places)
 ListsOpen-swept vs test places h = record {
@@ -272,9 +272,9 @@ ListsOpen-swept vs test places h = record {
 pub ListsOpen-none : (test : Row → Bool) → ListsOpen [] test []
 ListsOpen-none test = record { inside = All-from_recursion (λ place. place < 0) [] tt; few = omega arith; exact = refl }
 
--- what a change makes of them
+-- the versions after a change
 
--- at most three parts for each place
+-- at most three parts for each position
 pub parts-listed : (c : RowsChange) (vs : List Version) (places : List ℕ)
     → ListsOpen vs any_row places → length (parts_of_all c (current vs)) ≤ 3 * length places
 parts-listed c vs places h =
@@ -282,7 +282,7 @@ parts-listed c vs places h =
     (h.exact ∙ places_from-agree (λ v. is_open v && true) is_open (λ v. and-true (is_open v)) 0 vs) in
     omega (arith, same, length-open 0 vs, parts-few c (current vs), length-filter-le (passes vs is_open) places)
 
--- they are as many as there is room for
+-- they don't exceed the limit
 pub versions_after-few : (n : ℕ) (c : RowsChange) (vs now : List Version)
     → now ≡ versions_after n c vs
     → length vs + length (drafts_of c (current vs)) ≤ version_limit → length now ≤ version_limit
@@ -299,7 +299,7 @@ versions_after-few n c vs now e room =
       room,
     )
 
--- and found by the places of those before and the new ones
+-- they are found at the positions of the old versions and the new ones
 pub all-versions_after : (n before count : ℕ) (c : RowsChange) (vs fresh now : List Version)
     (places grown : List ℕ) → now ≡ versions_after n c vs
     → fresh ≡ made n (numbered (length vs) (drafts_of c (current vs))) → before ≡ length vs
@@ -311,7 +311,7 @@ all-versions_after n before count c vs fresh now places grown e f b k g h =
     (b ∙ sym (length-map vs (closed n (removes c)))) k
     (ListsOpen-closed n (removes c) vs any_row places h))
 
--- without the new ones
+-- without the new versions
 pub versions_after-front : (n before : ℕ) (c : RowsChange) (vs now : List Version)
     → now ≡ versions_after n c vs → before ≡ length vs → take before now ≡ map (closed n (removes c)) vs
 versions_after-front n before c vs now e b =
@@ -320,9 +320,9 @@ versions_after-front n before c vs now e b =
     (made n (numbered (length vs) (drafts_of c (current vs)))) before
     (length-map vs (closed n (removes c)) ∙ sym b)
 
--- ---- places at which a change reaches a row
+-- ---- positions where the portion reaches a row
 
--- what one takes out its portion reaches
+-- the portion reaches each row that the change removes
 taken-reached : (change : PortionChange) (v : Version) → is_taken (Portion change) v ≡ true
     → is_some (meet v.row.period change.portion) ≡ true
 taken-reached change v taken =
@@ -338,7 +338,7 @@ reached-at change used (d ∷ ds) (s ∷ ss) zero taken =
     taken-reached change (version_of (row_of (used + 1) d) s) taken
 reached-at change used (d ∷ ds) (s ∷ ss) (suc place) taken = reached-at change (used + 1) ds ss place taken
 
--- so where the portion reaches none of some rows, the change takes out none of them
+-- so if the portion reaches none of some rows, the change removes none of them
 pub none-reached : (change : PortionChange) (rows : List Draft) (system_periods : List SystemPeriod)
     (vs : List Version) (places : List ℕ) → versions_of (numbered 0 rows) system_periods ≡ vs
     → list_any (is_reached change.portion rows) places ≡ false
@@ -359,7 +359,7 @@ none-reached change rows system_periods vs (place ∷ places) is none =
         (ap (λ l. passes l (is_taken (Portion change)) place) is ∙ e) in
         absurd (cc)
 
--- ---- places block by block
+-- ---- block by block
 
 pub block-inside : (vs : List Version) (all block rest : List ℕ) → all ≡ block ++ rest
     → All (λ place. place < length vs) all
@@ -370,7 +370,7 @@ block-inside vs all block rest e inside =
     (recursion_from_All inner (block ++ rest) (subst (All inner) e inside)) in
     (All-from_recursion inner block both.0, All-from_recursion inner rest both.1)
 
--- what is taken of one block comes behind that of those before it
+-- the positions removed in one block follow those of the blocks before it
 pub block-taken : (test : ℕ → Bool) (places all block rest old new : List ℕ) → all ≡ block ++ rest
     → new ≡ old ++ filter test block → old ++ filter test all ≡ filter test places
     → new ++ filter test rest ≡ filter test places

@@ -23,7 +23,7 @@ use Rattle.version_core.proofs.FindingLemmas.{ListsOpen-closed, ListsOpen-none, 
 
 -- the bucket of a version
 
--- its value, if it has one, falls into that bucket alone
+-- its value, if it has one, hashes to that bucket only
 record Falls (opened : Bool) (value : Option Value) (bucket : ℕ) : Type 0 where
   opened_is : opened ≡ true
   here : unwrap_or (option_map (λ (v : Value). bucket_of v == bucket) value) false ≡ true
@@ -99,7 +99,7 @@ index-pushed vs i v old new bucket inside e small at column written before =
     length-front : (vs : List Version) (i : ℕ) → i < length vs → i ≡ length (take i vs)
     length-front vs i h = sym (length-take-le i vs (omega arith))
 
--- places of closed versions are dropped from one bucket
+-- positions of closed versions are removed from one bucket
 
 pub index-swept : (vs : List Version) (old new : Index) (bucket : ℕ) → bucket < bucket_count → new.column ≡ old.column
     → new.buckets.items ≡ set old.buckets.items bucket
@@ -141,14 +141,14 @@ index-closed n goes vs index h = record {
       (h.each k few);
 }
 
--- what a change looks at
+-- the positions that a change examines
 
 falls_where_equal : (x : Value) (o : Option Value) → unwrap_or (option_map (same_value x) o) false ≡ true
     → unwrap_or (option_map (λ (v : Value). bucket_of v == bucket_of x) o) false ≡ true
 falls_where_equal x None e = absurd (cc)
 falls_where_equal x (Some y) e = eq-eqb (bucket_of y) (bucket_of x) (ap bucket_of (sym (same_value_is x y e)))
 
--- rows that have all wanted values fall into the bucket of each
+-- rows that have all wanted values hash to the bucket of each of them
 pub lookup_at-covers : (wanted : List (Option Value)) (column : ℕ)
     → IfSome (lookup_at wanted column)
     (λ lookup. (row : Row) → are_wanted wanted row.values ≡ true
@@ -163,13 +163,13 @@ lookup_at-covers wanted column = at (get_or wanted column None) refl
     at (Some one) e = λ row all.
         falls_where_equal one (slice_get row.values column) (each-wanted wanted row.values column one e all)
 
--- what holds of both lookups holds of the better one
+-- a property of both lookups holds for the better one
 pub lookup-better : (P : Lookup → Type 0) (Q : Type 0) (one other best : Option Lookup)
     → (best ≡ one) ⊎ ((best ≡ other) × Q) → IfSome one P → IfSome other P → IfSome best P
 lookup-better P Q one other best (inl e) h k = rw e h
 lookup-better P Q one other best (inr (e, q)) h k = rw e k
 
--- and that it leads somewhere, where it leads there as the first or was chosen before it
+-- the better lookup finds positions if the first one did, or if it was chosen instead
 pub lookup-leads : (indexes : List Index) (one other best : Option Lookup)
     → (best ≡ one) ⊎ ((best ≡ other) × IsSome (led_to indexes other))
     → IfSome one (λ lookup. IsSome (bucket_at indexes lookup)) → IfSome best
@@ -188,13 +188,13 @@ pub AreNoMore-itself : (places : Option (List ℕ)) → AreNoMore places places
 AreNoMore-itself None = tt
 AreNoMore-itself (Some places) = omega arith
 
--- what isn't there leads nowhere
+-- a missing lookup finds nothing
 pub nowhere-less : (indexes : List Index) (one other : Option Lookup) → is_some other ≡ false
     → AreNoMore (led_to indexes one) (led_to indexes other)
 nowhere-less indexes one None e = tt
 nowhere-less indexes one (Some lookup) e = absurd (cc)
 
--- a lookup that leads to no more than another, and than one column more
+-- a lookup that finds no more than the others, with one column more
 pub lookup-shortest : (indexes : List Index) (wanted : List (Option Value)) (i : ℕ) (one best : Option Lookup)
     → AreNoMore (led_to indexes best) (led_to indexes one)
     → AreNoMore (led_to indexes best) (led_to indexes (lookup_at wanted i))
@@ -219,7 +219,7 @@ found-index P test (x ∷ xs) all = by_test (test x) refl (found-index P test xs
     by_test true e rest = (All-head P x xs all, e)
     by_test false e rest = rest
 
--- it has all buckets, where all have
+-- it has all buckets if all indexes do
 pub found-whole : (indexes : List Index) (column : ℕ) (index : Index)
     → All (λ (index : Index). length index.buckets.items ≡ bucket_count) indexes
     → find (λ (index : Index). index.column == column) indexes ≡ Some index
@@ -233,7 +233,7 @@ candidates-all : (c : RowsChange) (vs : List Version) (places : List ℕ) (index
     → AreFound vs places indexes → AreCandidates c vs places
 candidates-all c vs places indexes h = candidates-listed c vs any_row places h.all (λ row e. refl)
 
--- the places to which a lookup leads suffice
+-- the positions that a lookup finds are enough
 pub candidates-led : (c : RowsChange) (vs : List Version) (places : List ℕ) (indexes : List Index)
     (lookup : Option Lookup) → AreFound vs places indexes → IfSome lookup (λ lookup. lookup.bucket < bucket_count)
     → IfSome lookup (IsLookupOf c) → AreCandidates c vs (unwrap_or (led_to indexes lookup) places)

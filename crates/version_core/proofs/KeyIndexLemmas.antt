@@ -1,4 +1,4 @@
--- The index of open versions by key and time.
+-- The index of open versions by key and start.
 use Rattle.std.proofs.Common.{◌≡◌, ℕ, ℤ, ◌+◌, ◌<◌, ◌≤◌, ◌≤ℤ◌, ◌<ℤ◌, List, [], ◌∷◌, ◌++◌, Bool, true, false, ◌&&◌, ◌||◌, not, cond, Option, Some, None, ◌⊎◌, zero, suc, length, map, take, get_or, refl, ap, sym, ◌∙◌, arith, inl, inr, append-nil, append_assoc}
 use Rattle.std.specs.Prelude.{IfSome, slice_get, filter, fold, nat_lt, is_some, unwrap_or, option_map}
 use Rattle.std.specs.Int.{cast_unsigned, w64}
@@ -41,9 +41,9 @@ use Rattle.version_core.specs.declared.version.Version.{Version}
 use Rattle.version_core.proofs.ListLemmas.{any-true}
 use Rattle.version_core.proofs.FindingLemmas.{open_closed, row_closed}
 
--- numbers of keys
+-- hashes of keys
 
--- one more of what is folded
+-- one step more of a fold
 fold-more : {X : Type 0} (step : ℕ → X → ℕ) (xs : List X) (i : ℕ) (x : X) (number : ℕ) → i < length xs
     → number ≡ fold step 0 (take i xs) → step number (get_or xs i x) ≡ fold step 0 (take (i + 1) xs)
 fold-more step xs i x number inside e =
@@ -80,7 +80,7 @@ pub number-text : (value : Value) (text bytes : List ℕ) (k : ℕ) → value �
 unfolding number_of
 number-text value text bytes k e b h = h ∙ ap number_of_bytes b ∙ ap number_of (sym e)
 
--- values of one key have one number
+-- equal keys have the same hash
 key-agrees : (key : List ℕ) (a b : List Value) → same_key key a b ≡ true → key_number key a ≡ key_number key b
 unfolding key_number
 key-agrees key a b same = from 0 key same
@@ -96,7 +96,7 @@ key-agrees key a b same = from 0 key same
         ap (λ o. fold (λ number column. mixed number (number_in a column))
         (mixed n (unwrap_or (option_map number_of o) 0)) columns) equal ∙ from (mixed n (number_in b column)) columns both.1
 
--- those of the key of a third are of one key
+-- two keys that equal a third are equal
 key-joins : (key : List ℕ) (a b c : List Value) → same_key key a c ≡ true → same_key key b c ≡ true
     → same_key key a b ≡ true
 key-joins [] a b c one other = refl
@@ -130,13 +130,13 @@ less-number a b e = grind (arith, ints)
 less-from : (a b : Entry) → entry_cmp a b ≡ Less → a.number ≡ b.number → a.from ≤ℤ b.from
 less-from a b e same = grind (arith, ints)
 
--- an entry of one number that begins before another's start
+-- an entry with the same hash that starts before the other
 less-end : (a b : Entry) → a.number ≡ b.number → a.from <ℤ b.from → entry_cmp b a ≡ Greater
 less-end a b same before = grind (arith, ints)
 
--- rows of one key share no instant
+-- rows with equal keys don't overlap
 
--- of two that share an instant each begins before the other's end
+-- each of two overlapping periods starts before the other's end
 meet-ends : (x y : Period) → is_some (meet x y) ≡ true → x.from <ℤ y.to
 meet-ends x y e =
     let at = shared x y e in
@@ -145,7 +145,7 @@ meet-ends x y e =
     let in_y : t <ℤ y.to = at.2.1 in
     omega (arith, ints)
 
--- what is false of all rows of open versions is false of each
+-- a test that fails for all rows of open versions fails for each
 current-none : (test : Draft → Bool) (vs : List Version) (q : ℕ) (v : Version)
     → list_any test (map unnumbered (current vs)) ≡ false → slice_get vs q ≡ Some v → is_open v ≡ true
     → test (draft_of v) ≡ false
@@ -164,7 +164,7 @@ current-none test (u ∷ us) (suc q) v none at opened = current-none test us q v
     behind true h = (or_parts (test (draft_of u)) (list_any test (map unnumbered (current us))) h).1
     behind false h = h
 
--- the first open version collides with none behind it
+-- the first open version collides with none after it
 first-none : (key : List ℕ) (u : Version) (us : List Version) (v : Version) → u ≡ v → is_open v ≡ true
     → have_collision key (map unnumbered (current (u ∷ us))) ≡ false
     → list_any (collide key (draft_of v)) (map unnumbered (current us)) ≡ false
@@ -185,7 +185,7 @@ rest-none key u us true h =
     (or_parts (list_any (collide key (draft_of u)) rows) (have_pair (collide key) rows) h).1
 rest-none key u us false h = h
 
--- open versions at different places don't collide where no rows of open versions do
+-- open versions at different positions don't collide if no rows of open versions do
 current-apart : (key : List ℕ) (vs : List Version) (p q : ℕ) (v w : Version)
     → have_collision key (map unnumbered (current vs)) ≡ false → slice_get vs p ≡ Some v → slice_get vs q ≡ Some w
     → is_open v ≡ true → is_open w ≡ true → (p ≡ q → ⊥) → collide key (draft_of v) (draft_of w) ≡ false
@@ -199,9 +199,9 @@ current-apart key (u ∷ us) (suc p) zero v w none at there opened also ne =
 current-apart key (u ∷ us) (suc p) (suc q) v w none at there opened also ne =
     current-apart key us p q v w (rest-none key u us (is_open u) none) at there opened also (λ e. ne (ap suc e))
 
--- where a walk from the end of a row back may end
+-- where the backwards search may end
 
--- before its entry all have other keys
+-- all versions before the entry have other keys
 pub last-of_others : (key : List ℕ) (other : Draft) (vs : List Version) (entry : Entry)
     → entry.number < key_number key other.values → IsLastNear key other vs entry
 last-of_others key other vs entry below place v at opened meets less =
@@ -214,7 +214,7 @@ same_some : {X : Type 0} (o : Option X) (x y : X) → o ≡ Some x → o ≡ Som
 same_some None x y e f = absurd (cc)
 same_some (Some z) x y e f = cc
 
--- its version is one of the row's key that begins no later
+-- the entry's version has the row's key and starts no later
 pub last-of_key : (key : List ℕ) (other : Draft) (vs : List Version) (entry : Entry) (w : Version)
     → have_collision key (map unnumbered (current vs)) ≡ false → entry.number ≡ key_number key other.values
     → slice_get vs entry.place ≡ Some w → is_open w ≡ true → w.row.period.from ≡ entry.from
@@ -244,9 +244,9 @@ last-of_key key other vs entry w none number there opened begins before of_key p
 pub below-number : (a b k : ℕ) → nat_lt a b ≡ true → b ≡ k → a < k
 below-number a b k less same = let below : a < b = ltb-true a b less in omega (arith, same, below)
 
--- what the index has
+-- the entries of the index
 
--- what stands at a place of a list and one more
+-- an index of a list with one element added
 pushed-at : (vs : List Version) (v : Version) (q : ℕ) (u : Version) → slice_get (vs ++ v ∷ []) q ≡ Some u
     → (slice_get vs q ≡ Some u) ⊎ ((q ≡ length vs) × (u ≡ v))
 pushed-at [] v zero u at = inr (refl, cc)
@@ -264,7 +264,7 @@ module _ (vs : List Version) (i : ℕ) (v : Version) (old new : KeyIndex) (insid
   length-front : length (take i vs) ≡ i
   length-front = length-take-le i vs (omega arith)
 
-  -- that is open
+  -- which is open
   pub key_index-added : Updates entry_cmp old.entries new.entries (entry_of old.columns.items i v) true
       → IsKeyIndex (take i vs) old → IsKeyIndex (take (i + 1) vs) new
   key_index-added added before q u at opened =
@@ -287,7 +287,7 @@ module _ (vs : List Version) (i : ℕ) (v : Version) (old new : KeyIndex) (insid
       same-cond true = refl
       same-cond false = refl
 
-  -- that is closed
+  -- which is closed
   pub key_index-skipped : is_open v ≡ false → new.entries ≡ old.entries → IsKeyIndex (take i vs) old
       → IsKeyIndex (take (i + 1) vs) new
   key_index-skipped shut entries before q u at opened =
@@ -298,7 +298,7 @@ module _ (vs : List Version) (i : ℕ) (v : Version) (old new : KeyIndex) (insid
             absurd (cc)
       ]
 
--- a closed version is taken out
+-- a closed version is removed
 pub key_index-dropped : (vs : List Version) (place : ℕ) (w : Version) (old new : KeyIndex)
     → slice_get vs place ≡ Some w → is_open w ≡ false → new.columns.items ≡ old.columns.items
     → Updates entry_cmp old.entries new.entries (entry_of old.columns.items place w) false
@@ -336,9 +336,9 @@ key_index-closed n goes vs index h place v at opened =
         (record { number = key_number index.columns.items r.values; from = r.period.from; place = place })) (sym row)
         ∙ h place u there before
 
--- a walk over entries, from the last back
+-- the backwards search through the entries
 
--- of all entries those that are left are the first, and none behind them passes the test
+-- the entries still to search are the first ones, and no entry after them passes the test
 pub record AreLeft (test : Entry → Bool) (all left : List Entry) : Type 0 where
   pub gone : List Entry
   pub parts : all ≡ left ++ gone
@@ -379,7 +379,7 @@ any-weaker test other (x ∷ xs) h e =
       | inr later ↦ ap (λ b. other x || b) (any-weaker test other xs h later) ∙ or-true (other x)
     ]
 
--- an entry among those in front of another is less
+-- an entry before another in the list is less
 front-less : (xs ys : List Entry) (entry q : Entry) → IsStrictlySortedBy entry_cmp (xs ++ entry ∷ ys)
     → list_any (is_at (entry_cmp q)) xs ≡ true → entry_cmp q entry ≡ Less
 unfolding IsStrictlySortedBy
@@ -392,7 +392,7 @@ front-less (x ∷ xs) ys entry q up e =
       | inr later ↦ front-less xs ys entry q up.1 later
     ]
 
--- none of the versions passes a test where none at a place does
+-- no version passes a test if none at a position does
 none-passes : (test : Version → Bool) (vs : List Version)
     → ((q : ℕ) (v : Version) → slice_get vs q ≡ Some v → test v ≡ true → ⊥) → list_any test vs ≡ false
 none-passes test [] h = refl
@@ -403,7 +403,7 @@ none-passes test (v ∷ vs) h =
     untrue true = λ no. absurd (no refl)
     untrue false = λ no. refl
 
--- one does where one at a place does
+-- some version passes it if one at a position does
 pub some-passes : (test : Version → Bool) (vs : List Version) (place : ℕ) → passes vs test place ≡ true
     → list_any test vs ≡ true
 some-passes test [] place e = absurd (cc)
@@ -424,7 +424,7 @@ module _ (c : RowsChange) (other : Draft) (vs : List Version) (index : KeyIndex)
       → key_number index.columns.items v.row.values ≡ end.number
   number-of_key v same = key-agrees index.columns.items v.row.values other.values same ∙ sym number
 
-  -- the entry of a version that collides is near
+  -- the entry of a colliding version is within the searched range
   near-hit : (q : ℕ) (v : Version) → slice_get vs q ≡ Some v → is_open v ≡ true
       → collide index.columns.items (draft_of v) other ≡ true → list_any (is_at (entry_cmp (entry q v))) near ≡ true
   near-hit q v at opened meets =
@@ -457,7 +457,7 @@ module _ (c : RowsChange) (other : Draft) (vs : List Version) (index : KeyIndex)
       let both = and_parts (is_left c v) (collide index.columns.items (draft_of v) other) hit in
       near-hit q v at (and_parts (is_open v) (not (removes c v.row)) both.0).0 both.1
 
-  -- no version collides where none is left in the walk
+  -- no version collides if no entry is left to search
   pub walked-out : (left : List Entry) → left ≡ [] → AreLeft (λ e. passes vs hits e.place) near left
       → list_any hits vs ≡ false
   walked-out left out h =
@@ -468,7 +468,7 @@ module _ (c : RowsChange) (other : Draft) (vs : List Version) (index : KeyIndex)
       sym (any-weaker (is_at (entry_cmp (entry q v))) hits_at h.gone (hit-at q v at hit) there) ∙ h.none in
       absurd (cc))
 
-  -- nor where none before an entry does
+  -- nor if none before an entry does
   pub walked-far : (left fewer : List Entry) (e : Entry) → left ≡ fewer ++ e ∷ []
       → passes vs hits e.place ≡ false → IsLastNear index.columns.items other vs e → IsStrictlySortedBy entry_cmp near
       → AreLeft (λ e. passes vs hits e.place) near left → list_any hits vs ≡ false

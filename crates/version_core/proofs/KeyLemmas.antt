@@ -1,4 +1,4 @@
--- The rows whose keys are tested are those of the state after the change.
+-- The rows whose keys are tested are the rows of the state after the change.
 use Rattle.std.proofs.Common.{◌≡◌, ℕ, ◌+◌, ◌<◌, List, [], ◌∷◌, ◌++◌, length, map, take, get_or, Bool, true, false, ◌&&◌, ◌||◌, not, cond, Some, refl, sym, ap, ◌∙◌, append-nil}
 use Rattle.std.specs.Prelude.{◌≢◌, filter, is_none, slice_get}
 use Rattle.std.specs.List.{cons_option, list_any}
@@ -29,7 +29,7 @@ pub drafts-numbered : (used : ℕ) (ds : List Draft) → map unnumbered (numbere
 drafts-numbered used [] = refl
 drafts-numbered used (d ∷ ds) = ap (λ l. d ∷ l) (drafts-numbered (used + 1) ds)
 
--- the rows that are left, found among the versions
+-- the kept rows, found among the versions
 left-current : (c : RowsChange) (vs : List Version)
     → map draft_of (filter (is_left c) vs) ≡ rows_left c (current vs)
 left-current c [] = refl
@@ -50,7 +50,7 @@ left-current c (v ∷ vs) = by_open (left-current c vs) (is_none v.systo) where
   by_open rest false = rest
   by_open rest true = by_test rest (not (removes c v.row))
 
--- one of them collides with another row exactly where a version says so
+-- one of them collides with another row if and only if a version says so
 pub any-left : (c : RowsChange) (key : List ℕ) (other : Draft) (vs : List Version)
     → list_any (collides_left c key other) vs ≡ list_any (λ left. collide key left other)
     (rows_left c (current vs))
@@ -79,7 +79,7 @@ any-left c key other (v ∷ vs) = by_open (any-left c key other vs) (is_none v.s
   by_open rest false = rest
   by_open rest true = by_test rest (not (removes c v.row))
 
--- none of them collide where none did before
+-- they don't collide with each other if no rows did before
 pub left-apart : (c : RowsChange) (key : List ℕ) (rows : List Row)
     → have_collision key (map unnumbered rows) ≡ false → have_collision key (rows_left c rows) ≡ false
 left-apart c key rows none =
@@ -87,11 +87,11 @@ left-apart c key rows none =
     ∙ pairs-filtered (λ a b. collide key (unnumbered a) (unnumbered b)) (λ row. not (removes c row)) rows
     (sym (have_pair-map (collide key) unnumbered rows) ∙ none)
 
--- the rows of the versions at places
+-- the rows of the versions at some positions
 abbrev pub drafts_at : List Version → List ℕ → List Draft
 drafts_at vs places = map draft_of (picked vs places)
 
--- those at the places of all open versions
+-- the rows at the positions of all open versions
 pub left-listed : (c : RowsChange) (vs : List Version) (places : List ℕ)
     → ListsOpen vs any_row places
     → drafts_at vs (filter (passes vs (is_left c)) places) ≡ rows_left c (current vs)
@@ -102,7 +102,7 @@ left-listed c vs places h =
     ∙ ap (map draft_of) (picked-places_from (is_left c) vs)
     ∙ left-current c vs
 
--- one place more, left or not
+-- one position more, kept or removed
 
 left-more : (vs : List Version) (p : Version → Bool) (places : List ℕ) (i : ℕ) (v : Version) → i < length places
     → get_or places i 0 < length vs → v ≡ get_or vs (get_or places i 0) v
@@ -146,7 +146,7 @@ left-no vs p places i v rows h inside e test was =
 
 -- one version more
 
--- of a table with a key it is asked whether its rows collide
+-- a table with a key breaks it if and only if its rows collide
 pub keyed-breaks : (key : List ℕ) (rows : List Draft) → key ≢ [] → break_key key rows ≡ have_collision key rows
 keyed-breaks [] rows keyed = absurd (keyed refl)
 keyed-breaks (column ∷ columns) rows keyed = refl

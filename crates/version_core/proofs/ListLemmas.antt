@@ -1,4 +1,4 @@
--- What an option has.
+-- Facts about options and about `||`.
 use Rattle.std.proofs.Common.{◌≡◌, ◌||◌, ◌⊎◌, Bool, Option, Some, None, false, inl, inr, refl, subst, true}
 use Rattle.std.specs.Prelude.{IfSome}
 

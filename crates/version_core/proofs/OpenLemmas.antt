@@ -1,4 +1,4 @@
--- The places of open versions, and what a change does at them.
+-- The positions of open versions, and what a change does at them.
 use Rattle.std.proofs.Common.{◌≡◌, ℕ, ◌+◌, ◌*◌, ◌<◌, ◌≤◌, List, [], ◌∷◌, ◌++◌, Bool, true, false, ◌&&◌, cond, Some, length, map, take, get_or, zero, suc, add-one, refl, ap, sym, ◌∙◌, arith, append_assoc, length-append}
 use Rattle.std.specs.Prelude.{slice_get, slice_set, filter, fold, count_by, unwrap_or, option_map, flat_map, All}
 use Rattle.std.specs.List.{cons_option, AllByRecursion, range_with_len}
@@ -25,7 +25,7 @@ use Rattle.version_core.specs.declared.change.RowsChange.TheVariants.{Load, Port
 use Rattle.version_core.specs.declared.version.Version.{Version}
 use Rattle.table_core.proofs.NumberedLemmas.{length-numbered}
 
--- places lie inside
+-- the positions are within the list
 
 pub bounded : (test : Version → Bool) (at top : ℕ) (vs : List Version) → at + length vs ≤ top
     → AllByRecursion (λ place. place < top) (places_from test at vs)
@@ -44,7 +44,7 @@ places_from-bounded test vs =
     All-from_recursion (λ place. place < length vs) (places_from test 0 vs)
     (bounded test 0 (length vs) vs (omega arith))
 
--- what is said of `done` and the versions behind it, of one version more
+-- a step from `done` to `done` with one version more
 module _ (X : Type 0) (of : List Version → List ℕ → X) where
   moved : (test : Version → Bool) (done : List Version) (v : Version) (vs rest : List Version) (x : X)
       → of ((done ++ v ∷ []) ++ rest) (places_from test (length (done ++ v ∷ [])) vs) ≡ x
@@ -68,7 +68,7 @@ picked-behind test done (v ∷ vs) =
       | false ↦ rest
     ]
 
--- the versions at the places of those that pass
+-- the versions at the positions of those that pass
 pub picked-places_from : (test : Version → Bool) (vs : List Version)
     → picked vs (places_from test 0 vs) ≡ filter test vs
 picked-places_from test vs = picked-behind test [] vs
@@ -94,12 +94,12 @@ filter-behind test p done (v ∷ vs) =
       | false ↦ rest
     ]
 
--- the places of those that pass both tests
+-- the positions of the versions that pass both tests
 pub filter-places_from : (test p : Version → Bool) (vs : List Version)
     → filter (passes vs p) (places_from test 0 vs) ≡ places_from (λ v. test v && p v) 0 vs
 filter-places_from test p vs = filter-behind test p [] vs
 
--- one place more
+-- one position more
 
 pub filter-more : (vs : List Version) (p : Version → Bool) (places : List ℕ) (i : ℕ) (v : Version) → i < length places
     → get_or places i 0 < length vs → v ≡ get_or vs (get_or places i 0) v
@@ -112,7 +112,7 @@ filter-more vs p places i v h inside e =
     (get_or places i 0 ∷ []) []) (slice_get-get_or vs (get_or places i 0) v inside)
     ∙ ap (λ u. filter (passes vs p) (take i places) ++ cond (p u) (get_or places i 0 ∷ []) []) (sym e)
 
--- closing at places
+-- closing at positions
 
 closed-behind : (n : ℕ) (test : Version → Bool) (done vs us : List Version)
     → fold (closed_at n) (done ++ (vs ++ us)) (places_from test (length done) vs) ≡ done ++
@@ -136,12 +136,12 @@ closed-behind n test done (v ∷ vs) us =
       | false ↦ next v
     ]
 
--- closing what a change takes, with others behind
+-- closing the removed versions, followed by others
 closed-taken : (n : ℕ) (c : RowsChange) (vs us : List Version)
     → fold (closed_at n) (vs ++ us) (places_from (is_taken c) 0 vs) ≡ map (closed n (removes c)) vs ++ us
 closed-taken n c vs us = closed-behind n (is_taken c) [] vs us
 
--- one place more
+-- one position more
 pub closed-more : (n : ℕ) (vs ws new : List Version) (places : List ℕ) (i : ℕ) → i < length places
     → ws ≡ fold (closed_at n) vs (take i places) → new ≡ closed_at n ws (get_or places i 0)
     → new ≡ fold (closed_at n) vs (take (i + 1) places)
@@ -151,7 +151,7 @@ closed-more n vs ws new places i h e written =
     ∙ sym (fold-append (closed_at n) vs (take i places) (get_or places i 0 ∷ []))
     ∙ ap (fold (closed_at n) vs) (sym (take_more places i 0 h))
 
--- the places after a change
+-- the positions after a change
 
 pub places_from-append : (test : Version → Bool) (at : ℕ) (vs us : List Version)
     → places_from test at (vs ++ us) ≡ places_from test at vs ++ places_from test (at + length vs) us
@@ -167,7 +167,7 @@ places_from-append test at (v ∷ vs) us =
       | false ↦ rest
     ]
 
--- how many are taken
+-- how many versions are closed
 
 count_taken : (c : RowsChange) (at : ℕ) (vs : List Version)
     → length (places_from (is_taken c) at vs) ≡ count_by (removes c) (current vs)
@@ -189,7 +189,7 @@ count_taken c at (v ∷ vs) =
       | false ↦ rest
     ]
 
--- a change that removes no row takes none
+-- a change that removes no row closes none
 pub none-taken : (at : ℕ) (vs : List Version) → places_from (λ v. is_open v && false) at vs ≡ []
 none-taken at [] = refl
 none-taken at (v ∷ vs) =
@@ -200,7 +200,7 @@ none-taken at (v ∷ vs) =
       | false ↦ none-taken (at + 1) vs
     ]
 
--- a load puts nothing in the place of rows
+-- a load replaces no rows
 pub no-parts : (drafts : List Draft) (rows : List Row) → parts_of_all (Load drafts) rows ≡ []
 no-parts drafts [] = refl
 no-parts drafts (row ∷ rows) = no-parts drafts rows
@@ -209,7 +209,7 @@ pub length-taken : (c : RowsChange) (vs : List Version)
     → length (places_from (is_taken c) 0 vs) ≡ count_by (removes c) (current vs)
 length-taken c vs = count_taken c 0 vs
 
--- a change takes at most three parts of a row
+-- a change makes at most three parts of a row
 
 few-parts : (c : RowsChange) (row : Row) → length (parts_of c row) ≤ 3
 few-parts (Load drafts) row = omega arith
@@ -246,7 +246,7 @@ length-open at (v ∷ vs) =
       | false ↦ rest
     ]
 
--- one place more
+-- one position more
 pub parts_at-push : (c : RowsChange) (vs : List Version) (places : List ℕ) (place : ℕ) (v : Version)
     → place < length vs → v ≡ get_or vs place v
     → parts_at c vs (places ++ place ∷ []) ≡ parts_at c vs places ++ parts_of c v.row
@@ -278,7 +278,7 @@ parts-taken c (v ∷ vs) =
       | false ↦ rest
     ]
 
--- what comes in the place of all that a change takes
+-- what replaces all rows that a change removes
 pub parts_at-taken : (c : RowsChange) (vs : List Version) (taken : List ℕ)
     → taken ≡ places_from (is_taken c) 0 vs → parts_at c vs taken ≡ parts_of_all c (current vs)
 parts_at-taken c vs taken e =
@@ -294,7 +294,7 @@ range_with_len-push a (suc n) =
     (ap (range_with_len (a + 1)) (sym (add-one n)) ∙ range_with_len-push (a + 1) n
     ∙ ap (λ k. range_with_len (a + 1) n ++ k ∷ []) (omega arith)))
 
--- one place more, taken or left
+-- one position more, removed or kept
 
 pub place-yes : (vs : List Version) (p : Version → Bool) (places : List ℕ) (i : ℕ) (v : Version) (old new : List ℕ)
     → i < length places → get_or places i 0 < length vs → v ≡ get_or vs (get_or places i 0) v → p v ≡ true
@@ -314,7 +314,7 @@ place-no vs p places i v old new h inside e test was now =
     ∙ ap (λ b. filter (passes vs p) (take i places) ++ cond b (get_or places i 0 ∷ []) []) test
     ∙ append-nil (filter (passes vs p) (take i places)))
 
--- what is made for the places that are taken
+-- what replaces the rows at the removed positions
 pub made-push : (c : RowsChange) (vs : List Version) (taken more : List ℕ) (place : ℕ)
     (v : Version) (old new : List Draft) → place < length vs → v ≡ get_or vs place v
     → old ≡ parts_at c vs taken → new ≡ old ++ parts_of c v.row
@@ -323,7 +323,7 @@ made-push c vs taken more place v old new inside e was now grown =
     now ∙ ap (λ ds. ds ++ parts_of c v.row) was
     ∙ sym (ap (parts_at c vs) grown ∙ parts_at-push c vs taken place v inside e)
 
--- all new rows of a change are its parts of rows, or those of a load
+-- all new rows of a change are its parts of rows, or a load's rows
 pub with_parts-all : (c : RowsChange) (rows : List Row) → with_parts c (parts_of_all c rows) ≡ drafts_of c rows
 with_parts-all (Load drafts) rows = refl
 with_parts-all (Portion change) rows = refl
@@ -332,7 +332,7 @@ pub newly : (c : RowsChange) (vs : List Version) (parts new : List Draft)
     → new ≡ with_parts c parts → parts ≡ parts_of_all c (current vs) → new ≡ drafts_of c (current vs)
 newly c vs parts new made e = made ∙ ap (with_parts c) e ∙ with_parts-all c (current vs)
 
--- the versions that a change leaves
+-- the versions that a change keeps
 
 pub versions_after-by : (n : ℕ) (c : RowsChange) (vs fresh grown new : List Version)
     (taken : List ℕ) → taken ≡ places_from (is_taken c) 0 vs

@@ -1,4 +1,4 @@
--- The versions that the first commits show, and the rows that one shows.
+-- The versions visible as of the first commits, and the rows visible as of one.
 use Rattle.std.proofs.Common.{◌≡◌, ℕ, ◌+◌, ◌<◌, List, [], ◌∷◌, ◌++◌, length, map, zero, suc, Bool, true, false, cond, Some, None, refl, ap, subst, sym, ◌∙◌, take, get_or, ◌&&◌, leb, arith}
 use Rattle.std.specs.List.{cons_option, filter, slice_get}
 use Rattle.std.specs.Prelude.{All}
@@ -45,7 +45,7 @@ shown-take_more n i vs v h e =
     ap (shown n) (take_more vs i v h) ∙ filter_map-append (row_shown n) (take i vs) (get_or vs i v ∷ [])
     ∙ ap (λ u. shown n (take i vs) ++ cons_option (row_shown n u) []) (sym e)
 
--- the row of one version, where it is shown and passes
+-- the row of one version, if it is visible and passes
 held-one : (test : Row → Bool) (row : Row) (is_shown : Bool)
     → filter test (cons_option (cond is_shown (Some row) None) []) ≡ cond (is_shown && test row) (row ∷ []) []
 held-one test row true = refl
@@ -59,7 +59,7 @@ held-take_more n i test vs v h e =
     ∙ filter-append test (shown n (take i vs)) (cons_option (row_shown n v) [])
     ∙ ap (λ rows. filter test (shown n (take i vs)) ++ rows) (held-one test v.row (shows n v))
 
--- a version that is shown, and whose row passes the test, adds that row
+-- a visible version whose row passes the test adds that row
 pub held-more : (n i : ℕ) (test : Row → Bool) (vs : List Version) (v : Version) (rows : List Row) → i < length vs
     → v ≡ get_or vs i v → (shows n v && test v.row) ≡ true → rows ≡ filter test (shown n (take i vs))
     → rows ++ v.row ∷ [] ≡ filter test (shown n (take (i + 1) vs))
@@ -68,7 +68,7 @@ held-more n i test vs v rows h e t k =
     ∙ sym (held-take_more n i test vs v h e
     ∙ ap (λ b. filter test (shown n (take i vs)) ++ cond b (v.row ∷ []) []) t)
 
--- another adds none
+-- another version adds none
 pub held-same : (n i : ℕ) (test : Row → Bool) (vs : List Version) (v : Version) (rows : List Row) → i < length vs
     → v ≡ get_or vs i v → (shows n v && test v.row) ≡ false → rows ≡ filter test (shown n (take i vs))
     → rows ≡ filter test (shown n (take (i + 1) vs))
@@ -76,19 +76,19 @@ held-same n i test vs v rows h e t k =
     k ∙ sym (held-take_more n i test vs v h e
     ∙ ap (λ b. filter test (shown n (take i vs)) ++ cond b (v.row ∷ []) []) t ∙ append-nil _)
 
--- the row of the version at a place
+-- the row of the version at a position
 pub row-at : (vs : List Version) (i : ℕ) (v : Version) → i < length vs → v ≡ get_or vs i v
     → slice_get (map (λ (w : Version). w.row) vs) i ≡ Some v.row
 row-at [] i v inside e = absurd (omega (arith, inside))
 row-at (w ∷ ws) zero v inside e = ap (λ (u : Version). Some u.row) (sym e)
 row-at (w ∷ ws) (suc i) v inside e = row-at ws i v (omega (arith, inside)) e
 
--- all rows hold where no point is given
+-- all rows hold if no point is given
 pub all-held : (rows : List Row) → filter (holds_where None) rows ≡ rows
 all-held [] = refl
 all-held (row ∷ rows) = ap (λ l. row ∷ l) (all-held rows)
 
--- the versions of the rows at some places, and one more
+-- the versions of the rows at some positions, and one more
 pub versions_of-at_places : (places : List ℕ) (system_periods : List SystemPeriod) (vs : List Version) (place : ℕ)
     (row : Row) (system_period : SystemPeriod) → All (λ p. p < length vs) places → length places ≡ length system_periods
     → slice_get (map (λ (v : Version). v.row) vs) place ≡ Some row

@@ -1,4 +1,4 @@
--- Rows, and beside each the commits that show it.
+-- Rows with their system periods.
 use Rattle.std.proofs.Common.{◌≡◌, ℕ, ◌<◌, ◌≤◌, List, [], ◌∷◌, ◌++◌, ◌+◌, Bool, true, false, ◌&&◌, leb, cond, Some, None, length, map, get_or, set, length-set, zero, suc, replicate, refl, ap, sym, ◌∙◌, arith}
 use Rattle.std.specs.Prelude.{count_by, option_map, slice_get, slice_set, unwrap_or}
 use Rattle.std.specs.List.{cons_option}
@@ -14,14 +14,14 @@ use Rattle.version_core.specs.Shown.{is_behind, shown, shows}
 use Rattle.version_core.specs.Stored.{SystemPeriod, version_of, versions_of}
 use Rattle.version_core.specs.declared.version.Version.{Version}
 
--- as many versions as rows
+-- there are as many versions as rows
 pub length-versions_of : (rows : List Row) (system_periods : List SystemPeriod) → length rows ≡ length system_periods
     → length (versions_of rows system_periods) ≡ length system_periods
 length-versions_of [] system_periods same = same
 length-versions_of (r ∷ rs) [] same = absurd (omega (arith, same))
 length-versions_of (r ∷ rs) (s ∷ ss) same = ap suc (length-versions_of rs ss (omega (arith, same)))
 
--- a place of a list
+-- an index of a list
 pub slice_get-inside : {X : Type 0} (xs : List X) (place : ℕ) (x : X) → slice_get xs place ≡ Some x
     → place < length xs
 slice_get-inside [] place x e = absurd (cc)
@@ -41,7 +41,7 @@ slice_get-versions_of (r ∷ rs) (s ∷ ss) zero row system_period same e f =
 slice_get-versions_of (r ∷ rs) (s ∷ ss) (suc place) row system_period same e f =
     slice_get-versions_of rs ss place row system_period (omega (arith, same)) e f
 
--- a version, by its row and what stands beside it
+-- a version, by its row and its system period
 pub get_or-versions_of : (rows : List Row) (system_periods : List SystemPeriod) (place : ℕ) (row : Row)
     (system_period : SystemPeriod)
     (vs : List Version) → versions_of rows system_periods ≡ vs → place < length rows → place < length system_periods
@@ -57,7 +57,7 @@ get_or-versions_of (x ∷ xs) (y ∷ ys) (suc place) row system_period vs e insi
     (omega (arith, beside)) r s
     ∙ ap (λ l. get_or l (suc place) (version_of row system_period)) e
 
--- the version of some row, by what stands beside it
+-- the version of some row, by its system period
 pub version-beside : (rows : List Row) (system_periods : List SystemPeriod) (place : ℕ) (system_period : SystemPeriod)
     (vs : List Version)
     → versions_of rows system_periods ≡ vs → length rows ≡ length system_periods → place < length system_periods
@@ -76,7 +76,7 @@ version-beside (x ∷ xs) (y ∷ ys) (suc place) system_period vs e same inside 
       rest.1 ∙ ap (λ l. get_or l (suc place) (version_of rest.0 system_period)) e,
     )
 
--- the version of the draft at a place
+-- the version of the draft at an index
 pub version-at : (drafts : List Draft) (system_periods : List SystemPeriod) (place : ℕ) (draft : Draft) (row : Row)
     (system_period : SystemPeriod)
     (vs : List Version) → versions_of (numbered 0 drafts) system_periods ≡ vs → place < length drafts
@@ -101,7 +101,7 @@ slice_get-past (r ∷ rs) [] place same e = absurd (omega (arith, same))
 slice_get-past (r ∷ rs) (s ∷ ss) zero same e = absurd (cc)
 slice_get-past (r ∷ rs) (s ∷ ss) (suc place) same e = slice_get-past rs ss place (omega (arith, same)) e
 
--- their rows
+-- the versions' rows
 pub rows-versions_of : (rows : List Row) (system_periods : List SystemPeriod) → length rows ≡ length system_periods
     → rows ≡ map (λ (v : Version). v.row) (versions_of rows system_periods)
 rows-versions_of [] system_periods same = refl
@@ -123,7 +123,7 @@ versions_of-made n [] = refl
 versions_of-made n (r ∷ rs) =
     ap (λ l. version_of r (record { from = n; to = None }) ∷ l) (versions_of-made n rs)
 
--- more of them, which a commit makes
+-- more versions, which a commit creates
 pub versions_of-grown : (n : ℕ) (rows more all : List Row) (system_periods now : List SystemPeriod) (count : ℕ)
     → length rows ≡ length system_periods → all ≡ rows ++ more → count ≡ length more
     → now ≡ system_periods ++ replicate count (record { from = n; to = None })
@@ -145,7 +145,7 @@ closed_at-behind n v vs place =
       | Some w ↦ refl
     ]
 
--- one of them that a commit ends
+-- one version, which a commit ends
 pub closed_at-versions_of : (n : ℕ) (rows : List Row) (system_periods : List SystemPeriod) (place : ℕ)
     (system_period : SystemPeriod)
     → length rows ≡ length system_periods → place < length system_periods
@@ -181,7 +181,7 @@ length-shown n (v ∷ vs) =
       | false ↦ omega (arith, rest)
     ]
 
--- where as many are shown as there are, all are
+-- if the visible versions are as numerous as all, all are visible
 pub shown-all : (n : ℕ) (vs : List Version) → length (shown n vs) ≡ length vs
     → map (λ (v : Version). v.row) vs ≡ shown n vs
 shown-all n [] = λ same. refl
@@ -193,7 +193,7 @@ shown-all n (v ∷ vs) = by_test (length-shown n vs) (shown-all n vs) (shows n v
   by_test few rest true same = ap (λ l. v.row ∷ l) (rest (omega (arith, same)))
   by_test few rest false same = absurd (omega (arith, few, same))
 
--- how many of them are shown
+-- how many versions are visible
 pub length-shown_of : (n : ℕ) (rows : List Row) (system_periods : List SystemPeriod) (vs : List Version)
     → versions_of rows system_periods ≡ vs
     → length rows ≡ length system_periods

@@ -1,5 +1,5 @@
--- Changes after which no two rows of one key share an instant, where none did before: what they leave of
--- a row holds where the row did, and has its values in the key's columns.
+-- Changes that can't make rows with equal keys overlap: what they keep of a row holds where the row did, and has its
+-- values in the key's columns.
 use Rattle.std.proofs.Common.{◌≡◌, ℕ, ℤ, ◌<ℤ◌, ◌≤ℤ◌, ◌==◌, List, [], ◌∷◌, ◌++◌, map, get_or, suc, zero, Bool, true, false, ◌&&◌, ◌||◌, not, Option, Some, None, refl, sym, ap, ◌∙◌, inl, inr, arith}
 use Rattle.std.proofs.lemmas.Bool.{and_parts, or_parts, eq-eqb, eqb-true, or_right}
 use Rattle.std.specs.Prelude.{filter, flat_map, is_some, slice_get, unwrap_or}
@@ -24,7 +24,7 @@ use Rattle.table_core.specs.Numbered.{unnumbered}
 use Rattle.version_core.specs.declared.change.RowsChange.TheVariants.{Portion}
 use Rattle.version_core.proofs.ListLemmas.{any-true}
 
--- what is shown of each key with a column holds of each key
+-- a fact about each key with a column holds for each key
 lift : (key : List ℕ) (xs ys : List Draft) → (have_collision key xs ≡ false → have_collision key ys ≡ false)
     → break_key key xs ≡ false → break_key key ys ≡ false
 lift [] xs ys f h = refl
@@ -32,7 +32,7 @@ lift (column ∷ columns) xs ys f h = f h
 
 -- ---- parts of a row
 
--- what a part of a row collides with, the row does
+-- the row collides with each row that a part of it collides with
 part-inside : (key : List ℕ) (row : Row) (values : List Value) (p : Option Period)
     → ((e : List Value) → same_key key values e ≡ same_key key row.values e)
     → ((t : ℤ) → HoldsIn p t → Holds row.period t)
@@ -47,7 +47,7 @@ part-inside key row values (Some p) same within = (
   tt,
 )
 
--- rows without a shared instant don't collide
+-- rows without a common instant don't collide
 no-collision : (key : List ℕ) (a b : Draft) → ((t : ℤ) → Holds a.period t → Holds b.period t → ⊥)
     → collide key a b ≡ false
 no-collision key a b none = by_test (collide key a b) refl where
@@ -104,9 +104,9 @@ not-early_and_late portion t below above =
 not-inner_and_late : (portion : Period) (t : ℤ) → Holds portion t → portion.to ≤ℤ t → ⊥
 not-inner_and_late portion t inside above = let to = inside.1 in absurd (omega (arith, ints))
 
--- ---- values that are set beside the key
+-- ---- values that are set outside the key
 
--- the column is one of the key
+-- the column is in the key
 abbrev is_column_of : List ℕ → ℕ → Bool
 is_column_of key column = list_any (λ other. other == column) key
 
@@ -121,7 +121,7 @@ unset : (o : Option Value) → is_some o ≡ false → o ≡ None
 unset None e = refl
 unset (Some value) e = absurd (cc)
 
--- none is set in a column of the key
+-- no value is set in a column of the key
 not-set : (sets : List (Option Value)) (key : List ℕ) (column : ℕ) → list_any (is_set sets) key ≡ false
     → is_column_of key column ≡ true → get_or sets column None ≡ None
 not-set sets [] column none in_key = absurd (cc)
@@ -147,7 +147,7 @@ same-in (column ∷ columns) u v e same =
 
 -- ---- changes
 
--- rows are replaced by parts of them that are apart
+-- rows are replaced by parts that don't collide with each other
 replaced : (key : List ℕ) (goes : Row → Bool) (parts : Row → List Draft) (rows : List Row)
     → ((row : Row) → AllByRecursion (IsPartOf (collide key) (collide-flips key) (unnumbered row)) (parts row))
     → ((row : Row) → AreApart (collide key) (parts row))
@@ -181,7 +181,7 @@ outside-apart key portion row =
     two-apart key (before row.period portion) (later row.period portion) row.values row.values
     (λ t h k. not-early_and_late portion t (early row.period portion t h) (late row.period portion t k))
 
--- rows leave what lies outside a portion
+-- rows keep what is outside a portion
 pub cut-unbroken : (goes : Row → Bool) (portion : Period) (key : List ℕ) (rows : List Row)
     → break_key key (map unnumbered rows) ≡ false
     → break_key key

@@ -1,4 +1,4 @@
--- Lists of places, by which a change finds the versions that it closes.
+-- Lists of positions, used by a change to find the versions that it closes.
 use Rattle.std.specs.Prelude.{◌≡◌, ℕ, ◌+◌, ◌<◌, List, [], length, filter, find, Bool, ◌&&◌, if◌then◌else◌, option_and_then, option_map, slice_get, unwrap_or, Option, ◌*◌, ◌%◌, ◌≤◌, get_or, fold, All, true, false, Some, None, ◌==◌, unsigned_abs, IfSome}
 use Rattle.portion_core.specs.declared.portion_change.PortionChange.{PortionChange}
 use Rattle.row_core.specs.declared.row.Row.{Row}
@@ -15,12 +15,12 @@ use Rattle.version_core.specs.declared.index.Index.{Index}
 use Rattle.version_core.specs.declared.index.Lookup.{Lookup}
 use Rattle.version_core.specs.declared.key_index.KeyIndex.{KeyIndex}
 
--- the version at the place passes the test
+-- the version at the position passes the test
 abbrev pub passes : List Version → (Version → Bool) → ℕ → Bool
 passes vs test place = unwrap_or (option_map test (slice_get vs place)) false
 
--- the open versions at the places are those whose rows pass the test, in their order; there may be
--- places of closed ones between them
+-- the open versions at the positions are the open versions whose rows pass the test, in order; positions of closed
+-- versions may be between them
 pub record ListsOpen (vs : List Version) (test : Row → Bool) (places : List ℕ) : Type 0 where
   pub inside : All (λ place. place < length vs) places
   pub few : length places ≤ length vs
@@ -39,32 +39,32 @@ unfoldable pub bucket_of : Value → ℕ
 bucket_of (Int number) = unsigned_abs number % bucket_count
 bucket_of (Text bytes) = bucket_of_bytes bytes
 
--- the row's value in the column falls into the bucket
+-- the row's value in the column hashes to the bucket
 abbrev pub falls_into : ℕ → ℕ → Row → Bool
 falls_into column bucket row =
     unwrap_or (option_map (λ value. bucket_of value == bucket) (slice_get row.values column)) false
 
--- the bucket of a version's value in the column, where it is open and has one
+-- the bucket of a version's value in the column, if it is open and has one
 abbrev pub bucket_in : ℕ → Version → Option ℕ
 bucket_in column v = if is_open v then option_map bucket_of (slice_get v.row.values column) else None
 
--- each bucket lists the open versions whose value in the column falls into it
+-- each bucket lists the open versions whose value in the column hashes to it
 pub record IsIndex (vs : List Version) (index : Index) : Type 0 where
   pub whole : length index.buckets.items ≡ bucket_count
   pub each : (bucket : ℕ) → bucket < bucket_count
       → ListsOpen vs (falls_into index.column bucket) (get_or index.buckets.items bucket [])
 
--- what finds the open versions: all of them, and by the values of some columns
+-- the data that finds open versions: all of them, and by the values of some columns
 pub record AreFound (vs : List Version) (places : List ℕ) (indexes : List Index) : Type 0 where
   pub all : ListsOpen vs any_row places
   pub by_value : All (IsIndex vs) indexes
 
--- the places in a lookup's bucket, where its column has an index
+-- the positions in a lookup's bucket, if its column has an index
 abbrev pub bucket_at : List Index → Lookup → Option (List ℕ)
 bucket_at indexes lookup = option_map (λ (index : Index). get_or index.buckets.items lookup.bucket [])
     (find (λ (index : Index). index.column == lookup.column) indexes)
 
--- the places to which a lookup leads, where there is one and its column has an index
+-- the positions that a lookup finds, if there is one and its column has an index
 abbrev pub led_to : List Index → Option Lookup → Option (List ℕ)
 led_to indexes lookup = option_and_then (bucket_at indexes) lookup
 
@@ -72,33 +72,33 @@ led_to indexes lookup = option_and_then (bucket_at indexes) lookup
 abbrev pub lookup_in : Value → ℕ → Lookup
 lookup_in value column = record { column = column; bucket = bucket_of value }
 
--- the lookup of the value that is wanted in a column, where one is
+-- the lookup of the value wanted in a column, if one is
 abbrev pub lookup_at : List (Option Value) → ℕ → Option Lookup
 lookup_at wanted column = option_map (λ value. lookup_in value column) (get_or wanted column None)
 
--- where other places are led to, so are these, and they are no more
+-- if the other lookup finds positions, so does this one, and no more of them
 abbrev pub AreNoMore : Option (List ℕ) → Option (List ℕ) → Type 0
 AreNoMore places None = Unit {0}
 AreNoMore None (Some others) = ⊥
 AreNoMore (Some places) (Some others) = length places ≤ length others
 
--- what is kept beside versions: what finds the open ones
+-- the data stored with the versions: what finds the open ones
 pub record AreBeside
     (vs : List Version) (places : List ℕ) (indexes : List Index) (key_index : Option KeyIndex) : Type 0 where
   pub found : AreFound vs places indexes
   pub by_key : IfSome key_index (IsKeyIndex vs)
 
--- the change of a portion, where it is one
+-- the change of a portion, unless it is a load
 abbrev pub portion_of : RowsChange → Option PortionChange
 portion_of (Load rows) = None
 portion_of (Portion change) = Some change
 
--- the values of all rows that the change takes out fall into the bucket
+-- all rows that the change removes hash to the bucket
 abbrev pub IsLookupOf : RowsChange → Lookup → Type 0
 IsLookupOf c lookup =
     (row : Row) → removes c row ≡ true → falls_into lookup.column lookup.bucket row ≡ true
 
--- among the places are those of all versions that the change closes, in their order
+-- the positions include those of all versions that the change closes, in order
 pub record AreCandidates (c : RowsChange) (vs : List Version) (places : List ℕ) : Type 0 where
   pub inside : All (λ place. place < length vs) places
   pub few : length places ≤ length vs

@@ -1,4 +1,4 @@
--- The open versions by key and time.
+-- The open versions by key and start.
 use Rattle.std.specs.Prelude.{◌≡◌, ℕ, ◌+◌, ◌*◌, ◌%◌, ◌^◌, List, true, Some, fold, option_map, slice_get, unwrap_or}
 use Rattle.std.specs.Int.{cast_unsigned, w64}
 use Rattle.std.specs.declared.cmp.Ordering.{Ordering}
@@ -15,32 +15,32 @@ use Rattle.version_core.specs.declared.key_index.Entry.{Entry}
 use Rattle.version_core.specs.declared.key_index.KeyIndex.{KeyIndex}
 use Rattle.version_core.specs.declared.version.Version.{Version}
 
--- one number for two, of 64 bits
+-- two hashes combined into one of 64 bits
 abbrev pub mixed : ℕ → ℕ → ℕ
 mixed number next = (number * 1099511628211 + next) % 2 ^ 64
 
--- the number of a text's bytes
+-- the hash of a text's bytes
 unfoldable pub number_of_bytes : List ℕ → ℕ
 number_of_bytes bytes = fold mixed 0 bytes
 
--- the number of a value
+-- the hash of a value
 unfoldable pub number_of : Value → ℕ
 number_of (Int number) = cast_unsigned w64 number
 number_of (Text bytes) = number_of_bytes bytes
 
--- the number of the value in a column, and 0 where there is none
+-- the hash of the value in a column, or 0 without a value
 abbrev pub number_in : List Value → ℕ → ℕ
 number_in values column = unwrap_or (option_map number_of (slice_get values column)) 0
 
--- the number of the values in the key's columns: values of one key have one number
+-- the hash of the values in the key's columns; equal keys have the same hash
 unfoldable pub key_number : List ℕ → List Value → ℕ
 key_number key values = fold (λ number column. mixed number (number_in values column)) 0 key
 
--- the entry of the version at that place
+-- the entry of the version at a position
 abbrev pub entry_of : List ℕ → ℕ → Version → Entry
 entry_of key place v = record { number = key_number key v.row.values; from = v.row.period.from; place = place }
 
--- the order of entries: by number, then by start
+-- the order of entries: by hash, then by start, then by position
 abbrev pub entry_cmp : Entry → Entry → Ordering
 entry_cmp a b = ordering_then (nat_cmp a.number b.number)
     (ordering_then (int_cmp a.from b.from) (nat_cmp a.place b.place))
@@ -51,7 +51,7 @@ IsKeyIndex vs index =
     (place : ℕ) (v : Version) → slice_get vs place ≡ Some v → is_open v ≡ true
     → contains entry_cmp index.entries (entry_of index.columns.items place v) ≡ true
 
--- no open version whose entry stands before that one collides with the row
+-- no open version whose entry comes before `entry` collides with the row
 abbrev pub IsLastNear : List ℕ → Draft → List Version → Entry → Type 0
 IsLastNear key other vs entry =
     (place : ℕ) (v : Version) → slice_get vs place ≡ Some v → is_open v ≡ true → collide key (draft_of v) other ≡ true

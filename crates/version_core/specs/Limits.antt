@@ -1,4 +1,4 @@
--- How much of each there may be.
+-- Limits.
 use Rattle.std.specs.Prelude.{ℕ}
 
 -- the most versions of a table

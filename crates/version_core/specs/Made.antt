@@ -5,7 +5,7 @@ use Rattle.row_core.specs.declared.draft.Draft.{Draft}
 use Rattle.table_core.specs.Numbered.{unnumbered}
 use Rattle.version_core.specs.declared.version.Version.{Version}
 
--- new versions, made by commit n
+-- new versions, created by commit n
 abbrev pub made : ℕ → List Row → List Version
 made n rows = map (λ row. record { row = row; sysfrom = n; systo = None }) rows
 

@@ -1,4 +1,4 @@
--- The versions that are open, and a change of them.
+-- Open versions, and how a change affects them.
 use Rattle.std.specs.Prelude.{ℕ, ◌+◌, List, [], ◌∷◌, ◌++◌, length, map, Bool, ◌&&◌, if◌then◌else◌, Some, is_none, filter, option_map, slice_get, slice_set, unwrap_or}
 use Rattle.row_core.specs.declared.row.Row.{Row}
 use Rattle.table_core.specs.Numbered.{numbered}
@@ -15,20 +15,20 @@ is_open v = is_none v.systo
 abbrev pub current : List Version → List Row
 current versions = map (λ v. v.row) (filter is_open versions)
 
--- the places of the versions that pass the test, where the first stands at the place `at`
+-- the positions of the versions that pass the test, if the first is at position `at`
 abbrev pub places_from : (Version → Bool) → ℕ → List Version → List ℕ
 places_from test at [] = []
 places_from test at (v ∷ vs) = if test v then at ∷ places_from test (at + 1) vs else places_from test (at + 1) vs
 
--- the version is open, and the change takes out its row
+-- the version is open, and the change removes its row
 abbrev pub is_taken : RowsChange → Version → Bool
 is_taken c v = is_open v && removes c v.row
 
--- a version after commit n, which closes it where it is open and its row goes
+-- a version after commit n, which closes it if it is open and its row is removed
 abbrev pub closed : ℕ → (Row → Bool) → Version → Version
 closed n goes v = if is_none v.systo && goes v.row then record v { systo = Some n } else v
 
--- the versions with the one at that place closed by the commit
+-- the versions, with the one at a position closed by the commit
 abbrev pub closed_at : ℕ → List Version → ℕ → List Version
 closed_at commit versions place =
     unwrap_or

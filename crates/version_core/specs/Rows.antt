@@ -1,4 +1,4 @@
--- Which rows a change of a table takes out, and what it puts in their place.
+-- Which rows a change of a table removes, and what replaces them.
 use Rattle.std.specs.Prelude.{List, [], filter, Bool, false, flat_map}
 use Rattle.portion_core.specs.Portion.{parts_of as parts_by_place, takes_out}
 use Rattle.row_core.specs.declared.draft.Draft.{Draft}
@@ -6,17 +6,17 @@ use Rattle.row_core.specs.declared.row.Row.{Row}
 use Rattle.version_core.specs.declared.change.RowsChange.{RowsChange}
 use Rattle.version_core.specs.declared.change.RowsChange.TheVariants.{Load, Portion}
 
--- the row that a change takes out
+-- the change removes the row
 abbrev pub removes : RowsChange → Row → Bool
 removes (Load rows) row = false
 removes (Portion change) row = takes_out change row
 
--- what comes in the place of one that is taken out
+-- what replaces a removed row
 abbrev pub parts_of : RowsChange → Row → List Draft
 parts_of (Load rows) row = []
 parts_of (Portion change) row = parts_by_place change row
 
--- what comes in the place of all rows that a change takes out
+-- what replaces all rows that a change removes
 abbrev pub parts_of_all : RowsChange → List Row → List Draft
 parts_of_all c rows = flat_map (parts_of c) (filter (removes c) rows)
 
@@ -25,7 +25,7 @@ abbrev pub drafts_of : RowsChange → List Row → List Draft
 drafts_of (Load drafts) rows = drafts
 drafts_of (Portion change) rows = parts_of_all (Portion change) rows
 
--- all new rows of a change whose parts of rows are these
+-- all new rows of a change, if `parts` replace the removed rows
 abbrev pub with_parts : RowsChange → List Draft → List Draft
 with_parts (Load drafts) parts = drafts
 with_parts (Portion change) parts = parts

@@ -1,4 +1,4 @@
-//! Changes of a table's rows, by the places of columns.
+//! Changes of a table's rows, with columns given by index.
 
 ghost use Rattle.std.specs.Prelude.{◌≡◌};
 ghost use Rattle.std.specs.Option.{option_copied};
@@ -22,14 +22,14 @@ use table_core::RowRef;
 /// A change of the rows of a table.
 #[derive(Drop)]
 pub enum RowsChange<'a> {
-    /// More rows, with the ids that follow.
+    /// New rows, which get the next ids.
     Load(Drafts),
-    /// Other values within a portion, or none, for the rows that have the wanted ones.
+    /// Other values within a portion, or none, for the rows that have the wanted values.
     Portion(PortionChange<'a>),
 }
 
 impl<'a> RowsChange<'a> {
-    /// The change of a portion, where it is one.
+    /// Returns the change of a portion, unless this is a load.
     pub(crate) fn portion(&self) -> Option<&PortionChange<'a>>
         ensures { option_copied result ≡ portion_of self.now }
     {
@@ -39,14 +39,14 @@ impl<'a> RowsChange<'a> {
         }
     }
 
-    /// Whether a version is open, and the change leaves its row.
+    /// Returns whether the version is open and the change keeps its row.
     pub(crate) fn leaves(&self, version: &VersionRef<'_>) -> bool
         ensures { result ≡ is_left self.now (lent_version version.now) }
     {
         version.system_period.is_open() && !self.removes(version.row)
     }
 
-    /// Whether the change takes out the row.
+    /// Returns whether the change removes the row.
     fn removes(&self, row: RowRef<'_>) -> bool
         ensures { result ≡ removes self.now (lent_row row.entry) }
     {
@@ -56,7 +56,7 @@ impl<'a> RowsChange<'a> {
         }
     }
 
-    /// All new rows of a change whose parts of rows are these.
+    /// Returns all new rows of the change; `parts` are the rows that replace removed ones.
     pub(crate) fn rows_made<'b>(&'b self, parts: &'b Drafts) -> &'b Drafts
         ensures { result.now ≡ with_parts self.entry.now parts.entry.now }
     {
@@ -66,7 +66,7 @@ impl<'a> RowsChange<'a> {
         }
     }
 
-    /// The same; a load's rows are taken out of the change.
+    /// Returns the same as `rows_made`, but takes a load's rows out of the change.
     pub(crate) fn take_rows(&mut self, alloc: Global, parts: Drafts) -> Drafts
         ensures { result ≡ with_parts self.old parts }
     {
@@ -77,8 +77,8 @@ impl<'a> RowsChange<'a> {
     }
 }
 
-/// Whether a version is open, and the change takes out its row. The period is tested first: it shows of most
-/// versions that they stay, and of those no commits are read.
+/// Returns whether the version is open and the change removes its row. The period is tested first: for most versions it
+/// decides, and their system periods needn't be read.
 #[inline(always)]
 pub(crate) fn takes(
     change: &PortionChange<'_>,

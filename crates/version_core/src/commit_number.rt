@@ -4,8 +4,7 @@ ghost use Rattle.std.specs.Prelude.{◌≡◌, ◌<◌, MatchOption};
 
 use std::marker::Model;
 
-/// The number of a commit. They are numbered from 1 on, and there are so few that 32 bits hold one.
-/// Contracts see the number.
+/// The number of a commit. Numbers start at 1, and 32 bits are enough for them. Contracts see the number.
 #[derive(Clone, Copy)]
 pub struct CommitNumber {
     number: u32,
@@ -24,7 +23,7 @@ impl Model for CommitNumber {
 }
 
 impl CommitNumber {
-    /// That number; none where it is 0.
+    /// Returns the commit number, or `None` for 0.
     pub fn new(number: u32) -> Option<CommitNumber>
         ensures { MatchOption result (number ≡ 0) (λ commit. commit ≡ number) }
     {
@@ -35,7 +34,7 @@ impl CommitNumber {
         }
     }
 
-    /// The number, which is not 0.
+    /// Returns the number, which is not 0.
     pub(crate) fn get(self) -> u32
         ensures value { result ≡ self }
         ensures proper { 0 < result }

@@ -1,4 +1,4 @@
-//! Indexes of open versions by the values of a column, and what a change of a portion looks at.
+//! Indexes of open versions by the values of a column, and the lookups of a change in them.
 
 ghost use Rattle.std.specs.Prelude.{◌≡◌, ℕ, ◌==◌, ◌+◌, ◌<◌, ◌≤◌, [], true, false, find, length, option_map, position, take, unwrap_or, All, IfOk, IfSome, IsSome, OnOk, ◌⊎◌};
 ghost use Rattle.std.specs.Option.{option_copied};
@@ -19,21 +19,21 @@ use row_core::{NoMemory, ValueRef};
 use std::alloc::Global;
 use table_core::RowRef;
 
-/// How many buckets an index has. It is prime, so that numbers in equal steps spread over them.
+/// The number of buckets of an index. It is prime, so that equally spaced numbers spread over the buckets.
 const BUCKET_COUNT: usize = 8_191;
 
-/// Below so many versions no index is made: it would take more memory than they do.
+/// With fewer versions than this no index is built: it would mostly take more memory than the versions.
 const FEW: usize = 256;
 
-/// The open versions by the value of a column: a bucket has the places of those whose value falls
-/// into it. Places of versions that were closed stay until the bucket is next used.
+/// The open versions by their values in a column: a bucket lists the positions of the versions whose value hashes to
+/// it. Positions of closed versions may remain until the bucket is next looked up, or the indexes are swept.
 #[derive(Drop)]
 pub(crate) struct Index {
     pub column: u32,
     pub buckets: Vec<Places>,
 }
 
-/// Where the rows are that a change takes out: in a bucket of a column's index.
+/// A bucket of a column's index that contains the rows that a change removes.
 #[derive(Clone, Copy)]
 pub(crate) struct Lookup {
     pub column: u32,
@@ -41,7 +41,7 @@ pub(crate) struct Lookup {
 }
 
 impl Index {
-    /// The index of versions by that column.
+    /// Builds the index of the versions by that column.
     pub(crate) fn of(
         alloc: Global,
         versions: &StoredVersions,
@@ -58,7 +58,7 @@ impl Index {
         Ok(index)
     }
 
-    /// Adds the versions from that place on.
+    /// Adds the versions from position `from` on.
     fn extend(&mut self, versions: &StoredVersions, from: usize) -> Result<(), NoMemory>
         requires few { length versions.now ≤ version_limit }
         requires inside { from ≤ length versions.now }
@@ -71,7 +71,7 @@ impl Index {
         Ok(())
     }
 
-    /// Adds the version at that place.
+    /// Adds the version at the given position, if it is open.
     fn add(&mut self, versions: &StoredVersions, place: usize) -> Result<(), NoMemory>
         requires few { length versions.now ≤ version_limit }
         requires inside { place < length versions.now }
@@ -85,7 +85,7 @@ impl Index {
         Ok(())
     }
 
-    /// Leaves the places of open versions in that bucket.
+    /// Removes the positions of closed versions from a bucket.
     fn drop_closed(&mut self, versions: &StoredVersions, bucket: usize)
         requires index { IsIndex versions.now self.old }
         requires few { bucket < bucket_count }
@@ -94,7 +94,7 @@ impl Index {
         self.buckets[bucket].drop_closed(versions);
     }
 
-    /// Leaves the places of open versions in all buckets.
+    /// Removes the positions of closed versions from all buckets.
     fn sweep(&mut self, versions: &StoredVersions)
         requires { IsIndex versions.now self.old }
         ensures { IsIndex versions.now self.new }
@@ -105,7 +105,7 @@ impl Index {
     }
 }
 
-/// The buckets of an index of no versions.
+/// Returns empty buckets.
 fn empty_buckets(alloc: Global) -> Result<Vec<Places>, NoMemory>
     ensures whole { IfOk result (λ buckets. length buckets.items ≡ bucket_count) }
     ensures empty { IfOk result (λ buckets. All (λ places. places ≡ []) buckets.items) }
@@ -117,7 +117,7 @@ fn empty_buckets(alloc: Global) -> Result<Vec<Places>, NoMemory>
     Ok(buckets)
 }
 
-/// The bucket of a version's value in the column, where it is open and has one.
+/// Returns the bucket of the version's value in the column, or `None` if the version is closed or has no such value.
 fn bucket_in(column: u32, row: RowRef<'_>, system_period: &SystemPeriod) -> Option<usize>
     ensures bucket { result ≡ bucket_in column (version_of (lent_row row.entry) system_period.now) }
     ensures few { IfSome result (λ bucket. bucket < bucket_count) }
@@ -131,7 +131,7 @@ fn bucket_in(column: u32, row: RowRef<'_>, system_period: &SystemPeriod) -> Opti
     }
 }
 
-/// The bucket of a value: equal values have one.
+/// Returns the bucket of a value. Equal values have the same bucket.
 fn bucket_of(value: ValueRef<'_>) -> usize
     ensures bucket { result ≡ bucket_of (lent_value value.entry) }
     ensures few { result < bucket_count }
@@ -142,7 +142,7 @@ fn bucket_of(value: ValueRef<'_>) -> usize
     }
 }
 
-/// The bucket of a text's bytes.
+/// Returns the bucket of a text's bytes.
 fn bucket_of_bytes(bytes: &[u8]) -> usize
     ensures bucket { result ≡ bucket_of_bytes bytes.now }
     ensures few { result < bucket_count }
@@ -154,7 +154,8 @@ fn bucket_of_bytes(bytes: &[u8]) -> usize
     bucket
 }
 
-/// Where the rows are that the change takes out: the wanted value with the shortest bucket says so.
+/// Returns the lookup for the rows that the change removes, among its wanted values: the one with the shortest bucket,
+/// or `None` if no wanted value's column has an index.
 pub(crate) fn lookup_of(indexes: &[Index], change: &PortionChange<'_>) -> Option<Lookup>
     requires { All (λ index. length index.buckets.items ≡ bucket_count) indexes.now }
     ensures few { IfSome result (λ lookup. lookup.bucket < bucket_count) }
@@ -167,8 +168,7 @@ pub(crate) fn lookup_of(indexes: &[Index], change: &PortionChange<'_>) -> Option
     best_lookup(indexes, &change.conds)
 }
 
-/// Where the rows are that have all wanted values: of the buckets of those whose columns have indexes, the
-/// shortest.
+/// Returns the lookup for the rows that have all wanted values: the one with the shortest bucket.
 fn best_lookup(indexes: &[Index], wanted: &ByColumn<'_>) -> Option<Lookup>
     requires { All (λ index. length index.buckets.items ≡ bucket_count) indexes.now }
     ensures few { IfSome result (λ lookup. lookup.bucket < bucket_count) }
@@ -188,7 +188,7 @@ fn best_lookup(indexes: &[Index], wanted: &ByColumn<'_>) -> Option<Lookup>
     best
 }
 
-/// The lookup of the value that is wanted in the column at that place, where one is.
+/// Returns the lookup of the value wanted in a column, or `None` if no value is.
 fn lookup_at(wanted: &ByColumn<'_>, column: usize) -> Option<Lookup>
     requires { column < length wanted.now }
     ensures lookup { result ≡ lookup_at wanted.now column }
@@ -204,7 +204,8 @@ fn lookup_at(wanted: &ByColumn<'_>, column: usize) -> Option<Lookup>
     }
 }
 
-/// The lookup that leads to fewer places: the first, unless the other does.
+/// Returns the lookup with fewer positions: `other` if it has fewer than `one`, otherwise `one`. A lookup without an
+/// index counts as one with more.
 fn better_lookup(indexes: &[Index], one: Option<Lookup>, other: Option<Lookup>) -> Option<Lookup>
     requires buckets { All (λ index. length index.buckets.items ≡ bucket_count) indexes.now }
     requires one { IfSome one (λ lookup. lookup.bucket < bucket_count) }
@@ -220,7 +221,7 @@ fn better_lookup(indexes: &[Index], one: Option<Lookup>, other: Option<Lookup>) 
     }
 }
 
-/// Whether places are led to, and to fewer than to the others.
+/// Returns whether the first list exists and is shorter than the second, or the second doesn't exist.
 fn are_fewer(places: Option<&[u32]>, others: Option<&[u32]>) -> bool
     ensures yes { result ≡ true → (IsSome (option_copied places.entry))
         × (AreNoMore (option_copied places.entry) (option_copied others.entry)) }
@@ -236,7 +237,7 @@ fn are_fewer(places: Option<&[u32]>, others: Option<&[u32]>) -> bool
     }
 }
 
-/// The places to which the lookup leads, where there is one and its column has an index.
+/// Returns the positions that the lookup finds, or `None` if there is no lookup or its column has no index.
 fn led_to<'a>(indexes: &'a [Index], lookup: Option<Lookup>) -> Option<&'a [u32]>
     requires buckets { All (λ index. length index.buckets.items ≡ bucket_count) indexes.now }
     requires lookup { IfSome lookup (λ lookup. lookup.bucket < bucket_count) }
@@ -248,7 +249,7 @@ fn led_to<'a>(indexes: &'a [Index], lookup: Option<Lookup>) -> Option<&'a [u32]>
     }
 }
 
-/// The places in the lookup's bucket, where its column has an index.
+/// Returns the positions in the lookup's bucket, or `None` if its column has no index.
 fn bucket_at<'a>(indexes: &'a [Index], lookup: Lookup) -> Option<&'a [u32]>
     requires buckets { All (λ index. length index.buckets.items ≡ bucket_count) indexes.now }
     requires lookup { lookup.bucket < bucket_count }
@@ -260,21 +261,21 @@ fn bucket_at<'a>(indexes: &'a [Index], lookup: Lookup) -> Option<&'a [u32]>
     }
 }
 
-/// The column's index.
+/// Returns the column's index.
 fn index_of(indexes: &[Index], column: u32) -> Option<&Index>
     ensures { option_copied result ≡ find (λ index. index.column == column) indexes.now }
 {
     indexes.iter().find(|index| index.column == column)
 }
 
-/// The place of the column's index.
+/// Returns the position of the column's index in the list.
 fn place_of_index(indexes: &[Index], column: u32) -> Option<usize>
     ensures { result ≡ position (λ index. index.column == column) indexes.now }
 {
     indexes.iter().position(|index| index.column == column)
 }
 
-/// The places that a change with that lookup looks at: a bucket, or all where no index is there.
+/// Returns the positions that a change with that lookup examines: a bucket, or `open_at` if there is no index.
 pub(crate) fn candidates<'a>(
     open_at: &'a [u32],
     indexes: &'a [Index],
@@ -290,7 +291,8 @@ pub(crate) fn candidates<'a>(
     }
 }
 
-/// Makes an index of each column in which a value is wanted, where memory is there.
+/// Builds an index for each column with a wanted value that has none. If memory is refused, the column stays without
+/// one.
 pub(crate) fn make_indexes(
     alloc: Global,
     indexes: &mut Vec<Index>,
@@ -311,7 +313,7 @@ pub(crate) fn make_indexes(
     }
 }
 
-/// Makes the index of the column, unless it is there or memory is refused.
+/// Builds the index of the column, unless it exists or memory is refused.
 fn make_index(alloc: Global, indexes: &mut Vec<Index>, versions: &StoredVersions, column: u32)
     requires few { length versions.now ≤ version_limit }
     requires before { All (IsIndex versions.now) indexes.old.items }
@@ -325,7 +327,7 @@ fn make_index(alloc: Global, indexes: &mut Vec<Index>, versions: &StoredVersions
     }
 }
 
-/// Leaves the places of open versions where the lookup leads.
+/// Removes the positions of closed versions from the lookup's bucket.
 pub(crate) fn drop_closed_at(indexes: &mut [Index], versions: &StoredVersions, lookup: Lookup)
     requires lookup { lookup.bucket < bucket_count }
     requires before { All (IsIndex versions.now) indexes.old }
@@ -336,7 +338,7 @@ pub(crate) fn drop_closed_at(indexes: &mut [Index], versions: &StoredVersions, l
     }
 }
 
-/// Leaves the places of open versions in all indexes.
+/// Removes the positions of closed versions from all indexes.
 pub(crate) fn sweep_indexes(indexes: &mut Vec<Index>, versions: &StoredVersions)
     requires { All (IsIndex versions.now) indexes.old.items }
     ensures { All (IsIndex versions.now) indexes.new.items }
@@ -346,8 +348,8 @@ pub(crate) fn sweep_indexes(indexes: &mut Vec<Index>, versions: &StoredVersions)
     }
 }
 
-/// Adds the versions from that place on to all indexes. Where memory is refused none is left, and
-/// changes make them anew.
+/// Adds the versions from position `from` on to all indexes. If memory is refused, all indexes are dropped, and later
+/// changes rebuild them.
 pub(crate) fn extend_indexes(indexes: &mut Vec<Index>, versions: &StoredVersions, from: usize)
     requires few { length versions.now ≤ version_limit }
     requires inside { from ≤ length versions.now }

@@ -1,4 +1,4 @@
-//! The index of open versions by key and time, by which the key of a new row is tested.
+//! The index of open versions by key and start, used to test the key of a new row.
 
 ghost use Rattle.std.specs.Prelude.{◌≡◌, ◌≢◌, ◌↔◌, ◌+◌, ◌≤◌, ◌<◌, ◌≤ℤ◌, true, false, Some, length, map, take, IfOk, IfSome, IsTrue, MatchOption, OnOk};
 ghost use Rattle.std.specs.List.{list_any};
@@ -25,10 +25,10 @@ use std::alloc::{AllocError, Global};
 use std::collections::BTreeSet;
 use table_core::RowRef;
 
-/// What spreads the numbers of texts, and of the columns of a key, over 64 bits.
+/// The multiplier that spreads the hashes of texts and keys over 64 bits.
 const FACTOR: u64 = 1_099_511_628_211;
 
-/// What the index has of a version: a number that rows of one key share, its start, and its place.
+/// An entry of the index for a version: the hash of its key, its start, and its position.
 #[derive(Clone, Copy, PartialEq, Eq, PartialOrd, Ord)]
 pub(crate) struct Entry {
     pub number: u64,
@@ -36,9 +36,9 @@ pub(crate) struct Entry {
     pub place: usize,
 }
 
-/// The open versions by the number of their key, those of one number by start. Rows of one key share
-/// no instant, so of those that begin before the end of a new row only the last can share one with it.
-/// Others are looked at only where a change takes them out, or two keys have one number.
+/// The open versions by the hash of their key, and then by start. Rows with equal keys don't overlap, so among those
+/// that start before a new row's end only the last can overlap it. Earlier entries are examined only if a change
+/// removes the last row, or if different keys have the same hash.
 #[derive(Drop)]
 pub(crate) struct KeyIndex {
     pub columns: Vec<u32>,
@@ -46,7 +46,7 @@ pub(crate) struct KeyIndex {
 }
 
 impl KeyIndex {
-    /// The index of versions by the key of those columns.
+    /// Builds the index of the versions by the key with those columns.
     pub(crate) fn of(
         alloc: Global,
         versions: &StoredVersions,
@@ -62,14 +62,14 @@ impl KeyIndex {
         Ok(index)
     }
 
-    /// Whether it is one by the key of those columns.
+    /// Returns whether the index is by the key with those columns.
     pub(crate) fn is_by(&self, key: &[u32]) -> bool
         ensures { IsTrue result ↔ (self.now.columns.items ≡ key.now) }
     {
         self.columns.as_slice() == key
     }
 
-    /// Adds the open ones of the versions from that place on.
+    /// Adds the open versions from position `from` on.
     pub(crate) fn extend(&mut self, versions: &StoredVersions, from: usize) -> Result<(), NoMemory>
         requires inside { from ≤ length versions.now }
         requires before { IsKeyIndex (take from versions.now) self.old }
@@ -81,7 +81,7 @@ impl KeyIndex {
         Ok(())
     }
 
-    /// Adds the version at that place, where it is open.
+    /// Adds the version at the given position, if it is open.
     fn add(&mut self, versions: &StoredVersions, place: usize) -> Result<(), NoMemory>
         requires inside { place < length versions.now }
         requires before { IsKeyIndex (take place versions.now) self.old }
@@ -97,7 +97,7 @@ impl KeyIndex {
         Ok(())
     }
 
-    /// Takes out those of the versions at the places that are closed.
+    /// Removes the closed versions at these positions.
     pub(crate) fn drop_closed(&mut self, versions: &StoredVersions, places: &[u32])
         requires { IsKeyIndex versions.now self.old }
         ensures { IsKeyIndex versions.now self.new }
@@ -107,7 +107,7 @@ impl KeyIndex {
         }
     }
 
-    /// Takes out the version at that place, where it is closed.
+    /// Removes the version at the given position, if it is closed.
     fn drop_closed_at(&mut self, versions: &StoredVersions, place: usize)
         requires { IsKeyIndex versions.now self.old }
         ensures { IsKeyIndex versions.now self.new }
@@ -120,8 +120,8 @@ impl KeyIndex {
         }
     }
 
-    /// Whether a row that the change leaves collides with the new one. The open rows are gone through
-    /// from its end back, until no earlier one can.
+    /// Returns whether the new row collides with a row that the change keeps. Searches the open rows backwards from the
+    /// new row's end, until no earlier row can collide.
     pub(crate) fn any_collides(
         &self,
         change: &RowsChange<'_>,
@@ -151,7 +151,7 @@ impl KeyIndex {
     }
 }
 
-/// The index, where it is there and by the key of those columns.
+/// Returns the index, if there is one by the key with those columns.
 pub(crate) fn index_by<'a>(index: &'a Option<KeyIndex>, key: &[u32]) -> Option<&'a KeyIndex>
     ensures { MatchOption result (IfSome index.now (λ index. index.columns.items ≢ key.now))
         (λ found. (index.now ≡ Some found.now) × (found.now.columns.items ≡ key.now)) }
@@ -162,7 +162,7 @@ pub(crate) fn index_by<'a>(index: &'a Option<KeyIndex>, key: &[u32]) -> Option<&
     }
 }
 
-/// The entry of the version of a row at that place.
+/// Returns the entry of a version with that row and position.
 fn entry_of(key: &[u32], place: usize, row: RowRef<'_>) -> Entry
     ensures { (v : Version) → v.row ≡ lent_row row.entry → result ≡ entry_of key.now place v }
 {
@@ -173,7 +173,7 @@ fn entry_of(key: &[u32], place: usize, row: RowRef<'_>) -> Entry
     }
 }
 
-/// Where a search ends that is for rows of its key: they begin before its end.
+/// Returns the entry where a search for rows with this row's key ends: they start before this row's end.
 fn end_of(key: &[u32], row: DraftRef<'_>) -> Entry
     ensures number { result.number ≡ key_number key.now (lent_draft row.entry).values }
     ensures from { result.from ≡ (lent_draft row.entry).period.to }
@@ -185,8 +185,9 @@ fn end_of(key: &[u32], row: DraftRef<'_>) -> Entry
     }
 }
 
-/// Whether no open version before the entry collides with the new row, whose key has that number: all
-/// before it are of other keys, or its own version is open, of the row's key, and begins no later.
+/// Returns true only if no open version before the entry collides with the new row, whose key has the hash `number`.
+/// This is certain if all versions before the entry have other keys, or if the entry's version is open, has the row's
+/// key, and starts no later.
 fn is_last_near(
     key: &[u32],
     versions: &StoredVersions,
@@ -207,8 +208,7 @@ fn is_last_near(
     }
 }
 
-/// Whether the version is open, of the new row's key, and begins where the entry says, which is no
-/// later than the new row does.
+/// Returns whether the version is open, has the new row's key, and starts at `from`, no later than the new row.
 fn is_open_before(key: &[u32], version: &VersionRef<'_>, from: Point, new: DraftRef<'_>) -> bool
     ensures open { result ≡ true → is_open (lent_version version.now) ≡ true }
     ensures begins { result ≡ true → (lent_row version.now.row).period.from ≡ from }
@@ -222,7 +222,7 @@ fn is_open_before(key: &[u32], version: &VersionRef<'_>, from: Point, new: Draft
         && same_key(key, version.row.draft(), new)
 }
 
-/// A number of the row's values in the key's columns. Rows of one key have one number.
+/// Returns the hash of the row's values in the key's columns. Rows with equal keys have the same hash.
 fn key_number(key: &[u32], row: DraftRef<'_>) -> u64
     ensures { result ≡ key_number key.now (lent_draft row.entry).values }
 {
@@ -233,14 +233,14 @@ fn key_number(key: &[u32], row: DraftRef<'_>) -> u64
     number
 }
 
-/// One number for two.
+/// Combines two hashes.
 fn mixed(number: u64, next: u64) -> u64
     ensures { result ≡ mixed number next }
 {
     number.wrapping_mul(FACTOR).wrapping_add(next)
 }
 
-/// The number of the row's value in a column, and 0 where there is none.
+/// Returns the hash of the row's value in a column, or 0 if there is no value.
 fn number_in(row: DraftRef<'_>, column: u32) -> u64
     ensures { result ≡ number_in (lent_draft row.entry).values column }
 {
@@ -250,7 +250,7 @@ fn number_in(row: DraftRef<'_>, column: u32) -> u64
     }
 }
 
-/// The number of a value.
+/// Returns the hash of a value.
 fn number_of(value: ValueRef<'_>) -> u64
     ensures { result ≡ number_of (lent_value value.entry) }
 {
@@ -260,7 +260,7 @@ fn number_of(value: ValueRef<'_>) -> u64
     }
 }
 
-/// The number of a text's bytes.
+/// Returns the hash of a text's bytes.
 fn number_of_bytes(bytes: &[u8]) -> u64
     ensures { result ≡ number_of_bytes bytes.now }
 {

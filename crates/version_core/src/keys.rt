@@ -1,4 +1,4 @@
-//! Keys of tables: which changes their test is for, and the rows that it looks at.
+//! Keys of tables: which changes must be tested, and the rows that are tested.
 
 ghost use Rattle.std.specs.Prelude.{◌≡◌, ◌≢◌, ◌++◌, List, [], true, false, map, IfOk, OnOk};
 ghost use Rattle.std.specs.List.{list_any};
@@ -21,13 +21,13 @@ use row_core::NoMemory;
 use std::alloc::{AllocError, Global};
 use thiserror::Error;
 
-/// Two rows of one key would share an instant.
+/// Two rows with the same key would overlap.
 #[derive(Clone, Copy, Debug, PartialEq, Eq, Error)]
 #[error("two rows of one key would share an instant")]
 pub struct KeyOverlap;
 
-/// Whether the change can leave rows of one key that share an instant, where none do before it. A load
-/// can; an update only where it sets a column of the key, since what it leaves of a row holds where the
+/// Returns whether the change can make rows with the same key overlap, if no such rows overlap before it. A load can.
+/// An update can only if it sets a column of the key: otherwise each part that it keeps of a row holds only where the
 /// row did.
 pub(crate) fn may_overlap(change: &RowsChange<'_>, key: &[u32]) -> bool
     ensures keyed { result ≡ true → key.now ≢ [] }
@@ -47,21 +47,21 @@ pub(crate) fn may_overlap(change: &RowsChange<'_>, key: &[u32]) -> bool
     }
 }
 
-/// Whether a value is set in a column of the key.
+/// Returns whether a value is set in a column of the key.
 fn any_set(sets: &ByColumn<'_>, key: &[u32]) -> bool
     ensures { result ≡ list_any (is_set sets.now) key.now }
 {
     key.iter().any(|column| is_set(sets, *column as usize))
 }
 
-/// Whether a value is set in the column.
+/// Returns whether a value is set in the column.
 fn is_set(sets: &ByColumn<'_>, column: usize) -> bool
     ensures { result ≡ is_set sets.now column }
 {
     column < sets.width() && sets.get(column).is_some()
 }
 
-/// Whether two of these rows and the new ones collide.
+/// Returns whether two of these rows and the new ones collide.
 pub(crate) fn collide_among<'a>(
     mut rows: Vec<DraftRef<'a>>,
     key: &[u32],
@@ -74,7 +74,7 @@ pub(crate) fn collide_among<'a>(
     Ok(have_collision(key, &mut rows))
 }
 
-/// The rows of open versions that the change leaves: all of these are gone through.
+/// Returns the rows of open versions that the change keeps, found by a pass over all open versions.
 pub(crate) fn rows_left<'a>(
     alloc: Global,
     change: &RowsChange<'_>,
@@ -110,8 +110,8 @@ fn push_rows<'a>(rows: &mut Vec<DraftRef<'a>>, new: &'a Drafts) -> Result<(), No
     Ok(())
 }
 
-/// Whether an open version has that place, the change leaves its row, and that collides with the new
-/// one.
+/// Returns whether the version at the given position is open, the change keeps its row, and the row collides with the
+/// new one.
 pub(crate) fn collides_at(
     change: &RowsChange<'_>,
     key: &[u32],
@@ -128,7 +128,7 @@ pub(crate) fn collides_at(
     }
 }
 
-/// Whether the version is open, the change leaves its row, and that collides with the new one.
+/// Returns whether the version is open, the change keeps its row, and the row collides with the new one.
 fn collides_left(
     change: &RowsChange<'_>,
     key: &[u32],

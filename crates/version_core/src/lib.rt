@@ -1,6 +1,6 @@
 #![tactic(auto)]
 
-//! The versions of a table's rows: what a change takes out and puts in, and what a commit shows of them.
+//! The versions of a table's rows: what a change removes and adds, and which versions are visible as of a commit.
 
 mod change;
 mod commit_number;

@@ -1,4 +1,4 @@
-//! Lists of places of versions.
+//! Lists of positions of versions.
 
 ghost use Rattle.std.specs.Prelude.{◌≡◌, ◌+◌, ◌≤◌, ◌++◌, [], ◌∷◌, length, filter, take, IfOk, OnErr, OnOk};
 ghost use Rattle.std.specs.List.{range_with_len};
@@ -11,8 +11,7 @@ use row_core::NoMemory;
 use std::alloc::Global;
 use std::marker::Model;
 
-/// Places in a list of versions, rising. Contracts see the list. A table has so few versions that
-/// 32 bits hold a place.
+/// Positions in a list of versions. Contracts see the list. A table has few enough versions for 32 bits.
 #[derive(Drop)]
 pub(crate) struct Places {
     items: Vec<u32>,
@@ -27,7 +26,7 @@ impl Model for Places {
 }
 
 impl Places {
-    /// The empty list.
+    /// Returns the empty list.
     pub(crate) fn new(alloc: Global) -> Self
         ensures { result ≡ [] }
     {
@@ -36,21 +35,21 @@ impl Places {
         }
     }
 
-    /// How many there are.
+    /// Returns the number of positions.
     pub(crate) fn len(&self) -> usize
         ensures { result ≡ length self.now }
     {
         self.items.len()
     }
 
-    /// All places.
+    /// Returns all positions.
     pub(crate) fn as_slice(&self) -> &[u32]
         ensures { result.now ≡ self.now }
     {
         &self.items
     }
 
-    /// A list equal to this one.
+    /// Returns a copy of the list.
     pub(crate) fn copy(&self, alloc: Global) -> Result<Places, NoMemory>
         ensures { IfOk result (λ places. places ≡ self.now) }
     {
@@ -59,7 +58,7 @@ impl Places {
         })
     }
 
-    /// Adds a place. On refusal there are none more.
+    /// Adds a position. If memory is refused, the list is unchanged.
     pub(crate) fn push(&mut self, place: u32) -> Result<(), NoMemory>
         ensures ok { OnOk result (self.new ≡ self.old ++ place ∷ []) }
         ensures err { OnErr result (self.new ≡ self.old) }
@@ -68,7 +67,7 @@ impl Places {
         Ok(())
     }
 
-    /// Adds `count` places from `first` on. On refusal there are none more.
+    /// Adds `count` positions from `first` on. If memory is refused, the list is unchanged.
     pub(crate) fn push_range(&mut self, first: usize, count: usize) -> Result<(), NoMemory>
         requires { first + count ≤ version_limit }
         ensures ok { OnOk result (self.new ≡ self.old ++ range_with_len first count) }
@@ -77,14 +76,14 @@ impl Places {
         push_places(&mut self.items, first, count)
     }
 
-    /// Leaves the first `count` places.
+    /// Keeps the first `count` positions only.
     pub(crate) fn truncate(&mut self, count: usize)
         ensures { self.new ≡ take count self.old }
     {
         self.items.truncate(count);
     }
 
-    /// Leaves the places of open versions.
+    /// Removes the positions of closed versions.
     pub(crate) fn drop_closed(&mut self, versions: &StoredVersions)
         ensures { self.new ≡ filter (passes versions.now is_open) self.old }
     {
@@ -92,7 +91,7 @@ impl Places {
     }
 }
 
-/// Adds `count` places from `first` on. On refusal there are none more.
+/// Adds `count` positions from `first` on. If memory is refused, the list is unchanged.
 fn push_places(places: &mut Vec<u32>, first: usize, count: usize) -> Result<(), NoMemory>
     requires { first + count ≤ version_limit }
     ensures ok { OnOk result (places.new.items ≡ places.old.items ++ range_with_len first count) }
@@ -108,14 +107,14 @@ fn push_places(places: &mut Vec<u32>, first: usize, count: usize) -> Result<(), 
     Ok(())
 }
 
-/// Leaves the places of open versions.
+/// Removes the positions of closed versions.
 fn drop_closed(places: &mut Vec<u32>, versions: &StoredVersions)
     ensures { places.new.items ≡ filter (passes versions.now is_open) places.old.items }
 {
     places.retain(|place| is_open_at(versions, *place));
 }
 
-/// Whether an open version has that place.
+/// Returns whether the version at the given position is open.
 fn is_open_at(versions: &StoredVersions, place: u32) -> bool
     ensures { result ≡ passes versions.now is_open place }
 {

@@ -1,4 +1,4 @@
-//! What a change of a portion does to versions, worked out before it is done.
+//! What a change of a portion does to versions, computed before anything is changed.
 
 ghost use Rattle.std.specs.Prelude.{◌≡◌, ◌≤◌, ◌<◌, ◌++◌, [], length, filter, All, IfOk, OnOk};
 ghost use Rattle.version_core.specs.Finding.{AreCandidates, passes};
@@ -16,31 +16,30 @@ use row_core::NoMemory;
 use std::alloc::Global;
 use table_core::RowRef;
 
-/// What a change of a portion does to versions: what comes in the place of the rows that it takes out,
-/// and the places of these.
+/// What a change of a portion does to versions: the rows that replace removed ones, and the positions of the removed
+/// ones.
 #[derive(Drop)]
 pub(crate) struct Plan {
     pub parts: Drafts,
     pub taken: Vec<u32>,
 }
 
-/// Among so many versions of a table a small change adds or closes one.
+/// A small change adds or closes at most one version for this many versions of the table.
 const VERSIONS_FOR_ONE: usize = 8;
 
-/// Whether a change is small beside that many versions of its table. The key of a small one is tested by
-/// the index, and its versions are added there and taken out, each in a time that grows as the logarithm
-/// of the open ones. A larger one is done sooner where all open rows are put in order, and no index is
-/// kept; and it costs so much itself that the index may be made anew behind it.
+/// Returns whether a change is small compared with the table. The key of a small change is tested by the key index,
+/// which is then updated, in time logarithmic in the number of open versions for each row. For a larger change it is
+/// faster to sort all open rows and keep no index; it costs so much itself that the index can be rebuilt later.
 pub(crate) fn is_small(new: &Drafts, taken: &[u32], versions: usize) -> bool {
     new.len().saturating_add(taken.len()) <= versions / VERSIONS_FOR_ONE
 }
 
-/// How many places a change looks at before it branches. For most blocks of so many rows one branch shows
-/// that the change reaches none; of the few that it reaches, it goes over more rows the larger they are.
+/// How many rows are tested for overlap before a branch. In most blocks the portion reaches no row, which one branch
+/// shows; in a larger block that it does reach, more rows must be examined.
 const BLOCK: usize = 32;
 
-/// Works out a change without making it, so that a refusal leaves all as it was. Only blocks of places are
-/// looked into where its portion reaches a row.
+/// Computes what the change does, without changing anything, so that a refusal leaves the versions unchanged. Only
+/// blocks with a row that overlaps the portion are examined.
 pub(crate) fn plan_change(
     alloc: Global,
     change: &RowsChange<'_>,
@@ -56,7 +55,7 @@ pub(crate) fn plan_change(
     }
 }
 
-/// Works out a change of a portion.
+/// Computes what a change of a portion does.
 fn plan_portion(
     alloc: Global,
     change: &PortionChange<'_>,
@@ -78,7 +77,7 @@ fn plan_portion(
 }
 
 impl Plan {
-    /// The plan that takes out no row.
+    /// Returns the plan that removes no row.
     fn empty(alloc: Global) -> Self
         ensures parts { result.parts ≡ [] }
         ensures taken { result.taken.items ≡ [] }
@@ -90,7 +89,7 @@ impl Plan {
     }
 }
 
-/// Adds to the plan what the change does at those places.
+/// Adds to the plan what the change does at those positions.
 fn plan_block(
     alloc: Global,
     plan: &mut Plan,
@@ -117,7 +116,7 @@ fn plan_block(
     Ok(())
 }
 
-/// How many rows come in the place of those that the change takes out.
+/// Returns how many rows replace the rows that the change removes.
 pub(crate) fn count_parts(
     change: &PortionChange<'_>,
     versions: &StoredVersions,

@@ -1,4 +1,4 @@
-//! Versions of a table whose rows a list shares with it.
+//! Lists that share the rows of a table's versions.
 
 ghost use Rattle.std.specs.Prelude.{◌≡◌, ◌<◌, All, Some, length, map, slice_get, IfOk};
 ghost use Rattle.table_core.specs.Places.{at_places};
@@ -14,8 +14,8 @@ use std::alloc::Global;
 use std::marker::Model;
 use table_core::{RowRef, SharedRows};
 
-/// Versions of a table, by rising id, whose rows no list copies: it shares them, and has beside each the
-/// commits that show it. Contracts see the list.
+/// Versions of a table, by rising id. The list shares the rows with the table, and has its own system periods.
+/// Contracts see the list.
 #[derive(Drop)]
 pub struct SharedVersions {
     rows: SharedRows,
@@ -35,7 +35,7 @@ impl Model for SharedVersions {
 }
 
 impl SharedVersions {
-    /// The versions of the rows at those places, each with what stands beside it.
+    /// Returns the versions of the rows at those positions, with these system periods.
     pub(crate) fn at_places(
         versions: &StoredVersions,
         places: Vec<u32>,
@@ -52,14 +52,14 @@ impl SharedVersions {
         })
     }
 
-    /// How many there are.
+    /// Returns the number of versions.
     pub fn len(&self) -> usize
         ensures { result ≡ length self.now }
     {
         self.system_periods.len()
     }
 
-    /// The version at that place, from 0.
+    /// Returns the version at the given index.
     pub fn at(&self, place: usize) -> VersionRef<'_>
         requires { place < length self.now }
         ensures { slice_get self.now place ≡ Some (lent_version result) }
@@ -70,7 +70,7 @@ impl SharedVersions {
         }
     }
 
-    /// A copy of the version at that place.
+    /// Returns a copy of the version at the given index.
     fn copy_at(&self, alloc: Global, place: usize) -> Result<Version, NoMemory>
         requires { place < length self.now }
         ensures { IfOk result (λ version. slice_get self.now place ≡ Some version) }
@@ -84,11 +84,11 @@ impl SharedVersions {
         })
     }
 
-    /// A list of them, which are copied.
+    /// Returns copies of the versions.
     ///
     /// # Errors
     ///
-    /// `NoMemory` where a growth is refused.
+    /// `NoMemory` if an allocation is refused.
     pub fn list(&self, alloc: Global) -> Result<VersionList, NoMemory>
         ensures { IfOk result (λ list. list ≡ self.now) }
     {

@@ -1,4 +1,4 @@
-//! The versions of a table as they are kept: their rows, and beside each the commits that show it.
+//! The versions of a table as they are stored: rows and system periods.
 
 ghost use Rattle.std.specs.Prelude.{◌≡◌, ◌<◌, ◌++◌, [], All, length, map, option_map, replicate, slice_get, IfOk, OnErr, OnOk, None, Some};
 ghost use Rattle.table_core.specs.Numbered.{numbered};
@@ -17,8 +17,7 @@ use std::alloc::Global;
 use std::marker::Model;
 use table_core::{SharedRows, TableRows};
 
-/// The versions of a table, whose rows a list of all of them shares. Contracts see the list of
-/// versions.
+/// The versions of a table. A list of all versions shares their rows. Contracts see the list of versions.
 #[derive(Drop)]
 pub(crate) struct StoredVersions {
     rows: TableRows,
@@ -38,7 +37,7 @@ impl Model for StoredVersions {
 }
 
 impl StoredVersions {
-    /// No versions.
+    /// Returns an empty list of versions.
     pub(crate) fn new(alloc: Global) -> Result<Self, NoMemory>
         ensures { IfOk result (λ versions. versions ≡ []) }
     {
@@ -48,7 +47,7 @@ impl StoredVersions {
         })
     }
 
-    /// The same versions, whose rows are not copied.
+    /// Returns the same versions, without copying their rows.
     pub(crate) fn copy(&self, alloc: Global) -> Result<StoredVersions, NoMemory>
         ensures { IfOk result (λ versions. versions ≡ self.now) }
     {
@@ -58,14 +57,14 @@ impl StoredVersions {
         })
     }
 
-    /// How many there are.
+    /// Returns the number of versions.
     pub(crate) fn len(&self) -> usize
         ensures { result ≡ length self.now }
     {
         self.system_periods.len()
     }
 
-    /// The version at that place.
+    /// Returns the version at the given position.
     pub(crate) fn at(&self, place: usize) -> VersionRef<'_>
         requires { place < length self.now }
         ensures { slice_get self.now place ≡ Some (lent_version result) }
@@ -76,7 +75,7 @@ impl StoredVersions {
         }
     }
 
-    /// The version at that place; none past the last.
+    /// Returns the version at the given position, or `None` past the last.
     pub(crate) fn get(&self, place: usize) -> Option<VersionRef<'_>>
         ensures { option_map lent_version result ≡ slice_get self.now place }
     {
@@ -89,8 +88,8 @@ impl StoredVersions {
         }
     }
 
-    /// The rows without their ids, and at the same places the commits that show each, so that a pass over
-    /// many fetches either list once.
+    /// Returns the rows without their ids, and their system periods at the same positions, so that a pass over many
+    /// versions borrows each list once.
     #[inline(always)]
     pub(crate) fn rows_and_system_periods(&self) -> (&Drafts, &[SystemPeriod])
         ensures versions { versions_of (numbered 0 result.0.now) result.1.now ≡ self.now }
@@ -100,14 +99,14 @@ impl StoredVersions {
         (self.rows.drafts(), &self.system_periods)
     }
 
-    /// All rows, which are not copied.
+    /// Returns all rows, without copying them.
     pub(crate) fn rows(&self) -> Result<SharedRows, NoMemory>
         ensures { IfOk result (λ rows. rows ≡ map (λ v. v.row) self.now) }
     {
         self.rows.all()
     }
 
-    /// The rows at those places, which are not copied.
+    /// Returns the rows at those positions, without copying them.
     pub(crate) fn at_places(&self, places: Vec<u32>) -> Result<SharedRows, NoMemory>
         requires { All (λ place. place < length self.now) places.items }
         ensures { IfOk result (λ rows. rows ≡ at_places places.items (map (λ v. v.row) self.now)) }
@@ -115,7 +114,7 @@ impl StoredVersions {
         self.rows.at_places(places)
     }
 
-    /// Adds the versions of rows that a commit makes. On refusal there are none more.
+    /// Adds versions of rows that a commit creates. If memory is refused, the versions are unchanged.
     pub(crate) fn append(
         &mut self,
         alloc: Global,
@@ -135,7 +134,7 @@ impl StoredVersions {
         Ok(())
     }
 
-    /// Ends the version at that place with the commit.
+    /// Ends the system period of the version at the given position with the commit.
     pub(crate) fn close(&mut self, place: usize, commit: CommitNumber)
         requires { place < length self.old }
         ensures closed { self.new ≡ closed_at commit self.old place }
@@ -145,7 +144,7 @@ impl StoredVersions {
     }
 }
 
-/// Adds what stands beside so many rows that a commit makes. On refusal there is none more.
+/// Adds the system periods of `count` rows that a commit creates. If memory is refused, the list is unchanged.
 fn push_system_periods(
     system_periods: &mut Vec<SystemPeriod>,
     count: usize,

@@ -1,4 +1,4 @@
-//! The commits that show a version, as they are kept.
+//! System periods as they are stored.
 
 ghost use Rattle.std.specs.Prelude.{◌≡◌, is_none, Some, None};
 ghost use Rattle.version_core.specs.Shown.{end_at};
@@ -7,9 +7,9 @@ use crate::commit_number::CommitNumber;
 use std::marker::Model;
 use std::mem::size_of;
 
-/// The commits that show a version: those from one on, and before another where one has closed it. They
-/// take 8 bytes, as there is one for each version: no commit has the number 0, which says here that none
-/// has closed it. Contracts see both ends.
+/// The system period of a version: the commits from one on, and before another if a commit has closed the version. Each
+/// version has one, so it takes only 8 bytes: 0, which is no commit's number, means that the version is open. Contracts
+/// see both ends.
 #[derive(Clone, Copy)]
 pub(crate) struct SystemPeriod {
     from: u32,
@@ -30,7 +30,7 @@ impl Model for SystemPeriod {
 }
 
 impl SystemPeriod {
-    /// That of a version which the commit makes.
+    /// Returns the system period of a version that the commit creates.
     pub(crate) fn since(commit: CommitNumber) -> Self
         ensures { result ≡ record { from = commit; to = None } }
     {
@@ -40,21 +40,21 @@ impl SystemPeriod {
         }
     }
 
-    /// The first commit that shows it.
+    /// Returns the first commit.
     pub(crate) fn from(&self) -> u32
         ensures { result ≡ self.now.from }
     {
         self.from
     }
 
-    /// The commit that closed it; none where it is open.
+    /// Returns the commit that closed the version, or `None` if it is open.
     pub(crate) fn to(&self) -> Option<u32>
         ensures { result ≡ self.now.to }
     {
         if self.to == 0 { None } else { Some(self.to) }
     }
 
-    /// The same as the first `at` commits know it: an end past them is open.
+    /// Returns the system period as of commit `at`: a later end counts as open.
     pub(crate) fn as_of(&self, at: u64) -> SystemPeriod
         ensures { result ≡ record { from = self.now.from; to = end_at at self.now.to } }
     {
@@ -68,7 +68,7 @@ impl SystemPeriod {
         }
     }
 
-    /// Whether no commit has closed it.
+    /// Returns whether no commit has closed the version.
     #[inline(always)]
     pub(crate) fn is_open(&self) -> bool
         ensures { result ≡ is_none self.now.to }
@@ -76,7 +76,7 @@ impl SystemPeriod {
         self.to == 0
     }
 
-    /// Ends it with the commit.
+    /// Ends the system period with the commit.
     pub(crate) fn close(&mut self, commit: CommitNumber)
         ensures { self.new ≡ record { from = self.old.from; to = Some commit } }
     {

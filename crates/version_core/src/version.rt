@@ -1,4 +1,4 @@
-//! Versions of rows, and those that a commit or a range of commits shows.
+//! Versions of rows, and which versions are visible as of a commit or a range of commits.
 
 ghost use Rattle.std.specs.Prelude.{◌≡◌, ◌<◌, ◌&&◌, ◌==◌, All, IfOk, count_by, filter, length, map, nat_le};
 ghost use Rattle.period_core.specs.Period.{holds_at};
@@ -17,8 +17,8 @@ use row_core::{NoMemory, Row};
 use std::alloc::Global;
 use table_core::{RowRef, SharedRows, as_place};
 
-/// A row with its system period: the commits from `sysfrom` on and before `systo` show it, or all
-/// from `sysfrom` on where the end is open.
+/// A row with its system period: the commits from `sysfrom` on and before `systo`, or all from `sysfrom` on if the end
+/// is open.
 #[derive(Debug, Drop)]
 pub struct Version {
     pub row: Row,
@@ -26,14 +26,14 @@ pub struct Version {
     pub systo: Option<u64>,
 }
 
-/// Whether commit n shows a version.
+/// Returns whether a version is visible as of commit `n`.
 fn is_shown(system_period: &SystemPeriod, n: u64) -> bool
     ensures { result ≡ (nat_le system_period.now.from n && is_behind system_period.now.to n) }
 {
     system_period.from() as u64 <= n && system_period.to().is_none_or(|to| n < to as u64)
 }
 
-/// The rows that commit n shows, which are not copied.
+/// Returns the rows visible as of commit `n`, without copying them.
 pub(crate) fn rows_shown(
     alloc: Global,
     versions: &StoredVersions,
@@ -50,7 +50,7 @@ pub(crate) fn rows_shown(
     }
 }
 
-/// How many versions commit n shows.
+/// Returns how many versions are visible as of commit `n`.
 fn count_shown(system_periods: &[SystemPeriod], n: u64) -> usize
     ensures { result ≡ count_by (λ system_period. nat_le system_period.from n
         && is_behind system_period.to n) system_periods.now }
@@ -61,7 +61,7 @@ fn count_shown(system_periods: &[SystemPeriod], n: u64) -> usize
         .count()
 }
 
-/// The rows that commit n shows and that hold at the point, which are not copied.
+/// Returns the rows visible as of commit `n` that hold at the point, without copying them.
 pub(crate) fn rows_holding(
     alloc: Global,
     versions: &StoredVersions,
@@ -74,8 +74,8 @@ pub(crate) fn rows_holding(
     versions.at_places(places_shown(alloc, versions, n, Some(point), 0)?)
 }
 
-/// The places of the rows that commit n shows, where a point is given of those that hold at it. There is
-/// room for so many, so that no memory is asked for again as they grow to them.
+/// Returns the positions of the rows visible as of commit `n`; with a point, only rows that hold at it. Capacity for
+/// `room` positions is reserved in advance.
 fn places_shown(
     alloc: Global,
     versions: &StoredVersions,
@@ -103,7 +103,7 @@ fn places_shown(
     Ok(places)
 }
 
-/// Whether commit n shows the version, and its row holds at the point, if one is given.
+/// Returns whether the version is visible as of commit `n`, and its row holds at the point, if one is given.
 fn is_listed(row: RowRef<'_>, system_period: &SystemPeriod, n: u64, point: Option<Point>) -> bool
     ensures { result ≡ (shows n (version_of (lent_row row.entry) system_period.now)
         && holds_where point (lent_row row.entry)) }
@@ -111,7 +111,7 @@ fn is_listed(row: RowRef<'_>, system_period: &SystemPeriod, n: u64, point: Optio
     holds_where(row.period(), point) && is_shown(system_period, n)
 }
 
-/// Whether the period holds the point, if one is given.
+/// Returns whether the period contains the point, if one is given.
 fn holds_where(period: Period, point: Option<Point>) -> bool
     ensures { (row : Row) → row.period ≡ period → result ≡ holds_where point row }
 {
@@ -124,8 +124,8 @@ fn holds_where(period: Period, point: Option<Point>) -> bool
 /// Versions of one table, by rising id.
 pub type VersionList = List<Version>;
 
-/// The versions of the first `at` commits that begin up to `last` and are not over by `m`, whose rows are
-/// not copied.
+/// Returns the versions, as of commit `at`, whose system periods start at `last` or before and end after `m`, without
+/// copying their rows.
 pub(crate) fn versions_seen(
     alloc: Global,
     versions: &StoredVersions,
@@ -148,7 +148,7 @@ pub(crate) fn versions_seen(
     SharedVersions::at_places(versions, places, seen)
 }
 
-/// Whether commits show a version that begins up to `at` and up to `last`, and is not over by m.
+/// Returns whether a system period starts at `at` or before and at `last` or before, and ends after `m`.
 fn is_seen(system_period: &SystemPeriod, at: u64, m: u64, last: u64) -> bool
     ensures { result ≡ (nat_le system_period.now.from at
         && (nat_le system_period.now.from last && is_behind system_period.now.to m)) }

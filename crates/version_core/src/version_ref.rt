@@ -1,11 +1,11 @@
-//! A version where it is kept.
+//! Borrowed versions.
 
 ghost use Rattle.std.specs.Prelude.{◌≡◌};
 
 use crate::system_period::SystemPeriod;
 use table_core::RowRef;
 
-/// A version of a table, lent by a list of versions.
+/// A version of a table, borrowed from a list of versions.
 #[derive(Clone, Copy)]
 pub struct VersionRef<'a> {
     pub(crate) row: RowRef<'a>,
@@ -16,21 +16,21 @@ impl<'a> VersionRef<'a> {
     ghost use Rattle.table_core.specs.Lent.{lent_row};
     ghost use Rattle.version_core.specs.Lent.{lent_version};
 
-    /// Its row.
+    /// Returns the version's row.
     pub fn row(&self) -> RowRef<'a>
         ensures { lent_row result ≡ (lent_version self.now).row }
     {
         self.row
     }
 
-    /// The first commit that shows it.
+    /// Returns the first commit of the system period.
     pub fn sysfrom(&self) -> u64
         ensures { result ≡ (lent_version self.now).sysfrom }
     {
         self.system_period.from() as u64
     }
 
-    /// The commit that closed it; none where it is open.
+    /// Returns the commit that closed the version, or `None` if it is open.
     pub fn systo(&self) -> Option<u64>
         ensures { result ≡ (lent_version self.now).systo }
     {

@@ -1,4 +1,4 @@
-//! All versions of a table, with the places of the open ones.
+//! All versions of a table, and the positions of the open ones.
 
 ghost use Rattle.std.specs.Prelude.{◌≡◌, ◌≢◌, ◌+◌, ◌≤◌, ◌<◌, ◌++◌, List, [], true, false, length, map, filter, fold, take, count_by, All, IfOk, IfErr, IfSome, OnErr, OnOk, slice_get};
 ghost use Rattle.std.specs.List.{list_any, range_with_len};
@@ -44,24 +44,24 @@ use table_core::SharedRows;
 /// The most versions of a table.
 pub const VERSION_LIMIT: usize = 1_000_000;
 
-/// How many versions a commit makes and closes.
+/// How many versions a commit adds and closes.
 #[derive(Clone, Copy)]
 pub struct VersionCounts {
     pub added: u64,
     pub closed: u64,
 }
 
-/// All versions of a table's rows: the one at place i has the id i + 1. Contracts see the list.
+/// All versions of a table's rows: the version at index `i` has the id `i + 1`. Contracts see the list.
 #[derive(Drop)]
 pub struct Versions {
     items: StoredVersions,
-    /// The places of the open ones, and of closed ones that a change has not come across.
+    /// The positions of the open versions, and of closed ones that haven't been removed yet.
     open_at: Places,
-    /// How many were closed since those places were only of open ones.
+    /// How many versions were closed since `open_at` last had open ones only.
     closed: usize,
-    /// What finds open ones by their values. Without them a change goes over all open ones.
+    /// Indexes that find open versions by their values. Without one, a change examines all open versions.
     indexes: Vec<Index>,
-    /// What finds open ones of a key by their time. Without it all open ones are put in order.
+    /// The index that finds open versions by key and start. Without it, all open rows are sorted.
     key_index: Option<KeyIndex>,
 }
 
@@ -78,7 +78,7 @@ impl Model for Versions {
 }
 
 impl DeepCopy for Versions {
-    /// Without the indexes, which the copy makes anew where it needs them.
+    /// Copies all except the indexes, which the copy rebuilds if it needs them.
     fn copy(&self, alloc: Global) -> Result<Versions, NoMemory> {
         Ok(Versions {
             items: self.items.copy(alloc)?,
@@ -91,7 +91,7 @@ impl DeepCopy for Versions {
 }
 
 impl Versions {
-    /// The empty list.
+    /// Returns the empty list.
     pub fn new(alloc: Global) -> Result<Self, NoMemory>
         ensures { IfOk result (λ versions. versions ≡ []) }
     {
@@ -104,22 +104,22 @@ impl Versions {
         })
     }
 
-    /// How many there are.
+    /// Returns the number of versions.
     pub fn len(&self) -> usize
         ensures { result ≡ length self.now }
     {
         self.items.len()
     }
 
-    /// The rows that commit n shows, by rising id, which are not copied.
+    /// Returns the rows visible as of commit `n`, by rising id, without copying them.
     pub fn rows_shown(&self, alloc: Global, n: u64) -> Result<SharedRows, NoMemory>
         ensures { IfOk result (λ rows. rows ≡ shown n self.now) }
     {
         rows_shown(alloc, &self.items, n)
     }
 
-    /// The versions of the first `at` commits that begin up to `last` and are not over by `m`, whose rows
-    /// are not copied.
+    /// Returns the versions, as of commit `at`, whose system periods start at `last` or before and end after `m`,
+    /// without copying their rows.
     pub fn versions_seen(
         &self,
         alloc: Global,
@@ -132,7 +132,7 @@ impl Versions {
         versions_seen(alloc, &self.items, at, m, last)
     }
 
-    /// The rows that commit n shows and that hold at the point, which are not copied.
+    /// Returns the rows visible as of commit `n` that hold at the point, without copying them.
     pub fn rows_holding(&self, alloc: Global, n: u64, point: Point) -> Result<SharedRows, NoMemory>
         ensures { IfOk result (λ rows. rows
             ≡ filter (λ (row : AnyRow). holds_at point row.period) (shown n self.now)) }
@@ -140,7 +140,7 @@ impl Versions {
         rows_holding(alloc, &self.items, n, point)
     }
 
-    /// How many rows a change can put in the place of those that it takes out: three of each.
+    /// Returns an upper bound on the number of rows that replace removed ones: three for each position in `open_at`.
     pub fn most_parts(&self) -> usize
         requires { length self.now ≤ version_limit }
         ensures { (change : AnyPortionChange)
@@ -149,7 +149,7 @@ impl Versions {
         3 * self.open_at.len()
     }
 
-    /// How many rows come in the place of those that the change takes out.
+    /// Returns how many rows replace the rows that the change removes.
     pub fn count_parts(&self, change: &PortionChange<'_>) -> usize
         requires { length self.now ≤ version_limit }
         ensures { result ≡ length (parts_of_all (Portion change.now) (current self.now)) }
@@ -159,8 +159,12 @@ impl Versions {
         count_parts(change, &self.items, places)
     }
 
-    /// Closes the versions whose rows the change takes out, and adds those that it makes, unless rows of
-    /// one key would share an instant. After a refusal they are as before. A load's rows are taken out of it.
+    /// Closes the versions of the rows that the change removes, and adds versions of its new rows. A load's rows are
+    /// taken out of the change.
+    ///
+    /// # Errors
+    ///
+    /// `KeyOverlap` if rows with the same key would overlap, or `NoMemory`. The versions are then unchanged.
     pub fn apply(
         &mut self,
         alloc: Global,
@@ -184,7 +188,7 @@ impl Versions {
         Ok(self.carry_out(alloc, commit, change, plan)?)
     }
 
-    /// Works out the change, unless it would leave an overlap. Indexes are made that help to find rows.
+    /// Computes what the change does, or returns `KeyOverlap`. Indexes that help to find rows are built.
     fn plan(
         &mut self,
         alloc: Global,
@@ -209,7 +213,7 @@ impl Versions {
         Ok(plan)
     }
 
-    /// Where the rows are that the change takes out. Indexes are made that help to find them.
+    /// Returns the lookup for the rows that the change removes. Indexes that help to find them are built.
     fn look_up(&mut self, alloc: Global, change: &RowsChange<'_>) -> Option<Lookup>
         requires { length self.old ≤ version_limit }
         ensures same { self.new ≡ self.old }
@@ -221,8 +225,8 @@ impl Versions {
         lookup_of(&self.indexes, change)
     }
 
-    /// Drops places of closed versions where a change with that lookup looks: in its bucket, or, where many
-    /// are closed, in the list of all and in the indexes.
+    /// Removes the positions of closed versions that a change with that lookup would examine: those in its bucket.
+    /// Without a lookup, the list of open versions and all indexes are swept, if many versions were closed.
     fn drop_closed(&mut self, lookup: Option<Lookup>)
         requires { IfSome lookup (λ lookup. lookup.bucket < bucket_count) }
         ensures { self.new ≡ self.old }
@@ -239,7 +243,7 @@ impl Versions {
         }
     }
 
-    /// Works out the change by the places where the lookup finds rows.
+    /// Computes what the change does, from the positions that the lookup finds.
     fn find_rows(
         &self,
         alloc: Global,
@@ -254,7 +258,7 @@ impl Versions {
         plan_change(alloc, change, &self.items, places)
     }
 
-    /// Makes the index of the key where it helps to test the plan, and drops it where that isn't small.
+    /// Builds the key index if it helps to test the plan, and drops it if the plan isn't small.
     fn prepare_key_index(
         &mut self,
         alloc: Global,
@@ -272,7 +276,7 @@ impl Versions {
         }
     }
 
-    /// Carries out the change as it was planned.
+    /// Carries out the change as planned.
     fn carry_out(
         &mut self,
         alloc: Global,
@@ -309,7 +313,7 @@ impl Versions {
         Ok(counts)
     }
 
-    /// Whether of the rows that the change leaves and the new ones two of one key share an instant.
+    /// Returns whether two of the rows that the change keeps and the new ones have the same key and overlap.
     fn leaves_overlap(
         &self,
         alloc: Global,
@@ -330,8 +334,8 @@ impl Versions {
         }
     }
 
-    /// Whether one of the new rows collides with another, or with a row that the change leaves. Of
-    /// these only the rows are looked at that the index of the key leads to, where it is there.
+    /// Returns whether a new row collides with another new row, or with a row that the change keeps. With a key index,
+    /// only the kept rows that it finds are examined.
     fn find_overlap(
         &self,
         alloc: Global,
@@ -355,7 +359,7 @@ impl Versions {
         }
     }
 
-    /// Whether a new row collides with one that the change leaves.
+    /// Returns whether a new row collides with a row that the change keeps.
     fn any_meets(&self, change: &RowsChange<'_>, index: &KeyIndex, new: &Drafts) -> bool
         requires index { IsKeyIndex self.now index.now }
         requires unbroken { have_collision index.now.columns.items
@@ -373,8 +377,8 @@ impl Versions {
     }
 }
 
-/// Adds the versions from that place on to all indexes. Those at the places, which are closed, stay in
-/// the indexes by a column, until a change comes across them.
+/// Adds the versions from position `from` on to all indexes. The versions at the positions `taken`, which are closed,
+/// remain in the column indexes until a later change removes them.
 fn keep_indexes(
     indexes: &mut Vec<Index>,
     key_index: &mut Option<KeyIndex>,
@@ -393,8 +397,8 @@ fn keep_indexes(
     keep_key_index(key_index, versions, from, taken);
 }
 
-/// Adds the versions from that place on to the index of the key, and takes out those at the places
-/// that are closed. Where memory is refused there is none.
+/// Adds the versions from position `from` on to the key index, and removes the closed ones at the positions `taken`. If
+/// memory is refused, the index is dropped.
 fn keep_key_index(
     key_index: &mut Option<KeyIndex>,
     versions: &StoredVersions,
@@ -414,7 +418,7 @@ fn keep_key_index(
     }
 }
 
-/// Adds the versions of rows that a commit makes, and their places. On refusal there are none more.
+/// Adds versions of rows that a commit creates, and their positions. If memory is refused, nothing is changed.
 fn add_versions(
     alloc: Global,
     versions: &mut StoredVersions,
@@ -439,7 +443,7 @@ fn add_versions(
     Ok(())
 }
 
-/// Ends the versions at those places with the commit.
+/// Ends the system periods of the versions at those positions with the commit.
 fn close_all(versions: &mut StoredVersions, places: &[u32], commit: CommitNumber)
     requires { All (λ place. place < length versions.old) places.now }
     ensures { versions.new ≡ fold (closed_at commit) versions.old places.now }

@@ -1,4 +1,4 @@
--- What a parse of the program's words gives.
+-- The result of parsing the program's words.
 use Rattle.std.proofs.Common.{Bool, drop, cond, ◌≡◌, ◌<◌, ◌==◌, ◌^◌, ℕ, [], ◌∷◌, true, false, refl, arith, rules, ap, ◌∙◌, subst, List, Result, Ok, Err, Some, IfOk, ◌⊎◌, codes, inl, inr, sym}
 use Rattle.std.specs.Fmt.{decimal}
 use Rattle.std.specs.Str.Parse.{AllDigits, IsNumeral, digits_value, without_leading_plus}
@@ -19,14 +19,14 @@ use Rattle.words_core.specs.declared.words.Words.{Words}
 use Rattle.words_core.specs.declared.words.Words.TheVariants.{Run, Help}
 use Rattle.words_core.specs.declared.refused.WordsRefused.{WordsRefused}
 
--- the exact clauses of `clap` hold of the program's command line
+-- The clauses of `clap` that are exact apply to the program's command line.
 program-simple : is_simple program_app ≡ true
 program-simple = refl
 
 program-free : is_simple_and_free program_app ≡ true
 program-free = refl
 
--- the name alone is taken, with the default
+-- The program's name without further words is accepted, with the default.
 pub alone-value : (name : Text) → first_of (codes "workers") (matches_of program_app (name ∷ [])) ≡ Some (codes "4")
 unfolding clap_on_literals
 alone-value name = refl
@@ -35,13 +35,13 @@ pub alone-taken : (name : Text) → takes program_app (name ∷ []) ≡ true
 unfolding clap_on_literals
 alone-taken name = refl
 
--- `--workers` and that text are taken, and the text is the value
+-- `--workers` and this text are accepted, and the text is the value.
 abbrev pub IsMet : Text → Text → Type 0
 IsMet name text =
     (first_of (codes "workers") (matches_of program_app (name ∷ codes "--workers" ∷ text ∷ [])) ≡ Some text)
     × (takes program_app (name ∷ codes "--workers" ∷ text ∷ []) ≡ true)
 
--- what doesn't begin with a hyphen is taken for the value; the first byte is compared at two depths
+-- A word that doesn't begin with a hyphen is the option's value. Its first byte is compared at two depths.
 pub plain-met : (name text : Text) → IsPlainWord text → IsMet name text
 unfolding clap_on_literals
 plain-met name [] plain = (refl, refl)
@@ -49,7 +49,7 @@ plain-met name (c ∷ rest) plain =
     let other : (c == 45) ≡ false = ne_eqb c 45 plain in
     rw other (rw other (refl {a = Some (c ∷ rest)}, refl {a = true}))
 
--- a word that doesn't begin with a hyphen is unknown
+-- A word that doesn't begin with a hyphen is unknown.
 pub plain-unknown : (name word : Text) → IsPlainWord word
     → fault_of program_app (name ∷ word ∷ []) ≡ kind.UnknownArgument ∷ []
 unfolding clap_on_literals
@@ -58,12 +58,12 @@ plain-unknown name (c ∷ rest) plain =
     let other : (c == 45) ≡ false = ne_eqb c 45 plain in
     rw other (rw other (refl {a = kind.UnknownArgument ∷ []}))
 
--- a call for help is reported as a fault
+-- A request for help is reported as a fault.
 pub help-asked : (name : Text) → fault_of program_app (name ∷ codes "--help" ∷ []) ≡ kind.DisplayHelp ∷ []
 unfolding clap_on_literals
 help-asked name = refl
 
--- digits begin with no hyphen
+-- Digits don't begin with a hyphen.
 digits-IsPlainWord : (text : Text) → AllDigits 10 text → IsPlainWord text
 digits-IsPlainWord [] digits = search rules
 digits-IsPlainWord (c ∷ rest) digits = λ is.
@@ -73,7 +73,7 @@ digits-IsPlainWord (c ∷ rest) digits = λ is.
 pub decimal-IsPlainWord : (n : ℕ) → n < 2 ^ 64 → IsPlainWord (decimal n)
 decimal-IsPlainWord n small = digits-IsPlainWord (decimal n) (decimal_is_IsNumeral n small).0.1
 
--- a number in decimal gives itself
+-- Decimal digits have no plus before them.
 digits-without_leading_plus : (text : Text) → AllDigits 10 text → without_leading_plus text ≡ text
 digits-without_leading_plus [] digits = refl
 digits-without_leading_plus (c ∷ rest) digits =
@@ -88,7 +88,7 @@ decimal-NamesWorkers n workers =
     subst (λ (ds : Text). IsNumeral 10 ds × (digits_value 10 ds ≡ n) × IsWorkers n)
     (sym (digits-without_leading_plus (decimal n) numeral.1)) (numeral, value, workers)
 
--- the first value of an option in the matches is that of the program's command line and those words
+-- The first value of the option is the one that `clap` defines for the program's command line and these words.
 pub value-matches : (m : ArgMatches) (a : App) (words : List Text) → a ≡ program_app → HasMatchesOf a words m
     → first_value (found_of m) (codes "workers") ≡ first_of (codes "workers") (matches_of program_app words)
 value-matches m a words app matches =
@@ -103,7 +103,7 @@ known_value m a words seen text app is matches value =
     value-matches m a words app matches
     ∙ ap (λ (ws : List Text). first_of (codes "workers") (matches_of program_app ws)) is ∙ value
 
--- a parse fails by the faults of the program's command line and those words
+-- A parse fails by the faults of the program's command line for these words.
 pub faults : {T : Type 0} (r : Result T Error) (a : App) (words : List Text) → a ≡ program_app
     → (is_simple_and_free a ≡ true → FailsBy (fault_of a words) r) → FailsBy (fault_of program_app words) r
 faults r a words app kinds =
@@ -115,7 +115,7 @@ pub known_faults : {T : Type 0} (r : Result T Error) (a : App) (words seen : Lis
 known_faults r a words seen k app is fault kinds =
     subst (λ ks. FailsBy ks r) (ap (fault_of program_app) is ∙ fault) (faults r a words app kinds)
 
--- an error is for want of memory, or of one of the kinds
+-- An error means that memory was refused, or is one of the faults.
 pub error-kinds : {T : Type 0} (r : Result T Error) (e : Error) (ks : Kinds) → r ≡ Err e → FailsBy ks r
     → (kind_of e ≡ kind.OutOfMemory) ⊎ IsAmong (kind_of e) ks
 error-kinds {T} r e ks is fails = subst (λ (r : Result T Error). FailsBy ks r) is fails
@@ -127,7 +127,7 @@ error-kind {T} r e k is fails = elim (error-kinds r e (k ∷ []) is fails) [
   | inr among ↦ elim among [ inl same ↦ inr same | inr none ↦ absurd none ]
 ]
 
--- without a fault, an error is for want of memory
+-- Without a fault, an error means that memory was refused.
 pub no_faults-error : {T : Type 0} (r : Result T Error) (e : Error) (ks : Kinds) → r ≡ Err e → FailsBy ks r → ks ≡ []
     → kind_of e ≡ kind.OutOfMemory
 no_faults-error r e ks is fails none = elim (error-kinds r e ks is fails) [
@@ -137,14 +137,14 @@ no_faults-error r e ks is fails none = elim (error-kinds r e ks is fails) [
       absurd never
 ]
 
--- a parse succeeds only where there is no fault
+-- A parse succeeds only without faults.
 pub no_faults : {T : Type 0} (r : Result T Error) (m : T) (ks : Kinds) → r ≡ Ok m → FailsBy ks r → ks ≡ []
 no_faults {T} r m ks is fails = subst (λ (r : Result T Error). FailsBy ks r) is fails
 
 pub no_parse : {T : Type 0} (r : Result T Error) (m : T) (k : ErrorKind) → r ≡ Ok m → FailsBy (k ∷ []) r → ⊥
 no_parse r m k is fails = let none : k ∷ [] ≡ [] = no_faults r m (k ∷ []) is fails in cc
 
--- the words ask for what is answered to them
+-- The words ask for the result that they get.
 pub help-AsksFor : (result : Result Words WordsRefused) (words : List Text) (k : ErrorKind)
     → IfOk result (λ w. (w ≡ Help) × (k ≡ kind.DisplayHelp))
     → (k ≡ kind.OutOfMemory) ⊎ IsAmong k (fault_of program_app words) → IfOk result (AsksFor words)
@@ -165,7 +165,7 @@ none_among : (words : List Text) → fault_of program_app words ≡ []
     → IsAmong kind.DisplayHelp (fault_of program_app words) → ⊥
 none_among words none help = subst (λ (ks : Kinds). IsAmong kind.DisplayHelp ks) none help
 
--- words ask for one thing at most
+-- Words ask for at most one thing.
 pub AsksFor-unique : (words : List Text) (one other : Words) → AsksFor words one → AsksFor words other → one ≡ other
 AsksFor-unique words (Run n) (Run m) (none, text, value, names) (none_too, other, value_too, names_too) =
     let same : text ≡ other = same_Some text other (sym value ∙ value_too) in

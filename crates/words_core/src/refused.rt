@@ -1,15 +1,15 @@
-//! Why the words of the command line are not taken.
+//! Why the words of the command line aren't accepted.
 ghost use Rattle.std.specs.Prelude.{◌≡◌};
 ghost use Rattle.words_core.specs.declared.refused.WordsRefused.TheVariants.{NoMemory};
 
 use std::alloc::AllocError;
 
-/// Why the words of the command line were not taken.
+/// Why the words of the command line weren't accepted.
 #[derive(Clone, Copy, Debug, PartialEq, Eq)]
 pub enum WordsRefused {
-    /// They are none of the forms that the program takes.
+    /// The program doesn't accept them.
     Usage,
-    /// There is no memory to read them.
+    /// Memory was refused.
     NoMemory,
 }
 

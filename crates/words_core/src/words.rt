@@ -11,19 +11,19 @@ use clap::{Arg, Command};
 use std::alloc::{AllocError, Global};
 use work_core::WORKER_LIMIT;
 
-/// How many workers there are where no word says, as a word would give it.
+/// The number of workers if no word gives one, as text.
 const DEFAULT_WORKERS: &str = "4";
 
 /// What the words of the command line ask for.
 #[derive(Clone, Copy, Debug, PartialEq, Eq)]
 pub enum Words {
-    /// A run of the script on standard input, with so many workers, 1 to 64.
+    /// A run of the script on standard input, with this number of workers, 1 to 64.
     Run(u32),
     /// The help page.
     Help,
 }
 
-/// The words that the program takes: `--workers` with a value, and `--help`, which `clap` adds.
+/// Returns the program's command line: `--workers` with a value, and `--help`, which `clap` adds.
 fn command<'a>(alloc: Global) -> Result<Command<'a>, AllocError>
     ensures { IfOk result (λ command. app_of command ≡ program_app) }
 {
@@ -33,7 +33,7 @@ fn command<'a>(alloc: Global) -> Result<Command<'a>, AllocError>
     Command::new(alloc, "dipq").arg(workers)
 }
 
-/// A run with as many workers as the text gives.
+/// Returns a run with the number of workers that the text names, or `Usage`.
 fn run_with(text: &str) -> Result<Words, WordsRefused>
     ensures bounded { IfOk result IsRunnable }
     ensures named { (n : ℕ) → NamesWorkers text.now n → result ≡ Ok (Words.Run n) }
@@ -46,7 +46,7 @@ fn run_with(text: &str) -> Result<Words, WordsRefused>
     }
 }
 
-/// What is done where `clap` gives no matches: it answers a call for help so too.
+/// Returns the result if `clap` has no matches. A request for help is one of these cases.
 fn unmatched(kind: ErrorKind) -> Result<Words, WordsRefused>
     ensures bounded { IfOk result IsRunnable }
     ensures only { IfOk result (λ words. (words ≡ Words.Help) × (kind ≡ ErrorKind.DisplayHelp)) }
@@ -61,11 +61,11 @@ fn unmatched(kind: ErrorKind) -> Result<Words, WordsRefused>
     }
 }
 
-/// Reads the program's words, its name first.
+/// Reads the program's words, beginning with its name.
 ///
 /// # Errors
 ///
-/// `Usage` where the program doesn't take them, `NoMemory` where there is no memory to read them.
+/// `Usage` if the program doesn't accept them, `NoMemory` if an allocation fails.
 pub fn read_words(alloc: Global, words: &[&str]) -> Result<Words, WordsRefused>
     ensures bounded { IfOk result IsRunnable }
     ensures asked { IfOk result (AsksFor (map (λ word. word.now) words.entry.now)) }

@@ -1,4 +1,4 @@
--- What workers keep, and what they hand back.
+-- The values that workers keep, and what they return.
 use Rattle.std.proofs.Common.{rules, None, replicate, refl, ◌≡◌, ℕ, zero, suc, ◌+◌, ◌<◌, ◌≤◌, max, List, [], ◌∷◌, ◌++◌, length, Some, Option, slice_index_or, slice_set, ap, ◌∙◌, sym, subst, ⊎_elim, arith, length-set}
 use Rattle.std.proofs.lemmas.Bool.{cases_lt}
 use Rattle.std.proofs.lemmas.List.{map-append}
@@ -22,12 +22,12 @@ times-numbers-append : {T : Type 0} (x : ℕ) (us vs : List (Numbered T))
 times-numbers-append x us vs =
     ap (times x) (map-append (λ v. v.number) us vs) ∙ times-append x (numbers_of us) (numbers_of vs)
 
--- a value more at the places or in the list, and the rest as before
+-- a value more in the slots or in the list, and the rest unchanged
 put_more : (l a b after listed : ℕ) → after ≡ b → listed ≡ l → (0 < a → 0 < b) → 0 < a + l → 0 < after + listed
 put_more (suc l) a b after listed e f h some = omega (arith, f)
 put_more zero a b after listed e f h some = let p : 0 < b = h (omega (arith, some)) in omega (arith, p, e)
 
--- what was kept, and what is kept now
+-- the values before and after one more is kept
 kept_more : {T : Type 0} (n x : ℕ) (o : T) (before after : KeptValues T) → KeepsValue n o before after
     → 0 < count_kept before x + times x (n ∷ []) → 0 < count_kept after x
 kept_more {T} n x o before after keeps was =
@@ -49,7 +49,7 @@ kept_more {T} n x o before after keeps was =
     omega (arith, at, listed, both, was))
     (cases_lt n (length old))
 
--- the places stay as many
+-- the number of slots doesn't change
 pub length-places-kept : {T : Type 0} (n : ℕ) (o : T) (before after : KeptValues T) → KeepsValue n o before after
     → length after.places.items ≡ length before.places.items
 length-places-kept {T} n o before after keeps =
@@ -60,7 +60,7 @@ length-places-kept {T} n o before after keeps =
     (λ (past : length old ≤ n). ap (λ (l : List (Option T)). length l) (keeps.listed past).0)
     (cases_lt n (length old))
 
--- one more is drawn, and what was to be run is kept
+-- one number more is drawn, and the value of the one before is kept
 one_more : (drawn kept more after next : ℕ) → (0 < drawn → 0 < kept + more) → (0 < kept + more → 0 < after)
     → 0 < drawn + next → 0 < after + next
 one_more zero kept more after next was keeps some = omega (arith, some)
@@ -121,7 +121,7 @@ module _ {W Out : Type 0} (g : PairWork.Ghosts W Out) (w : W) where
     each = λ x below some. omega (arith, some);
   }
 
-  -- the number drawn last is past the pairs
+  -- the number drawn last is past the last pair
   pub drawn_past : (drawn : List ℕ) (n : ℕ) (kept : KeptValues Out) → g.pairs w ≤ n
       → AreOfDrawn g w drawn (n ∷ []) kept → AreOfDrawn g w drawn [] kept
   drawn_past drawn n kept past are = record {

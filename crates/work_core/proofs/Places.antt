@@ -1,4 +1,4 @@
--- The places of a job's values: which is a pair's, and what they hold after a value is put there.
+-- The slots of a job's values: which slot is a pair's, and the slots after a value is stored.
 use Rattle.std.proofs.Common.{All, ◌≡◌, ◌≢◌, ℕ, zero, suc, ◌+◌, ◌<◌, map, ◌∷◌, [], List, Option, Some, None, IsSome, is_some, length, sym, ap, ◌∙◌, refl, subst, ⊎_elim, arith, slice_index_or, slice_set, slice_get, get_or-set_same, get_or-set_other, length-set}
 use Rattle.std.proofs.lemmas.Bool.{cases_eq}
 use Rattle.std.proofs.lemmas.Bool.Decides.{nat_tests}
@@ -15,31 +15,31 @@ use Rattle.work_core.specs.Jobs.{Gives, Shares, AreValues}
 use Rattle.work_core.specs.Workers.{count_at}
 use Rattle.work_core.proofs.Counting.{times-cons}
 
--- what holds of each item of a list holds of its first
+-- a fact about each item of a list is one about its first
 pub All-first : {X : Type 0} (P : X → Type 0) (x : X) (xs ys : List X) → ys ≡ x ∷ xs → All P ys → P x
 All-first P x xs ys e all = All-head P x xs (subst (All P) e all)
 
--- what follows of one number follows where another is added to both
+-- a fact about a number still follows if a number is added on both sides
 add_more : (k a b : ℕ) → (0 < a → 0 < b) → 0 < k + a → 0 < b + k
 add_more (suc k) a b h some = omega arith
 add_more zero a b h some = let p : 0 < b = h (omega (arith, some)) in omega (arith, p)
 
--- who counts a value has one
+-- an option counted as a value has one
 is_there : {T : Type 0} (x : Option T) → 0 < (if is_some x then 1 else 0) → IsSome x
 is_there (Some y) some = refl
 is_there None some = absurd (omega (arith, some))
 
--- what is read at a place
+-- reading a slot
 pub place_read : {T : Type 0} (places : List (Option T)) (i : ℕ) (x : Option T) → i < length places
     → x ≡ slice_index_or places i x → slice_index_or places i None ≡ x
 place_read places i x inside read = get_or_default places i None x inside ∙ sym read
 
--- a place with a value has one
+-- a slot with a value counts as one
 count_at-some : {T : Type 0} (places : List (Option T)) (x : ℕ) → IsSome (slice_index_or places x None)
     → count_at places x ≡ 1
 count_at-some places x e = rw e refl
 
--- a value is at the place where it is put, and the others stay
+-- a value is in the slot where it was stored, and the others stay
 pub count_at-set : {T : Type 0} (places : List (Option T)) (n x : ℕ) (o : T) → n < length places
     → 0 < count_at places x + times x (n ∷ []) → 0 < count_at (slice_set places n (Some o)) x
 count_at-set {T} places n x o inside was =
@@ -56,31 +56,31 @@ count_at-set {T} places n x o inside was =
     omega (arith, zero_times, same, was))
     (cases_eq x n)
 
--- the same where more values are still to be put
+-- the same if more values are still to be stored
 pub count_at-set_more : {T : Type 0} (places : List (Option T)) (n x : ℕ) (o : T) (rest : List ℕ) → n < length places
     → 0 < count_at places x + times x (n ∷ rest) → 0 < count_at (slice_set places n (Some o)) x + times x rest
 count_at-set_more {T} places n x o rest inside was =
     add_more (times x rest) (count_at places x + times x (n ∷ [])) (count_at (slice_set places n (Some o)) x)
     (count_at-set places n x o inside) (let e = times-cons x n rest in omega (arith, e, was))
 
--- a value among values, as it stands at its place
+-- a value of the list is in its slot
 mapped_at : {T : Type 0} (outs : List T) (i : ℕ) (o : T) → slice_get outs i ≡ Some o
     → slice_index_or (map (λ (x : T). Some x) outs) i None ≡ Some o
 mapped_at [] i o at = absurd (none-some o at)
 mapped_at (x ∷ outs) zero o at = at
 mapped_at (x ∷ outs) (suc i) o at = mapped_at outs i o at
 
--- a place that has a value
+-- a slot that has a value
 pub some_there : {T : Type 0} (places : List (Option T)) (x : ℕ) → 0 < count_at places x
     → IsSome (slice_index_or places x None)
 some_there places x some = is_there (slice_index_or places x None) some
 
 module _ {W Out : Type 0} (g : PairWork.Ghosts W Out) where
-  -- a place that a pair's name gives has that name
+  -- a number found by a pair's name has that name
   abbrev pub Named : W → Type 0
   Named w = (p : PairName) (i : ℕ) → g.place_of w p ≡ Some i → (i < g.pairs w) × (g.name_of w i ≡ p)
 
-  -- the place of a pair is one of the places
+  -- the slot of a pair is one of the slots
   pub place_inside : (w : W) (p : PairName) (i : ℕ) (places : List (Option Out)) → Named w → g.place_of w p ≡ Some i
       → ArePlaces g w places → i < length places
   place_inside w p i places named at are = let here = named p i at in omega (arith, here.0, are.len)
@@ -91,7 +91,7 @@ module _ {W Out : Type 0} (g : PairWork.Ghosts W Out) where
   shared_value prop v w p o shares value =
       ∥∥₁_elim value (prop (g.inputs_of w p) o) (λ h. subst (λ (x : g.Inputs). g.IsValue x o) (sym shares.2) h)
 
-  -- a value of pair i at place i
+  -- a value of pair i in slot i
   pub at_their_places-set : (w : W) (i : ℕ) (o : Out) (places : List (Option Out)) → i < length places
       → Gives g w (g.name_of w i) o → AreAtTheirPlaces g w places → AreAtTheirPlaces g w (slice_set places i (Some o))
   at_their_places-set w i o places inside gives are k x read =
@@ -104,7 +104,7 @@ module _ {W Out : Type 0} (g : PairWork.Ghosts W Out) where
       (λ (ne : k ≢ i). are k x (sym (get_or-set_other places i k (Some o) None ne) ∙ read))
       (cases_eq k i)
 
-  -- the same of places for all pairs
+  -- the same with a slot for each pair
   pub places-put : (w : W) (i : ℕ) (o : Out) (places : List (Option Out)) → i < g.pairs w
       → Gives g w (g.name_of w i) o → ArePlaces g w places → ArePlaces g w (slice_set places i (Some o))
   places-put w i o places inside gives are = record {
@@ -119,7 +119,7 @@ module _ {W Out : Type 0} (g : PairWork.Ghosts W Out) where
       let here = named p i at in
       places-put w i o places here.0 (subst (λ (q : PairName). Gives g w q o) (sym here.1) gives) are
 
-  -- a value at each place, and so the values of all pairs
+  -- a value in each slot, and so the values of all pairs
   pub values_at_places : (w : W) (places : List (Option Out)) (outs : List Out) → ArePlaces g w places
       → places ≡ map (λ (x : Out). Some x) outs → AreValues g w outs
   values_at_places w places outs are e = record {

@@ -12,7 +12,7 @@ use Rattle.work_core.specs.declared.claim_view.ClaimView.{ClaimView}
 use Rattle.work_core.proofs.Counting.{times-append, times_below-next, times_below-inside}
 use Rattle.work_core.proofs.ViewSums.{sum-set, one-le-sum, sum-whole}
 
--- what holds of the new view and of all views before holds of all views after a change of one
+-- a fact about the new view and about all views before is one about all views after one changed
 each-set : (P : ClaimView → Type 0) (views : List ClaimView) (id : ℕ) (w : ClaimView) → P w
     → ((j : ℕ) (u : ClaimView) → get_elem? views j ≡ some u → P u)
     → (j : ℕ) (u : ClaimView) → get_elem? (set views id w) j ≡ some u → P u
@@ -20,7 +20,7 @@ each-set P views id w here each j u at =
     ⊎_elim (λ (t : (j ≡ id) × (w ≡ u)). subst P t.1 here)
     (λ (t : (j ≢ id) × (get_elem? views j ≡ some u)). each j u t.1) (at_set views id j w u at)
 
--- and likewise where a view is added
+-- the same after a view is added
 each-snoc : (P : ClaimView → Type 0) (views : List ClaimView) (w : ClaimView) → P w
     → ((j : ℕ) (u : ClaimView) → get_elem? views j ≡ some u → P u)
     → (j : ℕ) (u : ClaimView) → get_elem? (views ++ w ∷ []) j ≡ some u → P u
@@ -104,7 +104,7 @@ join-keeps word id other v w views ne at at' c =
           c.idle);
     }
 
--- who has every part knows that each number below the bound was drawn once
+-- a view with all parts knows that each number below the bound was drawn once
 pub all-known : (word id : ℕ) (v : ClaimView) (views : List ClaimView) → v.parts ≡ all_parts
     → get_elem? views id ≡ some v → AreClaims word views → (x : ℕ) → x < v.least → times x v.drawn ≡ 1
 all-known word id v views all at c x below =

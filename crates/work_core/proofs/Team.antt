@@ -1,4 +1,4 @@
--- Teams of workers, and their answers: the last worker has the places.
+-- Teams of workers, and their answers: the last worker has the slots.
 use Rattle.std.proofs.Common.{◌≡◌, ◌⊎◌, ℕ, zero, suc, ◌+◌, ◌<◌, All, List, [], ◌∷◌, ◌++◌, length, None, Option, IsSome, replicate, slice_index_or, ap, ◌∙◌, sym, refl, subst, inl, inr, ⊎_elim, arith}
 use Rattle.std.proofs.lemmas.Bool.Decides.{nat_tests}
 use Rattle.std.proofs.lemmas.List.{get_or_append_left, length_push}
@@ -17,7 +17,7 @@ use Rattle.work_core.proofs.Counting.{times-append}
 use Rattle.work_core.proofs.Places.{some_there}
 use Rattle.work_core.specs.Workers.{IsFreshWorker, HasPlaces, places_of, IsWorkerAnswer, AreAnswers, AreOfDrawn, numbers_of, count_at}
 
--- a worker before the last has no places
+-- a worker before the last has no slots
 places_of-other : (m n k : ℕ) → k + 1 < m → places_of m n k ≡ 0
 places_of-other m n k h = grind (arith, nat_tests)
 
@@ -25,19 +25,19 @@ places_of-other m n k h = grind (arith, nat_tests)
 places_of-last : (m n k : ℕ) → k + 1 ≡ m → places_of m n k ≡ n
 places_of-last m n k h = grind (arith, nat_tests)
 
--- a number below the next is below, or the same
+-- a number below n + 1 is below n, or equals it
 split : (k n : ℕ) → k < n + 1 → (k < n) ⊎ (k ≡ n)
 split k zero h = inr (omega (arith, h))
 split zero (suc n) h = inl (omega arith)
 split (suc k) (suc n) h =
     ⊎_elim (λ a. inl (omega (arith, a))) (λ e. inr (omega (arith, e))) (split k n (omega (arith, h)))
 
--- a place in such a list is one of the list, or the last
+-- an index of a list with one more element is one of the list, or the last
 place_cases : {X : Type 0} (xs : List X) (x : X) (k : ℕ) → k < length (xs ++ x ∷ [])
     → (k < length xs) ⊎ (k ≡ length xs)
 place_cases xs x k h = split k (length xs) (let e = length_push xs x in omega (arith, e, h))
 
--- a new worker with these places, all empty
+-- a new worker with these slots, all empty
 pub fresh_worker : {T : Type 0} (table : TableId) (worker : Worker T) (places : List (Option T))
     → worker.seat.table_id ≡ table → worker.seat.me ≡ (worker_view, []) → worker.kept.places.items ≡ places
     → places ≡ replicate (length places) None → worker.kept.values.items ≡ [] → IsFreshWorker table worker
@@ -47,7 +47,7 @@ fresh_worker {T} table worker places at me are empty none = (
   none,
 )
 
--- workers without places, and one more
+-- workers without slots, and one more
 has_places : {T : Type 0} (n : ℕ) (others : List (Worker T)) (last : Worker T)
     → All (λ worker. length worker.kept.places.items ≡ 0) others → length last.kept.places.items ≡ n
     → HasPlaces n (others ++ last ∷ [])
@@ -72,12 +72,12 @@ pub team_has_places : {T : Type 0} (n : ℕ) (others team : List (Worker T)) (la
 team_has_places {T} n others team last none places e =
     subst (λ (t : List (Worker T)). HasPlaces n t) (sym e) (has_places n others last none places)
 
--- where there are no places there is no value
+-- without slots there is no value
 count_at-short : {T : Type 0} (places : List (Option T)) (x : ℕ) → length places ≡ 0 → count_at places x ≡ 0
 count_at-short [] x e = refl
 count_at-short (p ∷ places) x e = absurd (omega (arith, e))
 
--- what follows of one of two numbers follows of their sum
+-- a fact that follows from either number being positive follows from their sum being positive
 either_way : (d d' a b c : ℕ) → (0 < d → 0 < a) → (0 < d' → 0 < b) → (0 < a + b → 0 < c) → 0 < d + d' → 0 < c
 either_way (suc d) d' a b c f h then some = let p : 0 < a = f (omega arith) in then (omega (arith, p))
 either_way zero d' a b c f h then some = let p : 0 < b = h (omega (arith, some)) in then (omega (arith, p))
@@ -97,7 +97,7 @@ module _ {W Out : Type 0} (g : PairWork.Ghosts W Out) (w : W) where
       (subst (λ (m : ℕ). IsWorkerAnswer g w table m (slice_index_or answers k last)) n
       (are k last (omega (arith, size))))
 
-  -- those of the others
+  -- the answers of the others
   pub other_answers : (table : TableId) (answers others : List (WorkerAnswer Out)) (last : WorkerAnswer Out)
       → answers ≡ others ++ last ∷ [] → AreAnswers g w table answers → All (IsWorkerAnswer g w table 0) others
   other_answers table answers others last e are k d before =
@@ -110,7 +110,7 @@ module _ {W Out : Type 0} (g : PairWork.Ghosts W Out) (w : W) where
       (subst (λ (m : ℕ). IsWorkerAnswer g w table m (slice_index_or answers k d)) n
       (are k d (omega (arith, size, before))))
 
-  -- the answer of the worker in that place of its team
+  -- the answer of the worker at that index of its team
   pub team_answer : (table table' : TableId) (n m k : ℕ) (team : List (Worker Out)) (worker : Worker Out)
       (answer : WorkerAnswer Out) → table' ≡ table → HasPlaces n team → k < length team
       → slice_index_or team k worker ≡ worker → n ≡ g.pairs w → length team ≡ m
@@ -123,12 +123,12 @@ module _ {W Out : Type 0} (g : PairWork.Ghosts W Out) (w : W) where
       subst (λ (t : TableId). IsWorkerAnswer g w t (places_of m (g.pairs w) k) answer) (sym tables)
       (subst (λ (i : ℕ). IsWorkerAnswer g w table i answer) b is)
 
-  -- what a worker with a place for each pair kept
+  -- the slots that a worker with a slot for each pair kept
   pub kept_places : (drawn : List ℕ) (kept : KeptValues Out) → AreOfDrawn g w drawn [] kept
       → length kept.places.items ≡ g.pairs w → ArePlaces g w kept.places.items
   kept_places drawn kept are len = record { len = len; each = are.placed }
 
-  -- it has a value at the place of each number that it drew
+  -- it has a value in the slot of each number that it drew
   pub kept_there : (drawn : List ℕ) (kept : KeptValues Out) → AreOfDrawn g w drawn [] kept
       → length kept.places.items ≡ g.pairs w → (x : ℕ) → x < g.pairs w → 0 < times x drawn
       → 0 < count_at kept.places.items x
@@ -137,7 +137,7 @@ module _ {W Out : Type 0} (g : PairWork.Ghosts W Out) (w : W) where
       let h = are.each x below some in
       omega (arith, none, h)
 
-  -- a worker without places has a value in its list
+  -- a worker without slots has the values in its list
   pub kept_listed : (drawn : List ℕ) (kept : KeptValues Out) → AreOfDrawn g w drawn [] kept
       → length kept.places.items ≡ 0 → (x : ℕ) → x < g.pairs w → 0 < times x drawn
       → 0 < times x (numbers_of kept.values.items)
@@ -146,7 +146,7 @@ module _ {W Out : Type 0} (g : PairWork.Ghosts W Out) (w : W) where
       let h = are.each x below some in
       omega (arith, none, h)
 
--- there is a value at the place of each number that was drawn, also once another worker's are put there
+-- there is a value in the slot of each number drawn, even after another worker's values are stored
 pub there_both : {T : Type 0} (x : ℕ) (drawn drawn' both : List ℕ) (old new : List (Option T))
     (values : List (Numbered T)) → both ≡ drawn ++ drawn' → (0 < times x drawn → 0 < count_at old x)
     → (0 < times x drawn' → 0 < times x (numbers_of values))
@@ -156,7 +156,7 @@ there_both x drawn drawn' both old new values e was listed placed some =
     was listed placed
     (let a = ap (times x) e in let b = times-append x drawn drawn' in omega (arith, a, b, some))
 
--- each place has a value
+-- each slot has a value
 pub all_there : {T : Type 0} (places : List (Option T)) (n : ℕ) → length places ≡ n
     → ((x : ℕ) → x < n → 0 < count_at places x) → All IsSome places
 all_there places n len there =

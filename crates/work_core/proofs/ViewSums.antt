@@ -6,7 +6,7 @@ use mathlib.Core.Option.{some, some-injective, some-ne-none}
 use lib.ListN.{get_elem?}
 use Rattle.work_core.specs.declared.claim_view.ClaimView.{ClaimView}
 
--- the sum after a change of one view
+-- the sum after one view changed
 pub sum-set : (f : ClaimView → ℕ) (views : List ClaimView) (id : ℕ) (v w : ClaimView) → get_elem? views id ≡ some v
     → sum_by f (set views id w) + f v ≡ sum_by f views + f w
 sum-set f [] id v w at = absurd (some-ne-none v (sym at))
@@ -17,14 +17,14 @@ sum-set f (x ∷ xs) (suc id) v w at =
     let h = sum-set f xs id v w at in
     omega (arith, h, sum_by-cons f x xs, sum_by-cons f x (set xs id w))
 
--- what one view has is no more than the sum
+-- one view's number is at most the sum
 pub one-le-sum : (f : ClaimView → ℕ) (views : List ClaimView) (id : ℕ) (v : ClaimView) → get_elem? views id ≡ some v
     → f v ≤ sum_by f views
 one-le-sum f [] id v at = absurd (some-ne-none v (sym at))
 one-le-sum f (x ∷ xs) zero v at = let e = ap f (some-injective x v at) in omega (arith, sum_by-cons f x xs)
 one-le-sum f (x ∷ xs) (suc id) v at = let h = one-le-sum f xs id v at in omega (arith, h, sum_by-cons f x xs)
 
--- f is 0 wherever g is
+-- f is 0 whenever g is
 abbrev Follows : (ClaimView → ℕ) → (ClaimView → ℕ) → List ClaimView → Type 0
 Follows f g views = (id : ℕ) (u : ClaimView) → get_elem? views id ≡ some u → g u ≡ 0 → f u ≡ 0
 
@@ -36,7 +36,7 @@ sum-none f g (x ∷ xs) follows none =
     let rest = sum-none f g xs (λ id u at. follows (suc id) u at) (omega (arith, all, none)) in
     omega (arith, here, rest, sum_by-cons f x xs)
 
--- where f is 0 wherever g is, a view that has the whole sum of g has the whole sum of f
+-- if f is 0 whenever g is, a view that has the whole sum of g has the whole sum of f
 pub sum-whole : (f g : ClaimView → ℕ) (views : List ClaimView) (id : ℕ) (v : ClaimView) → Follows f g views
     → get_elem? views id ≡ some v → sum_by g views ≡ g v → sum_by f views ≡ f v
 sum-whole f g [] id v follows at whole = absurd (some-ne-none v (sym at))

@@ -7,15 +7,15 @@ use Rattle.work_core.specs.Counting.{times, times_below}
 use Rattle.work_core.specs.Limits.{worker_limit, draw_limit, word_limit}
 use Rattle.work_core.specs.declared.claim_view.ClaimView.{ClaimView}
 
--- a view with so many parts, so many draws left, a number that the word has reached, and the numbers drawn
+-- a view with this many parts, this many draws left, a number that the word has reached, and the numbers drawn
 abbrev pub view_of : ℕ → ℕ → ℕ → List ℕ → ClaimView
 view_of parts room least drawn = record { parts = parts; room = room; least = least; drawn = drawn }
 
--- each worker and the one who joins them has a part, and who has all parts knows all draws
+-- each worker and the caller that joins them has a part, and a seat with all parts knows all draws
 abbrev pub all_parts : ℕ
 all_parts = worker_limit + 1
 
--- together the views have all parts and know each number below the word as drawn once, and no other
+-- together the views have all parts, and know each number below the word as drawn once, and no other number
 pub record AreClaims (word : ℕ) (views : List ClaimView) : Type 0 where
   pub parts : sum_by (λ v. v.parts) views ≡ all_parts
   pub room : sum_by (λ v. v.room) views + word ≡ word_limit
@@ -35,7 +35,7 @@ first_view = view_of all_parts word_limit 0 []
 abbrev pub worker_view : ClaimView
 worker_view = view_of 1 draw_limit 0 []
 
--- what is left of a view that has given a worker its own
+-- a view after a worker's view was split off
 abbrev pub view_left : ClaimView → ClaimView
 view_left v = view_of (v.parts - 1) (v.room - draw_limit) v.least v.drawn
 
@@ -55,6 +55,6 @@ spent_view = view_of 0 0 0 []
 abbrev pub view_after : ClaimView → ℕ → ClaimView
 view_after v found = view_of v.parts (v.room - 1) (found + 1) (v.drawn ++ found ∷ [])
 
--- a draw: the number found is drawn, and no less than the number that the word was known to have reached
+-- a draw: the number found is drawn, and isn't less than the number that the word was known to have reached
 abbrev pub Draws : {S : Type 0} → Step S → Me S ClaimView → ℕ → Me S ClaimView → Type 0
 Draws st m found m' = (m'.0 ≡ view_after m.0 found) × (m'.1 ≡ m.1) × (m.0.least ≤ found)

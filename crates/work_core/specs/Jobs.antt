@@ -1,4 +1,4 @@
--- What a job says of its pairs, and what it is to have the values of all of them.
+-- What a job says of its pairs, and what the values of all pairs are.
 use Rattle.std.specs.Prelude.{◌≡◌, ℕ, List, length, Some, IsSome, slice_get}
 use Rattle.work_core.specs.declared.name.PairName.{PairName}
 use Rattle.work_core.specs.declared.job.PairWork as PairWork

@@ -1,4 +1,4 @@
--- How much of each there may be.
+-- Limits.
 use Rattle.std.specs.Prelude.{ℕ, ◌^◌}
 
 -- the most workers of a run
@@ -13,6 +13,6 @@ pair_limit = 2 ^ 40
 abbrev pub draw_limit : ℕ
 draw_limit = 2 ^ 41
 
--- how many numbers may be drawn in all: enough for the workers, and the word counts them
+-- how many numbers may be drawn in all: enough for the workers, and few enough for the word
 abbrev pub word_limit : ℕ
 word_limit = 2 ^ 48

@@ -1,4 +1,4 @@
--- A stretch of a job: pairs whose numbers follow one another, numbered anew from 0 on. With the laws of these numbers.
+-- A stretch of a job: consecutive pairs, numbered from 0; and the laws of these numbers.
 use Rattle.std.specs.Prelude.{◌≡◌, ℕ, ◌+◌, ◌-◌, ◌<◌, ◌≤◌, Bool, true, List, length, Option, Some, None, if◌then◌else◌, ◌&&◌, nat_le, nat_lt, slice_get, option_and_then}
 use Rattle.std.proofs.Common.{arith, ap, ◌∙◌}
 use Rattle.std.proofs.lemmas.Bool.Decides.{nat_tests}
@@ -11,12 +11,12 @@ use Rattle.work_core.specs.Limits.{pair_limit}
 abbrev pub is_within : ℕ → ℕ → ℕ → Bool
 is_within first count i = nat_le first i && nat_lt i (first + count)
 
--- the number in the stretch of a pair that has this number in the job, if the stretch has the pair
+-- the number in the stretch of a pair with this number in the job, if the stretch has the pair
 abbrev pub number_within : ℕ → ℕ → Option ℕ → Option ℕ
 number_within first count at = option_and_then (λ i. if is_within first count i then Some (i - first) else None) at
 
 module _ {W Out : Type 0} (g : PairWork.Ghosts W Out) where
-  -- the values of the pairs of a job from number `first` on, `count` of them, in order
+  -- the values of the `count` pairs of a job from number `first` on, in order
   pub record AreValuesFrom (w : W) (first count : ℕ) (outs : List Out) : Type 0 where
     pub len : length outs ≡ count
     pub each : (i : ℕ) (o : Out) → slice_get outs i ≡ Some o → Gives g w (g.name_of w (first + i)) o
@@ -25,7 +25,7 @@ module _ {W Out : Type 0} (g : PairWork.Ghosts W Out) where
 within_test : (first count i : ℕ) → i < count → is_within first count (first + i) ≡ true
 within_test first count i h = grind (arith, nat_tests)
 
--- what passes the test is a number of the stretch
+-- a number that passes the test is one of the stretch
 from_test : (first count i : ℕ) → is_within first count i ≡ true → (first ≤ i) × (i < first + count)
 from_test first count i e = (grind (arith, nat_tests), grind (arith, nat_tests))
 
@@ -35,7 +35,7 @@ pub number_within-at : (first count i : ℕ) (at : Option ℕ) → i < count →
 number_within-at first count i at h e =
     rw (e, within_test first count i h) (ap (λ (k : ℕ). Some k) (omega arith))
 
--- what is found is the number less `first`
+-- the number found is the number minus `first`
 pub number_within-is : (first count i : ℕ) (at : Option ℕ) → number_within first count at ≡ Some i
     → (i < count) × (at ≡ Some (first + i))
 number_within-is first count i at e =

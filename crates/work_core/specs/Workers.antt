@@ -1,4 +1,4 @@
--- What workers are given and what they hand back: values of pairs, of each pair whose number they drew.
+-- What workers start with and what they return: values of pairs, one for each pair whose number they drew.
 use Rattle.std.specs.Prelude.{◌≡◌, ℕ, ◌+◌, ◌<◌, ◌≤◌, ◌==◌, if◌then◌else◌, All, List, [], ◌∷◌, ◌++◌, length, map, replicate, IfOk, IsErr, Result, Ok, Option, Some, None, is_some, slice_index_or, slice_set}
 use Rattle.atomic_table.specs.Seated.{TableId}
 use Rattle.atomic_table.specs.declared.shared.Seat.{Seat}
@@ -22,11 +22,11 @@ abbrev pub IsFreshWorker : {T : Type 0} → TableId → Worker T → Type 0
 IsFreshWorker table worker = IsFreshSeat table worker.seat
     × (worker.kept.places.items ≡ replicate (length worker.kept.places.items) None) × (worker.kept.values.items ≡ [])
 
--- how many places the worker in that place of a team of m workers has: the last has n, and the others have none
+-- how many slots the worker at index k of m workers has: the last has n, and the others have none
 abbrev pub places_of : ℕ → ℕ → ℕ → ℕ
 places_of m n k = if k + 1 == m then n else 0
 
--- each worker of the team has as many places as that
+-- each worker of the team has that many slots
 abbrev pub HasPlaces : {T : Type 0} → ℕ → List (Worker T) → Type 0
 HasPlaces {T} n team = (k : ℕ) (d : Worker T) → k < length team
     → length (slice_index_or team k d).kept.places.items ≡ places_of (length team) n k
@@ -35,7 +35,7 @@ HasPlaces {T} n team = (k : ℕ) (d : Worker T) → k < length team
 abbrev pub numbers_of : {T : Type 0} → List (Numbered T) → List ℕ
 numbers_of values = map (λ v. v.number) values
 
--- how many values the place has: 1, or 0 where it is empty
+-- how many values the slot has: 1, or 0 if it is empty
 abbrev pub count_at : {T : Type 0} → List (Option T) → ℕ → ℕ
 count_at places x = if is_some (slice_index_or places x None) then 1 else 0
 
@@ -43,7 +43,7 @@ count_at places x = if is_some (slice_index_or places x None) then 1 else 0
 abbrev pub count_kept : {T : Type 0} → KeptValues T → ℕ → ℕ
 count_kept kept x = count_at kept.places.items x + times x (numbers_of kept.values.items)
 
--- one more value is kept, with its number: at its place, or where it has none in the list
+-- one value more is kept, with its number: in its slot, or in the list if it has none
 pub record KeepsValue {T : Type 0} (n : ℕ) (o : T) (old new : KeptValues T) : Type 0 where
   pub placed : n < length old.places.items
       → (new.places.items ≡ slice_set old.places.items n (Some o)) × (new.values.items ≡ old.values.items)
@@ -51,37 +51,37 @@ pub record KeepsValue {T : Type 0} (n : ℕ) (o : T) (old new : KeptValues T) : 
       × (new.values.items ≡ old.values.items ++ record { number = n; value = o } ∷ [])
 
 module _ {W Out : Type 0} (g : PairWork.Ghosts W Out) (w : W) where
-  -- a value of the pair of its number
+  -- a value of the pair with its number
   pub record IsOfItsPair (v : Numbered Out) : Type 0 where
     pub inside : v.number < g.pairs w
     pub gives : Gives g w (g.name_of w v.number) v.value
 
-  -- the pair of number n was run, and its value is kept
+  -- the pair with number n was run, and its value is kept
   pub record IsRun (n : ℕ) (old new : KeptValues Out) : Type 0 where
     pub value : Out
     pub gives : Gives g w (g.name_of w n) value
     pub keeps : KeepsValue n value old new
 
-  -- no run was refused before, and the pair of number n was run
+  -- no earlier run was refused, and the pair with number n was run
   pub record IsRunAfter {E : Type 0} (n : ℕ) (old : Result (KeptValues Out) E) (new : KeptValues Out) : Type 0 where
     pub before : KeptValues Out
     pub was : old ≡ Ok before
     pub run : IsRun n before new
 
-  -- what is kept are values of their pairs, and one of each pair whose number was drawn; the numbers in `more` are
-  -- drawn and still to be run
+  -- the values kept are values of their pairs, and there is one for each pair whose number was drawn; the numbers in
+  -- `more` are drawn and still to be run
   pub record AreOfDrawn (drawn more : List ℕ) (kept : KeptValues Out) : Type 0 where
     pub placed : AreAtTheirPlaces g w kept.places.items
     pub listed : All IsOfItsPair kept.values.items
     pub whole : g.pairs w ≤ length kept.places.items → kept.values.items ≡ []
     pub each : (x : ℕ) → x < g.pairs w → 0 < times x drawn → 0 < count_kept kept x + times x more
 
-  -- a pair's number is among the numbers drawn
+  -- one of the numbers drawn is a pair's
   abbrev pub HasDrawnPair : List ℕ → Type 0
   HasDrawnPair drawn = (x : ℕ) × (x < g.pairs w) × (0 < times x drawn)
 
-  -- a worker with n places drew until a number was past the pairs, and its values, if no run was refused, are of the
-  -- numbers drawn; where one was, it has drawn a pair
+  -- a worker with n slots drew until a number was past the last pair; its values, if no run was refused, are those of
+  -- the numbers drawn; if a run was refused, it has drawn a pair
   pub record IsWorkerAnswer (table : TableId) (n : ℕ) (answer : WorkerAnswer Out) : Type 0 where
     pub table_is : answer.seat.table_id ≡ table
     pub free : answer.seat.me.1 ≡ []
@@ -91,7 +91,7 @@ module _ {W Out : Type 0} (g : PairWork.Ghosts W Out) (w : W) where
     pub values : IfOk answer.kept (λ kept. AreOfDrawn answer.seat.me.0.drawn [] kept)
     pub refused : IsErr answer.kept → HasDrawnPair answer.seat.me.0.drawn
 
-  -- the answers of a team whose last worker has a place for each pair
+  -- the answers of a team whose last worker has a slot for each pair
   abbrev pub AreAnswers : TableId → List (WorkerAnswer Out) → Type 0
   AreAnswers table answers = (k : ℕ) (d : WorkerAnswer Out) → k < length answers
       → IsWorkerAnswer table (places_of (length answers) (g.pairs w) k) (slice_index_or answers k d)

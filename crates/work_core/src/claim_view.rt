@@ -2,7 +2,7 @@
 
 use std::collections::LinkedList;
 
-/// What a worker's seat knows of the numbers drawn. It stands in proofs alone: no value of it is made.
+/// What a worker's seat knows of the numbers drawn. It exists in proofs only: no value of this type is ever made.
 pub(crate) struct ClaimView {
     /// How many parts it has of the right to know all draws.
     pub parts: u64,

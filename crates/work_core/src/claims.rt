@@ -41,10 +41,10 @@ impl Join<ClaimView> for Merge {
     ghost spent = { spent_view };
 }
 
-/// The right to draw, with what its holder knows of the draws.
+/// The right to draw, and what its owner knows of the draws.
 pub(crate) type ClaimSeat = Seat<(), ClaimView>;
 
-/// The word, which counts the numbers drawn. Contracts see which table it is of: a seat at that table may draw.
+/// The word, which counts the numbers drawn. Contracts see its table: a seat at that table may draw.
 #[derive(Drop)]
 pub(crate) struct Claims {
     table: Table<(), ClaimView, (), EachOnce, Global>,
@@ -63,7 +63,7 @@ impl Model for Claims {
 }
 
 impl Claims {
-    /// A word of which nothing is drawn, with the seat that has all parts.
+    /// Returns a word from which nothing is drawn, and the seat that has all parts.
     pub(crate) fn new(alloc: Global) -> Result<(Claims, ClaimSeat), AllocError>
         ensures { IfOk result (λ r. (r.1.table_id ≡ r.0) × (r.1.me ≡ (first_view, []))) }
     {
@@ -71,7 +71,7 @@ impl Claims {
         Ok((Claims { table }, seat))
     }
 
-    /// A worker's seat, cut off this one.
+    /// Returns a worker's seat, split off this one.
     pub(crate) fn split(&self, seat: &mut ClaimSeat) -> ClaimSeat
         requires table { seat.old.table_id ≡ self.now }
         requires part { 1 < seat.old.me.0.parts }
@@ -84,7 +84,7 @@ impl Claims {
         self.table.shared.split_seat::<Cut>(seat)
     }
 
-    /// Draws the next number, in one step.
+    /// Draws the next number, in one atomic step.
     pub(crate) fn draw(&self, seat: &mut ClaimSeat) -> u64
         requires table { seat.old.table_id ≡ self.now }
         requires part { 0 < seat.old.me.0.parts }
@@ -108,7 +108,7 @@ impl Claims {
         self.table.shared.join_seat::<Merge>(seat, other)
     }
 
-    /// Closes the table, where the seat has all parts: each number below its bound was drawn once.
+    /// Closes the table, if the seat has all parts: each number below its bound was drawn once.
     pub(crate) fn close(self, seat: ClaimSeat)
         requires table { seat.table_id ≡ self }
         requires all { seat.me.0.parts ≡ all_parts }

@@ -1,4 +1,4 @@
-//! Puts the pieces of a job in order, whatever the order in which they come.
+//! Puts the pieces of a job in order, whatever the order in which they arrive.
 
 ghost use Rattle.std.specs.Prelude.{◌≡◌, IfOk, IfErr, OnOk, OnErr, IfSome, IfNone, Some, None, All, IsSome, map, replicate};
 ghost use Rattle.work_core.specs.Jobs.{Shares, AreValues};
@@ -11,9 +11,9 @@ use crate::piece::Piece;
 use std::alloc::{AllocError, Global};
 use std::marker::Model;
 
-/// The pieces of a job that are there. Contracts see the job, and the values by pair number.
+/// Collects the pieces of a job. Contracts see the job, and the values by pair number.
 ///
-/// It takes all its memory when it is made: `accept` and `finish` need none.
+/// It allocates all its memory when it is made: `accept` and `finish` allocate nothing.
 #[derive(Drop)]
 pub struct Collector<'j, W: PairWork> {
     job: &'j W,
@@ -35,14 +35,14 @@ impl<'j, W: PairWork> Model for Collector<'j, W> {
 pub enum Why {
     /// The collector's job doesn't have the pair, or has it with other inputs.
     Stranger,
-    /// The pair's piece is there.
+    /// The pair already has a piece.
     Double,
 }
 
-/// A piece that was refused, and why.
+/// A refused piece, and why it was refused.
 #[derive(Drop)]
 pub struct Refused<'j, W: PairWork> {
-    /// The piece, as it was handed in.
+    /// The piece, unchanged.
     pub piece: Piece<'j, W>,
     /// Why it was refused.
     pub why: Why,
@@ -51,14 +51,14 @@ pub struct Refused<'j, W: PairWork> {
 /// A collector that lacks a piece.
 #[derive(Drop)]
 pub struct Unfinished<'j, W: PairWork> {
-    /// The collector, as it was.
+    /// The collector, unchanged.
     pub collector: Collector<'j, W>,
-    /// The pair whose piece is missing; of several, the one with the least number.
+    /// The pair with the least number whose piece is missing.
     pub first: PairName,
 }
 
 impl<'j, W: PairWork> Collector<'j, W> {
-    /// A collector for the pieces of the job, of which none is there.
+    /// Returns an empty collector for the pieces of the job.
     pub fn new(alloc: Global, job: &'j W) -> Result<Collector<'j, W>, AllocError>
         ensures { IfOk result (λ c. c ≡ nothing_of W.PairWork job.entry.now) }
     {
@@ -66,8 +66,8 @@ impl<'j, W: PairWork> Collector<'j, W> {
         Ok(Collector { job, places })
     }
 
-    /// Puts the piece's value at its pair's place: of this job, or of another that has the pair with equal
-    /// inputs. A refused piece is handed back.
+    /// Stores the piece's value in its pair's slot. The piece may be of this job, or of another job that has the pair
+    /// with equal inputs. A refused piece is returned.
     pub fn accept(&mut self, piece: Piece<'j, W>) -> Result<(), Refused<'j, W>>
         ensures shares { OnOk result
             (Shares W.PairWork self.old.job piece.entry.job.now piece.entry.name) }
@@ -106,7 +106,7 @@ impl<'j, W: PairWork> Collector<'j, W> {
         Ok(())
     }
 
-    /// The values by pair number, if each pair's piece is there.
+    /// Returns the values by pair number, if each pair has a piece.
     pub fn finish(self) -> Result<Outs<W::Out>, Unfinished<'j, W>>
         ensures values { IfOk result (AreValues W.PairWork self.entry.job) }
         ensures accepted { IfOk result (λ outs. self.entry.places ≡ map Some outs) }
@@ -125,7 +125,7 @@ impl<'j, W: PairWork> Collector<'j, W> {
     }
 }
 
-// So many places without a value.
+// Returns `count` empty slots.
 pub(crate) fn empty_places<T: Drop>(
     alloc: Global,
     count: usize,
@@ -139,7 +139,7 @@ pub(crate) fn empty_places<T: Drop>(
     Ok(places)
 }
 
-// The least place without a value.
+// Returns the least index of an empty slot.
 fn first_gap<T>(places: &[Option<T>]) -> Option<usize>
     ensures some { IfSome result (IsFirstGap places.now) }
     ensures none { IfNone result (All IsSome places.now) }

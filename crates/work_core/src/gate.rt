@@ -1,14 +1,14 @@
-//! What is called round each run of a pair.
+//! Calls before and after each run of a pair.
 
 use crate::name::PairName;
 
-/// What each worker calls before it runs a pair and after it, from its own thread. A gate can count the runs
-/// or hold one up; it can't change a value.
+/// Called by each worker, on the worker's thread, before and after it runs a pair. A gate can count the runs or delay
+/// one; it can't change a value.
 pub trait Gate: Sync {
     /// Called before the pair is run.
     fn enter(&self, pair: PairName);
 
-    /// Called after the pair was run, also where its run was refused memory.
+    /// Called after the pair was run, even if the run was refused memory.
     fn leave(&self, pair: PairName);
 }
 

@@ -1,4 +1,4 @@
-//! Jobs: what is run pair by pair.
+//! Jobs, which are run pair by pair.
 
 ghost use Rattle.std.specs.Prelude.{◌≡◌, ℕ, ◌<◌, ◌≤◌, ◌↔◌, Option, Some, IfOk, IsTrue, IsSome};
 ghost use Rattle.work_core.specs.Limits.{pair_limit};
@@ -7,15 +7,14 @@ ghost use Rattle.work_core.specs.declared.name.PairName.{PairName};
 use crate::name::PairName;
 use std::alloc::{AllocError, Global};
 
-/// A job: a numbered list of pairs, at most 2^40, each of which can be run by itself.
+/// A job: a numbered list of pairs, at most 2^40, each of which can be run independently.
 ///
-/// The value of a pair is a value of its inputs, by a definition that is the job's own. Only `run` takes
-/// memory.
+/// The job defines which values its pairs may have, by their inputs. Only `run` allocates.
 pub trait PairWork: Sync {
     /// The value of a pair.
     type Out: Send + Drop;
 
-    // How many pairs the job has, and which name has each number.
+    // How many pairs the job has, and the name with each number.
     ghost pairs: { Self → ℕ };
 
     ghost name_of: { Self → ℕ → PairName };
@@ -31,25 +30,25 @@ pub trait PairWork: Sync {
     // The definition: this is a value of a pair with these inputs.
     ghost IsValue: { Inputs → Self.Out → Type 0 };
 
-    /// How many pairs there are.
+    /// Returns the number of pairs.
     fn count(&self) -> u64
         ensures { result ≡ pairs self.now };
 
-    /// The name of the pair with that number, from 0 on.
+    /// Returns the name of the pair with number `i`, counted from 0.
     fn name(&self, i: u64) -> PairName
         requires { i < pairs self.now }
         ensures { result ≡ name_of self.now i };
 
-    /// The number of the pair with that name; None exactly where the job has no such pair.
+    /// Returns the number of the pair with that name, or `None` if the job has no such pair.
     fn place(&self, pair: PairName) -> Option<u64>
         ensures { result ≡ place_of self.now pair };
 
-    /// The value of a pair that the job has.
+    /// Runs a pair of the job, and returns its value.
     fn run(&self, alloc: Global, pair: PairName) -> Result<Self::Out, AllocError>
         requires { IsSome (place_of self.now pair) }
         ensures { IfOk result (IsValue (inputs_of self.now pair)) };
 
-    /// Whether both jobs have the pair, with equal inputs.
+    /// Returns whether both jobs have the pair, with equal inputs.
     fn same(&self, other: &Self, pair: PairName) -> bool
         ensures { IsTrue result
             ↔ (IsSome (place_of self.now pair) × IsSome (place_of other.now pair)
@@ -57,7 +56,7 @@ pub trait PairWork: Sync {
 
     ghost few: { (w : Self) → pairs w ≤ pair_limit };
 
-    // Names and numbers go with one another, both ways.
+    // Names and numbers correspond one to one.
     ghost placed: { (w : Self) (i : ℕ) → i < pairs w → place_of w (name_of w i) ≡ Some i };
 
     ghost named: { (w : Self) (p : PairName) (i : ℕ) → place_of w p ≡ Some i → (i < pairs w)

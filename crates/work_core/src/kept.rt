@@ -6,7 +6,7 @@ ghost use Rattle.work_core.specs.Workers.{KeepsValue};
 use crate::numbered::Numbered;
 use std::alloc::{AllocError, Global};
 
-/// The values of a worker: at the places of their pairs, where it has these, else in a list, by number.
+/// The values of a worker: in the slots of their pairs, if it has slots, otherwise in a list, with their numbers.
 #[derive(Drop)]
 pub(crate) struct KeptValues<T> {
     pub places: Vec<Option<T>>,
@@ -14,7 +14,7 @@ pub(crate) struct KeptValues<T> {
 }
 
 impl<T: Drop> KeptValues<T> {
-    /// Nothing yet, with these places, which may be none.
+    /// Returns an empty collection of values with these slots; it may have no slots.
     pub(crate) fn with_places(alloc: Global, places: Vec<Option<T>>) -> KeptValues<T>
         ensures { (result.places.items ≡ places.items) × (result.values.items ≡ []) }
     {
@@ -24,7 +24,7 @@ impl<T: Drop> KeptValues<T> {
         }
     }
 
-    /// Keeps one more value, at its place if there is one.
+    /// Keeps one value more, in its slot if there is one.
     pub(crate) fn put(&mut self, number: u64, value: T) -> Result<(), AllocError>
         ensures { OnOk result (KeepsValue number value self.old self.new) }
     {

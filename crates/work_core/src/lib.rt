@@ -1,11 +1,11 @@
 #![tactic(auto)]
 
-//! Runs the pairs of a job on 1 to 64 workers, each pair once, and gives their values by pair number.
+//! Runs the pairs of a job on 1 to 64 workers, and returns their values by pair number.
 //!
-//! A job (`PairWork`) is a numbered list of pairs, each of which can be run by itself. The workers draw the
-//! numbers of pairs from one word, so none waits for another, and whichever is free takes the next pair. A
-//! `Piece` is a value that can't be taken for that of another pair or another job, and a `Collector` puts
-//! pieces in order, whatever the order in which they come.
+//! A job (`PairWork`) is a numbered list of pairs, each of which can be run independently. The workers draw the numbers
+//! of pairs from an atomic counter, so no worker waits for another, and a free worker takes the next pair. A `Piece` is
+//! a value that can't be mistaken for a value of another pair or another job. A `Collector` puts pieces in order,
+//! whatever the order in which they arrive.
 
 mod claim_view;
 mod claims;

@@ -1,6 +1,6 @@
 //! Names of pairs.
 
-/// The name of a pair in its job: two numbers, whose meaning is the job's.
+/// The name of a pair in its job: two numbers, whose meaning the job defines.
 #[derive(Clone, Copy, PartialEq, Eq, Debug)]
 pub struct PairName {
     /// The number of the pair's left half.

@@ -24,7 +24,7 @@ impl<T> Model for Outs<T> {
 }
 
 impl<T> Outs<T> {
-    // The values at these places, each of which has one.
+    // Returns the values in these slots. Each slot must have a value.
     pub(crate) fn at_places(places: Vec<Option<T>>) -> Outs<T>
         requires { All IsSome places.items }
         ensures { places.items ≡ map Some result }
@@ -32,21 +32,21 @@ impl<T> Outs<T> {
         Outs { places }
     }
 
-    /// How many values there are.
+    /// Returns the number of values.
     pub fn len(&self) -> usize
         ensures { result ≡ length self.now }
     {
         self.places.len()
     }
 
-    /// Whether there are none.
+    /// Returns whether there are no values.
     pub fn is_empty(&self) -> bool
         ensures { result ≡ (length self.now == 0) }
     {
         self.places.is_empty()
     }
 
-    /// The value of the pair with that number, from 0 on; None exactly past the last.
+    /// Returns the value of the pair with number `i`, counted from 0, or `None` past the last.
     pub fn get(&self, i: usize) -> Option<&T>
         ensures { option_copied result ≡ slice_get self.now i }
     {
@@ -59,7 +59,7 @@ impl<T> Outs<T> {
 }
 
 impl<T: Drop> Outs<T> {
-    /// The values alone, by pair number.
+    /// Returns the values only, by pair number.
     pub fn into_vec(self, alloc: Global) -> Result<Vec<T>, AllocError>
         ensures { IfOk result (λ values. values.items ≡ self) }
     {

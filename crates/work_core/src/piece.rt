@@ -1,4 +1,4 @@
-//! Pieces: values that know which pair of which job they are of.
+//! Pieces: values whose type records their pair and their job.
 
 ghost use Rattle.std.specs.Prelude.{◌≡◌, IfOk, IsSome};
 ghost use Rattle.work_core.specs.declared.name.PairName.{PairName};
@@ -7,7 +7,7 @@ use crate::job::PairWork;
 use crate::name::PairName;
 use std::alloc::{AllocError, Global};
 
-/// A value of its own pair of its own job, which its type keeps.
+/// A value of one pair of one job; the type records both.
 #[derive(Drop)]
 pub struct Piece<'j, W: PairWork> {
     /// The job.
@@ -30,14 +30,14 @@ impl<'j, W: PairWork> Piece<'j, W> {
         Ok(Piece { job, name, out })
     }
 
-    /// The name of its pair.
+    /// Returns the name of its pair.
     pub fn name(&self) -> PairName
         ensures { result ≡ self.now.name }
     {
         self.name
     }
 
-    /// Its job.
+    /// Returns its job.
     pub fn job(&self) -> &'j W
         ensures { result.now ≡ self.now.job.now }
     {

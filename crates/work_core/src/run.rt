@@ -1,4 +1,4 @@
-//! Many workers on one job.
+//! Several workers on one job.
 
 ghost use Rattle.std.specs.Prelude.{◌≡◌, ℕ, ◌+◌, ◌<◌, ◌≤◌, IfOk, All, IsSome, None, [], length, min, max, replicate, vec_len};
 ghost use Rattle.work_core.specs.Claims.{all_parts, first_view};
@@ -23,7 +23,7 @@ use std::thread::Threads;
 /// The most workers of a run.
 pub const WORKER_LIMIT: u32 = 64;
 
-// The workers, each with a seat of its own, the last with the places.
+// Makes the workers, each with a seat of its own; the last one has the slots.
 fn deal<T: Drop>(
     alloc: Global,
     claims: &Claims,
@@ -58,7 +58,7 @@ fn deal<T: Drop>(
     Ok(team)
 }
 
-// Puts each value at its place.
+// Stores each value in its slot.
 fn place_all<W: PairWork>(job: &W, places: &mut Vec<Option<W::Out>>, values: Vec<Numbered<W::Out>>)
     requires are { ArePlaces W.PairWork job.now places.old.items }
     requires values { All (IsOfItsPair W.PairWork job.now) values.items }
@@ -73,7 +73,7 @@ fn place_all<W: PairWork>(job: &W, places: &mut Vec<Option<W::Out>>, values: Vec
     }
 }
 
-// The values that the workers made, each at its place, unless a run was refused.
+// Returns the values that the workers made, each in its slot, or `AllocError` if a run was refused.
 fn gather<W: PairWork>(
     job: &W,
     claims: Claims,
@@ -101,8 +101,8 @@ fn gather<W: PairWork>(
     Ok(places)
 }
 
-// As many workers as are asked for, but no more than pairs, and at least one: a thread takes far longer to
-// start than a small pair to run.
+// Returns the requested number of workers, but at most one for each pair, and at least one: starting a thread takes far
+// longer than running a small pair.
 fn workers_for(count: u64, workers: u32) -> u32
     requires { 0 < workers }
     ensures { result ≡ max 1 (min count workers) }
@@ -116,11 +116,16 @@ fn workers_for(count: u64, workers: u32) -> u32
     }
 }
 
-/// The values of all pairs by pair number, run by 1 to 64 workers, of which the calling thread is one.
+/// Runs all pairs on 1 to 64 workers, one of which is the calling thread, and returns their values by pair number.
 ///
-/// Each pair is run once, between the calls of the gate. No more threads are started than there are pairs, and
-/// one that can't be started is left out. Nothing waits but for threads to end, so the call returns whenever
-/// the job's runs and the gate do. (The clauses speak of the values; tests show how often pairs are run.)
+/// Each pair is run once, between two calls of the gate; after a run was refused, its worker runs no more pairs. No
+/// more threads are started than there are pairs. If a thread can't be started, its worker runs on another thread.
+/// Nothing waits except for threads to end, so the call returns if the job's runs and the gate do. (The clauses are
+/// about the values; tests show how often pairs are run.)
+///
+/// # Errors
+///
+/// `AllocError` if a run or an allocation is refused.
 pub fn run_pairs<R: Threads + Sync, W: PairWork, G: Gate>(
     rt: &R,
     alloc: Global,

@@ -1,4 +1,4 @@
-//! Stretches: pairs of a job that follow one another by number, as a job of their own.
+//! Stretches: consecutive pairs of a job, as a job of their own.
 
 ghost use Rattle.std.specs.Prelude.{◌≡◌, ◌+◌, ◌<◌, ◌≤◌, IfOk};
 ghost use Rattle.work_core.specs.Jobs.{AreValues};
@@ -13,24 +13,25 @@ use crate::run::run_pairs;
 use std::alloc::{AllocError, Global};
 use std::thread::Threads;
 
-/// The most pairs that a query runs before it takes what they gave, so that no more values are held at once.
+/// The most pairs that a query runs before it processes their values, which limits how many values are in memory at
+/// once.
 pub const STRETCH_PAIRS: u64 = 65_536;
 
-/// The pairs of a job from one number on, so many of them, as a job: the pair with number i is the job's with
-/// number `first + i`, with its name, its inputs and its value.
+/// The `count` pairs of a job from number `first` on, as a job. Its pair with number `i` is the job's pair with number
+/// `first + i`, with the same name, inputs and value.
 #[derive(Drop)]
 pub struct Stretch<'a, W: PairWork> {
     /// The job.
     pub job: &'a W,
     /// The number in the job of the first pair.
     pub first: u64,
-    /// How many pairs there are.
+    /// The number of pairs.
     pub count: u64,
     pub ghost inside: { first + count ≤ W.pairs job.now },
 }
 
 impl<'a, W: PairWork> Stretch<'a, W> {
-    /// The `count` pairs of the job from number `first` on.
+    /// Returns the `count` pairs of the job from number `first` on.
     pub fn new(job: &'a W, first: u64, count: u64) -> Stretch<'a, W>
         requires { first + count ≤ W.pairs job.now }
         ensures { (result.job.now ≡ job.entry.now) × (result.first ≡ first)
@@ -39,7 +40,7 @@ impl<'a, W: PairWork> Stretch<'a, W> {
         Stretch { job, first, count }
     }
 
-    /// A law: the values of the stretch are those of the job's pairs from number `first` on.
+    /// A law: the values of the stretch are the values of the job's pairs from number `first` on.
     pub fn has_values_of_job(&self, outs: &Outs<W::Out>)
         ensures { AreValues ⟦<Stretch<'a, W> as PairWork>⟧ self.now outs.now
             → AreValuesFrom W.PairWork self.now.job.now self.now.first self.now.count outs.now }
@@ -100,7 +101,8 @@ impl<'a, W: PairWork> PairWork for Stretch<'a, W> {
     }
 }
 
-/// The values of the `count` pairs of the job from number `first` on, run as [`run_pairs`] runs all of them.
+/// Runs the `count` pairs of the job from number `first` on, as [`run_pairs`] runs all of them, and returns their
+/// values.
 pub fn run_stretch<R: Threads + Sync, W: PairWork, G: Gate>(
     crew: &Crew<'_, R, G>,
     job: &W,

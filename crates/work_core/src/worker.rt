@@ -1,4 +1,4 @@
-//! One worker: it draws the number of a pair, runs that pair, and draws again.
+//! A worker: it draws the number of a pair, runs that pair, and draws again.
 
 ghost use Rattle.std.specs.Prelude.{◌<◌, length, IfOk};
 ghost use Rattle.work_core.specs.Workers.{IsFreshWorker, IsRun, IsRunAfter, IsWorkerAnswer};
@@ -16,14 +16,14 @@ pub(crate) struct Worker<T> {
     pub kept: KeptValues<T>,
 }
 
-/// What a worker hands back: what it knows of the draws, and its values, if no run was refused memory.
+/// A worker's result: what it knows of the draws, and its values, if no run was refused memory.
 #[derive(Drop)]
 pub(crate) struct WorkerAnswer<T> {
     pub seat: ClaimSeat,
     pub kept: Result<KeptValues<T>, AllocError>,
 }
 
-// Runs the pair of that number, between the calls of its gate, and keeps its value with the others.
+// Runs the pair with that number, between two calls of the gate, and keeps its value with the others.
 fn run_pair<W: PairWork, G: Gate>(
     alloc: Global,
     job: &W,
@@ -42,7 +42,7 @@ fn run_pair<W: PairWork, G: Gate>(
     Ok(kept)
 }
 
-// Runs one more pair. Where a run was refused before there are no values to keep its value with, so it isn't run.
+// Runs one pair more. After a refused run there are no values to keep its value with, so it isn't run.
 fn run_next<W: PairWork, G: Gate>(
     alloc: Global,
     job: &W,
@@ -59,8 +59,8 @@ fn run_next<W: PairWork, G: Gate>(
     }
 }
 
-/// Draws numbers, and runs their pairs, until a number is past the pairs. After a refused run it goes on
-/// drawing without running, so that all pairs are drawn.
+/// Draws numbers and runs their pairs, until a number is past the last pair. After a refused run it continues to draw
+/// without running, so that all pairs are drawn.
 pub(crate) fn work<W: PairWork, G: Gate>(
     alloc: Global,
     job: &W,

@@ -1,4 +1,4 @@
-//! Pieces that come in any order, twice, and from another job.
+//! Pieces that arrive in any order, twice, and from another job.
 
 use crate::sums::{Sums, check_values};
 use std::alloc::Global;
@@ -6,7 +6,7 @@ use std::process::Abort;
 use std::test::Fail;
 use work_core::{Collector, PairName, PairWork, Piece, Refused, Why};
 
-// The piece of a pair that the job has.
+// Returns the piece of a pair that the job has.
 fn piece<'j>(
     rt: &(impl Abort + Alloc<A = Global>),
     job: &'j Sums<'j>,
@@ -18,7 +18,7 @@ fn piece<'j>(
     Ok(Piece::make(rt.alloc(), job, name)?)
 }
 
-// A piece that must be refused, for this reason, and comes back with its name.
+// Checks that a piece is refused, for this reason, and is returned with its name.
 fn check_refusal<'j>(
     rt: &impl Abort,
     answer: Result<(), Refused<'j, Sums<'j>>>,
@@ -91,7 +91,7 @@ fn refuses_strangers_and_doubles(rt: HostRuntime) -> Result<(), Fail> {
     collect(&rt, &job, &changed)
 }
 
-// Takes a piece of another job, whose pair has equal inputs, and one of a pair that this job doesn't have.
+// Accepts a piece of another job, whose pair has equal inputs, and refuses one of a pair that this job doesn't have.
 fn take_from_another<'j>(
     rt: &(impl Abort + Alloc<A = Global>),
     job: &'j Sums<'j>,

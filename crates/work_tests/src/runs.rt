@@ -1,4 +1,4 @@
-//! Runs of jobs on some workers: their values, and which pairs the gate saw.
+//! Runs of jobs on some workers: their values, and the pairs that the gate saw.
 
 ghost use Rattle.std.specs.Prelude.{◌<◌, length};
 
@@ -10,12 +10,12 @@ use std::test::Fail;
 use std::thread::Threads;
 use work_core::{Gate, OpenGate, PairName, run_pairs};
 
-// Seven numbers, each a pair with the number 10.
+// Seven numbers, each of which makes a pair with the number 10.
 pub(crate) const SEVEN: &[u32] = &[1, 2, 3, 4, 5, 6, 7];
 
 pub(crate) const TEN: &[u32] = &[10];
 
-// Counts how often it was entered and left: `entered` and `left` by the pair's left half.
+// Counts how often it was entered and left, by the pair's left half.
 #[derive(Drop)]
 struct Counts {
     entered: [AtomicU64; 7],
@@ -40,7 +40,7 @@ fn count(counts: &[AtomicU64; 7], pair: PairName) {
     }
 }
 
-// How often each pair was counted.
+// Checks how often each pair was counted.
 fn check_counts(rt: &impl Abort, counts: &[AtomicU64; 7], want: [u64; 7]) {
     for (count, want) in counts.iter().zip(want) {
         assert_eq!(rt; count.load(Ordering::SeqCst), want);
@@ -57,7 +57,7 @@ impl Gate for Counts {
     }
 }
 
-// Holds one pair until so many others have left, for a while.
+// Delays one pair until `others` other pairs have left, for a limited time.
 #[derive(Drop)]
 struct Holds {
     held: PairName,
@@ -120,7 +120,7 @@ fn numbers_pairs_row_by_row(rt: HostRuntime) -> Result<(), Fail> {
     Ok(())
 }
 
-// The values that a job gives by two workers, of which one is held at a pair until all others are left.
+// Checks the values of a job on two workers, one of which is delayed at a pair until all others have left.
 fn check_held(
     rt: &(impl Abort + Alloc<A = Global> + Threads + Sync),
     job: &Sums<'_>,
@@ -145,7 +145,7 @@ fn check_held(
     Ok(())
 }
 
-// A worker that is held up keeps no other pair from being run, so pairs have no worker of their own.
+// A delayed worker keeps no other pair from being run, so pairs have no fixed worker.
 #[test]
 fn any_pair_may_wait_for_the_others(rt: HostRuntime) -> Result<(), Fail> {
     let job = Sums {
@@ -159,7 +159,7 @@ fn any_pair_may_wait_for_the_others(rt: HostRuntime) -> Result<(), Fail> {
     Ok(())
 }
 
-// With as many workers as pairs, each of two pairs is run while the other is held.
+// With as many workers as pairs, each of two pairs is run while the other is delayed.
 #[test]
 fn of_two_pairs_either_may_wait_for_the_other(rt: HostRuntime) -> Result<(), Fail> {
     let job = Sums {

@@ -10,8 +10,8 @@ use std::alloc::{AllocError, Global};
 use std::process::Abort;
 use work_core::{Outs, PairName, PairWork};
 
-/// The sums of a number of the left side and one of the right, row by row. Where `refused` names a pair, its
-/// run is refused memory.
+/// The sums of a number of the left side and one of the right, row by row. The run of the pair named by `refused`, if
+/// there is one, is refused memory.
 #[derive(Drop)]
 pub struct Sums<'a> {
     pub left: &'a [u32],
@@ -82,7 +82,7 @@ impl<'a> PairWork for Sums<'a> {
     }
 }
 
-/// These values by number, and no more.
+/// Checks that the values are exactly these, by number.
 pub fn check_values(rt: &impl Abort, outs: &Outs<u64>, want: &[u64]) {
     assert_eq!(rt; outs.len(), want.len());
     for (i, value) in want.iter().enumerate() {

@@ -1,4 +1,4 @@
-//! A job that sees whether each of its runs stands between the two calls of its gate.
+//! A job that checks whether each of its runs is between the two calls of its gate.
 
 ghost use Rattle.std.specs.Prelude.{◌≡◌, ℕ, ◌+◌, ◌*◌, length, slice_index};
 ghost use Rattle.grid_core.specs.Grid.{grid_name, grid_place};
@@ -12,14 +12,14 @@ use std::sync::atomic::{AtomicU64, Ordering};
 use std::test::Fail;
 use work_core::{Gate, PairName, PairWork, run_pairs};
 
-// How far a pair has come: from 0 on it is entered, run and left.
+// The stage of a pair: after 0 it is entered, run and left.
 const ENTERED: u64 = 1;
 
 const RUN: u64 = 2;
 
 const LEFT: u64 = 3;
 
-// How far each pair has come, by its left half. A step that doesn't follow the one before it has failed.
+// The stage of each pair, by its left half. A step fails if it doesn't follow the one before.
 #[derive(Drop)]
 struct Stages {
     stages: [AtomicU64; 7],
@@ -34,7 +34,7 @@ impl Stages {
         }
     }
 
-    // Takes a pair to a stage, where it has come to the one before.
+    // Moves a pair to a stage. The step fails unless the pair was at the stage before.
     fn step(&self, pair: PairName, stage: u64) {
         let before = match self.stages.get(pair.left as usize) {
             Some(place) => place.swap(stage, Ordering::SeqCst),
@@ -45,7 +45,7 @@ impl Stages {
         }
     }
 
-    // Whether all pairs are left, and no step has failed.
+    // Returns whether all pairs have left, and no step has failed.
     fn are_left(&self) -> bool {
         self.failed.load(Ordering::SeqCst) == 0
             && self
@@ -65,7 +65,7 @@ impl Gate for Stages {
     }
 }
 
-// Sums, each of whose runs is a step of its pair.
+// Sums whose runs are steps of their pairs.
 #[derive(Drop)]
 struct Watched<'a> {
     sums: Sums<'a>,

@@ -1,4 +1,4 @@
--- The entries so far, those of the range.
+-- The entries of the rows before the index that are within the range.
 use Rattle.std.proofs.Common.{Some, take}
 use Rattle.agg_core.specs.Entries.{AreEntries, value_at_place}
 use Rattle.agg_core.specs.KeyRanges.{rows_in_range}

@@ -19,7 +19,7 @@ at-row-requires g c =
     (subst (λ (e : Entry g.row.K.Denot). e.row < length (g.S.GroupColumn.rows c.args.column)) (sym c.entry-item.is)
     (c.requires.there c.loop-entry.entry-index entry c.loop-entry-test.true))
 
--- the row at an entry's place is the entry's
+-- the row at an entry's index is the entry's row
 row_is : {K : Type 0} (source listed : List Row) (entry : Entry K) (row : Row) → listed ≡ source
     → slice_get listed entry.row ≡ Some row → entry_row source entry ≡ row
 row_is source listed entry row all at =

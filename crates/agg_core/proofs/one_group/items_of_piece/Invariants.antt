@@ -1,4 +1,4 @@
--- The rows so far are items.
+-- The rows from `start` to `i` are items.
 use Rattle.std.proofs.Common.{◌≡◌, ◌≤◌, drop, map, take}
 use Rattle.agg_core.specs.Grouping.{amount_item}
 use Rattle.agg_core.specs.Entries.{amount_at}

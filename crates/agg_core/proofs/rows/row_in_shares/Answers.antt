@@ -5,7 +5,7 @@ use Rattle.agg_core.proofs.GetLemmas.{row_first, row_later}
 use Rattle.agg_core.proofs.rows.row_in_shares.Goals as goal
 use Rattle.agg_core.proofs.rows.row_in_shares.Goals.{After-len-len}
 
--- the share is the first of those that are left
+-- the share is the first of the remaining ones
 left_are : (c : After-len-len)
     → drop c.loop-share.share-index c.args.shares.now
     ≡ c.share-item.result ∷ drop (c.loop-share.share-index + 1) c.args.shares.now

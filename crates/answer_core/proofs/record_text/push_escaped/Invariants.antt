@@ -1,4 +1,4 @@
--- The bytes so far are there.
+-- The bytes already visited are appended.
 use Rattle.std.proofs.Common.{◌≡◌, ◌++◌, take}
 use Rattle.csv.specs.Writing.{escaped}
 use Rattle.answer_core.specs.RecordBytes.{answer_writer}

@@ -1,4 +1,4 @@
--- The rows so far have no values.
+-- The rows already visited have no values.
 use Rattle.std.proofs.Common.{◌≡◌, [], All, take}
 use Rattle.row_core.specs.declared.row.Row.{Row}
 use Rattle.answer_core.proofs.row_values.are_bare.Given as goal

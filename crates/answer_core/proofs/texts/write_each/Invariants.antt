@@ -1,4 +1,4 @@
--- The texts so far are written.
+-- The texts already visited are written.
 use Rattle.std.proofs.Common.{◌+◌, ◌≤◌, take}
 use Rattle.std.specs.Io.KnownBytes.{Appends}
 use Rattle.list_core.specs.Chunks.{all_in}

@@ -15,7 +15,7 @@ use Rattle.anti_core.proofs.class_rows.rows_of_range.Goals as goal
 use Rattle.anti_core.proofs.class_rows.rows_of_range.Goals.{After-deref-2}
 use Rattle.anti_core.proofs.class_rows.rows_of_range.Given.{Over}
 
--- the left items by class are those of the share
+-- the left items by class are a permutation of the range's items
 moved : (g : Over) (c : After-deref-2 g)
     → IsPermutation (items_in_range c.args.range c.args.left.now.rows.now c.args.left.now.classes.now) c.deref.result.now
 moved g c = rw c.deref.ensures.value c.in_ok-lefts.ensures.permutation

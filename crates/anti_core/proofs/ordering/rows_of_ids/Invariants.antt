@@ -4,7 +4,7 @@ use Rattle.share_core.specs.Ranges.{has}
 use Rattle.std.specs.Ordering.{nat_cmp}
 use Rattle.anti_core.proofs.ordering.rows_of_ids.Given as goal
 
--- those of the range in the lists so far are there
+-- the range's rows of the lists before the index
 abbrev pub invariant-loop-list : goal.invariant-loop-list
 invariant-loop-list l =
     l.rows.items ≡ filter (λ row. has nat_cmp l.ids row.id) (all_in (take l.list-index l.lists))

@@ -9,7 +9,7 @@ use Rattle.anti_core.proofs.side_items.items_of_sides.Goals as goal
 use Rattle.anti_core.proofs.side_items.items_of_sides.Goals.{In_ok-lefts-2}
 use Rattle.anti_core.proofs.side_items.items_of_sides.Given.{Over}
 
--- what the second thread answers of the left items
+-- the second thread's result for the left items
 lefts_are : (g : Over) (c : In_ok-lefts-2 g)
     → IsPermutation (items_in_range c.args.range c.args.left.now.rows.now c.args.left.now.classes.now)
     c.in_ok-lefts-2.lefts.items

@@ -1,4 +1,4 @@
--- the items in front are united, and those from i on are still to come
+-- the items of the prefix are coalesced, and the items from `i` on are still to come
 use Rattle.std.proofs.Common.{◌≡◌, ◌<◌, ◌≤◌, drop, length, take}
 use Rattle.anti_core.proofs.UnitedLemmas.{IsUniting}
 use Rattle.anti_core.proofs.united.unite.Given as goal

@@ -8,7 +8,7 @@ use Rattle.book_core.specs.Limits.{commit_limit}
 use Rattle.book_core.proofs.Shown.{shown-current}
 use Rattle.book_core.proofs.apply.is_full_by_parts.Goals as goal
 
--- where all that there can be has room
+-- if the upper bound doesn't exceed the limit
 room : (n used parts : ℕ) → n < commit_limit → used + parts ≤ version_limit
     → (leb commit_limit n || ltb version_limit (used + parts)) ≡ false
 room n used parts h k = grind (arith, nat_tests)

@@ -8,7 +8,7 @@ use Rattle.book_core.specs.Rows.{set_at}
 use Rattle.book_core.specs.State.{pair_tests}
 use Rattle.book_core.proofs.bind.bind_settings.Given as goal
 
--- the pairs that are left decide, and those so far are bound
+-- the first pairs are bound, and the remaining ones decide
 abbrev pub invariant-loop-pair : goal.invariant-loop-pair
 invariant-loop-pair l = record {
   decides : first_of (flat_map (pair_tests l.schema) (drop l.pair-index l.sets))

@@ -2,7 +2,7 @@ use Rattle.std.proofs.Common.{◌≡◌, ◌+◌, length}
 use Rattle.store_core.specs.Passes.{IsPassOf, calls_left, mine}
 use Rattle.callers.proofs.loader.load.Given as goal
 
--- the table and the rows so far took a call and a commit each
+-- the table and the first rows took a call and a commit each
 abbrev pub invariant-loop-number : goal.invariant-loop-number
 invariant-loop-number g l = record {
   pass : IsPassOf l.store l.pass;

@@ -23,7 +23,7 @@ returns-then-marks-place c =
       first = c.loop-place.invariant.distinct;
     }
 
--- the place was not there before
+-- the index wasn't among the earlier ones
 new : (c : Else-marks-place)
     → Contains (take c.loop-place.place-index c.args.places.now) (get_or c.args.places.now c.loop-place.place-index 0)
     → ⊥

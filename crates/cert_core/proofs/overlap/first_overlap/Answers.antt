@@ -11,7 +11,7 @@ use Rattle.cert_core.proofs.PlacesLemmas.{ArePlaces-part, IsDistinct-part}
 use Rattle.cert_core.proofs.overlap.first_overlap.Goals as goal
 use Rattle.cert_core.proofs.overlap.first_overlap.Goals.{After-part}
 
--- the part's places end within all of them
+-- the part's indices end within all of them
 ends : (c : After-part) → c.loop-number.start + length c.part.result.now ≤ length c.args.places.now
 ends c =
     let size : length (map (id_at c.args.items.now) c.args.places.now) ≡ length c.args.places.now =

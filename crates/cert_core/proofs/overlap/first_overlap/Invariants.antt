@@ -4,7 +4,7 @@ use Rattle.cert_core.specs.Claim.{ids_of}
 use Rattle.cert_core.specs.Verdict.{HasNoOverlap}
 use Rattle.cert_core.proofs.overlap.first_overlap.Given as goal
 
--- no part so far has an overlap, and the next part's places start behind theirs
+-- no part before `number` has an overlap, and the next part's indices start after theirs
 abbrev pub invariant-loop-number : goal.invariant-loop-number
 invariant-loop-number l = record {
   start : l.start ≡ length (ids_of (take l.number l.claim));

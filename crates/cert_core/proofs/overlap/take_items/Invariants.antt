@@ -3,7 +3,7 @@ use Rattle.std.specs.Prelude.{All, Contains, map}
 use Rattle.cert_core.specs.Places.{id_at}
 use Rattle.cert_core.proofs.overlap.take_items.Given as goal
 
--- the items at the places so far
+-- the items at the indices before `place-index`
 abbrev pub invariant-loop-place : goal.invariant-loop-place
 invariant-loop-place l = record {
   members : All (Contains l.items) l.taken.items;

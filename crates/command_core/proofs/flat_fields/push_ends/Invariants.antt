@@ -1,4 +1,4 @@
--- Where the fields so far end.
+-- `ends` has the ends of the fields already pushed.
 use Rattle.std.proofs.Common.{◌≡◌, ◌+◌, ◌++◌, length, take}
 use Rattle.csv.specs.Records.{fields_of}
 use Rattle.command_core.specs.Flat.{ends_from, size_of}

@@ -1,4 +1,4 @@
--- The columns so far have names.
+-- The columns already tested have names.
 use Rattle.std.proofs.Common.{◌≡◌, ◌*◌, drop}
 use Rattle.command_core.specs.Lines.{fields_in}
 use Rattle.command_core.specs.Pairs.{all_columns, pairs_of}

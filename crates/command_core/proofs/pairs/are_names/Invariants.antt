@@ -1,4 +1,4 @@
--- The fields so far are names.
+-- The fields already tested are names.
 use Rattle.std.proofs.Common.{◌≡◌, drop}
 use Rattle.std.specs.List.{list_all}
 use Rattle.row_core.specs.Name.{is_name}

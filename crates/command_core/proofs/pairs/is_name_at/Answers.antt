@@ -5,7 +5,7 @@ use Rattle.row_core.specs.Name.{is_name, name_of}
 use Rattle.command_core.proofs.NamedColumns.{none-named, some-named}
 use Rattle.command_core.proofs.pairs.is_name_at.Goals as goal
 
--- a text is parsed where it is a name
+-- A text is parsed if and only if it is a name.
 parsed : {E : Type 0} (text : List ℕ) (r : Result (List ℕ) E) → result_ok r ≡ name_of text → is_ok r ≡ is_name text
 parsed text (Ok name) e = sym ((some-named text name e).0)
 parsed text (Err why) e = sym (none-named text e)

@@ -1,4 +1,4 @@
--- the last field of the batches so far
+-- `last` is the last field of the batches already visited.
 use Rattle.std.proofs.Common.{◌≡◌, take}
 use Rattle.std.specs.Prelude.{option_map}
 use Rattle.command_core.specs.Seams.{joined, last}

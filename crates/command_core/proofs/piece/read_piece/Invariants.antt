@@ -1,4 +1,4 @@
--- The records so far are those that the reader took from the script.
+-- `records` has the records that the reader took from the piece.
 use Rattle.std.proofs.Common.{◌≡◌, ◌+◌, ◌*◌, ℕ, List, Some, length, cond, true}
 use Rattle.std.specs.Prelude.{option_map, unwrap_or}
 use Rattle.csv.specs.Machine.{ends_at_end}

@@ -1,4 +1,4 @@
--- No record so far ends the block.
+-- No record already tested ends the block.
 use Rattle.std.proofs.Common.{take}
 use Rattle.command_core.specs.Lines.{lines_in}
 use Rattle.command_core.specs.Meaning.{IsBody}

@@ -1,4 +1,4 @@
--- the first batches are given back, of which each had passed records alone
+-- The removed batches had consumed records only.
 use Rattle.std.proofs.Common.{◌≡◌, ◌≤◌, drop, length}
 use Rattle.command_core.specs.Seams.{joined}
 use Rattle.command_core.proofs.records.give_back.Given as goal

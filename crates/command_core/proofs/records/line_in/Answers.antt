@@ -4,7 +4,7 @@ use Rattle.command_core.proofs.JoinedLemmas.{got_first, got_later}
 use Rattle.command_core.proofs.records.line_in.Goals as goal
 use Rattle.command_core.proofs.records.line_in.Goals.{After-len}
 
--- the batch is the first of those that are left
+-- The batch is the first of the remaining batches.
 left_are : (c : After-len)
     → drop c.loop-batch.batch-index c.args.batches.now
     ≡ c.batch-item.result ∷ drop (c.loop-batch.batch-index + 1) c.args.batches.now

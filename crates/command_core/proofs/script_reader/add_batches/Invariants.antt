@@ -1,4 +1,4 @@
--- the records of the pieces so far
+-- The batches hold the records of the pieces already moved.
 use Rattle.std.proofs.Common.{◌≡◌, ◌++◌}
 use Rattle.command_core.specs.Seams.{joined}
 use Rattle.command_core.proofs.script_reader.add_batches.Given as goal

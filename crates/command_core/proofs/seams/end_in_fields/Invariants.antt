@@ -1,4 +1,4 @@
--- none of the lists so far ends so
+-- No list already tested ends with a line feed.
 use Rattle.std.proofs.Common.{take}
 use Rattle.command_core.specs.Seams.{EndsInField, joined}
 use Rattle.command_core.proofs.seams.end_in_fields.Given as goal

@@ -2,7 +2,7 @@ use Rattle.std.proofs.Common.{◌≡◌, ◌≤◌, ◌+◌, ◌++◌, length, m
 use Rattle.command_core.specs.Seams.{joined}
 use Rattle.command_core.proofs.seams.pieces_of.Given as goal
 
--- the pieces so far, and the rest, which is cut into no more than those that are left
+-- The pieces already cut and the rest are the script. With the pieces still to be cut there are at most `count`.
 abbrev pub invariant-loop-left : goal.invariant-loop-left
 invariant-loop-left l =
     (joined (map (λ p. p.now) l.pieces.items) ++ l.rest ≡ l.fn.script)

@@ -1,4 +1,4 @@
--- The records so far are some commands'.
+-- The records before index `at` belong to some commands.
 use Rattle.std.proofs.Common.{◌-◌, ◌≤◌, length, take}
 use Rattle.command_core.specs.Lines.{lines_in}
 use Rattle.command_core.proofs.Blocks.{HaveMembers}

@@ -1,4 +1,4 @@
--- No command so far is a load.
+-- No command before index `at` is a load.
 use Rattle.std.proofs.Common.{◌-◌, ◌≤◌, length}
 use Rattle.command_core.specs.Lines.{lines_in}
 use Rattle.command_core.proofs.FirstLoad.{IsSearched}

@@ -6,7 +6,7 @@ use Rattle.command_core.specs.TableCommand.{raw_of}
 use Rattle.command_core.proofs.NamedColumns.{all_named-fails, all_named-more, none-named, raw_of-more, some-named}
 use Rattle.command_core.proofs.table_command.name_columns.Goals as goal
 
--- what would stand behind the columns
+-- A default for reading past the columns.
 abbrev no_column : Bor (List ℕ) × Kind
 no_column = (record { ref_ptr = (0, 0); now = [] }, Int)
 

@@ -1,4 +1,4 @@
--- The names so far are names.
+-- The texts already read are names.
 use Rattle.std.proofs.Common.{◌≡◌, drop, take}
 use Rattle.std.specs.List.{list_all}
 use Rattle.row_core.specs.Name.{is_name}

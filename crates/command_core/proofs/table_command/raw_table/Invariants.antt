@@ -1,4 +1,4 @@
--- The columns so far are those of the fields before the rest.
+-- The fields before the rest gave these columns.
 use Rattle.std.proofs.Common.{◌≡◌, length}
 use Rattle.command_core.specs.Lines.{fields_in}
 use Rattle.command_core.specs.Meaning.{table_form}

@@ -9,7 +9,7 @@ use Rattle.dip_core.proofs.division.create_dip.Goals as goal
 use Rattle.dip_core.proofs.division.create_dip.Given.{Over}
 use Rattle.dip_core.proofs.division.create_dip.Goals.{After-drop-items}
 
--- the items that are divided are the sorted ones
+-- the items that are divided are a permutation of the given ones
 sorted_items : (g : Over) (c : After-drop-items g) → IsPermutation c.args.items.items c.deref.result.now
 sorted_items g c =
     subst (λ (xs : List Item). IsPermutation c.args.items.items xs) (sym c.deref.ensures.value)

@@ -3,7 +3,7 @@ use Rattle.std.specs.Prelude.{IsPermutation}
 use Rattle.dip_core.specs.Heap.{CountsEachLook, IsHeapButBelow}
 use Rattle.dip_core.proofs.placement.sift_down.Given as goal
 
--- each place further down costs two looks, and lies beyond the places above it, which double from level to level
+-- each step down costs two looks; the index at least doubles with each level
 abbrev pub invariant-loop-place : goal.invariant-loop-place
 invariant-loop-place l = record {
   long : length l.ends.ends ≡ length l.initial.ends.ends;

@@ -3,7 +3,7 @@ use Rattle.std.specs.Prelude.{IsPermutation}
 use Rattle.dip_core.specs.Heap.{CountsEachLook, IsHeapButAbove}
 use Rattle.dip_core.proofs.placement.sift_up.Given as goal
 
--- each place further up costs one look, and leaves one level less above it
+-- each step up costs one look, and leaves one level less above the index
 abbrev pub invariant-loop-place : goal.invariant-loop-place
 invariant-loop-place l = record {
   long : length l.ends.ends ≡ length l.initial.ends.ends;

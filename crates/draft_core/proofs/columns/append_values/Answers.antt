@@ -72,7 +72,7 @@ loop-values-preserved c =
           (slice_get-get_or (values_of_column values) i (Int (pos 0)) (omega (arith, before, long))));
     }
 
--- all columns are gone through
+-- the loop has handled all columns
 pub returns-clause-ok : goal.returns-clause-ok
 returns-clause-ok c =
     let inv = c.loop-values.invariant in

@@ -2,7 +2,7 @@ use Rattle.std.proofs.Common.{◌≡◌, ◌+◌, ◌<◌, ◌++◌, ℕ, length
 use Rattle.draft_core.specs.Columns.{AreLong, Keep, values_at, values_of_column}
 use Rattle.draft_core.proofs.columns.append_values.Given as goal
 
--- the columns as they were at the first places, and after them the values of those so far
+-- the columns kept their first values, and the first columns have the new values after them
 abbrev pub invariant-loop-values : goal.invariant-loop-values
 invariant-loop-values l = record {
   place : l.place ≡ length l.yielded;

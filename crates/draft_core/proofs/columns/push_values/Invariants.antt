@@ -2,7 +2,7 @@ use Rattle.std.proofs.Common.{◌≡◌, ◌+◌, map, take}
 use Rattle.draft_core.specs.Columns.{AreLong, Keep, values_at, values_of_column}
 use Rattle.draft_core.proofs.columns.push_values.Given as goal
 
--- the columns as they were at the first places, and after them the values of those so far
+-- the columns kept their first values, and the first columns have the new values after them
 abbrev pub invariant-loop-i : goal.invariant-loop-i
 invariant-loop-i l = record {
   kept : Keep l.count l.initial.columns.items l.columns.items;

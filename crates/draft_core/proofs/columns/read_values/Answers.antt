@@ -14,7 +14,7 @@ use Rattle.draft_core.proofs.ColumnLemmas.{inside-both, same_at_any, step-kept, 
 use Rattle.row_core.proofs.ReadingLemmas.{field-at, field-there, values_of-failed, values_of-push}
 use Rattle.draft_core.proofs.columns.read_values.Goals as goal
 
--- what stands for a column past the last
+-- a placeholder for a column past the last
 no_column : Column
 no_column = record { name = []; kind = kind.Int; key = None }
 

@@ -4,8 +4,7 @@ use Rattle.row_core.specs.Reading.{values_of}
 use Rattle.row_core.specs.Refusals.{map_ok}
 use Rattle.draft_core.proofs.columns.read_values.Given as goal
 
--- the columns as they were at the first places; the values that those so far have after these
--- stand before those that are left
+-- the columns kept their first values; all values are those read into the first columns, followed by the remaining ones
 abbrev pub invariant-loop-i : goal.invariant-loop-i
 invariant-loop-i g l = record {
   kept : Keep l.count l.initial.values.items l.values.items;

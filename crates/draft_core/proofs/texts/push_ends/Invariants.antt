@@ -1,4 +1,4 @@
--- Where the texts so far end.
+-- The ends of the first texts have been added.
 use Rattle.std.proofs.Common.{◌≡◌, ◌++◌, length, take}
 use Rattle.draft_core.proofs.TextsLemmas.{behind}
 use Rattle.draft_core.proofs.texts.push_ends.Given as goal

@@ -7,7 +7,7 @@ use Rattle.join_core.specs.Crowds.{AreOrdered, IsMostAtOnce}
 use Rattle.join_core.proofs.CrowdSweep.{IsLeast-most}
 use Rattle.join_core.proofs.crowds.least_parts.Goals as goal
 
--- points in order are as many as there are items
+-- the sorted points have the same length as the items
 ordered-len : (items : List Item) (of : Item → ℤ) (points sorted : List ℤ)
     → points ≡ map of items → AreOrdered points sorted → length sorted ≡ length items
 ordered-len items of points sorted are ordered =

@@ -29,7 +29,7 @@ returns-clause-rows g c =
     (IsItemsJoin-sorted left right found sorted lists c.sort_unstable.ensures.permutation
     c.sort_unstable.ensures.sorted)
 
--- advances within the bounds by both sides' least numbers of parts
+-- Advances within the bounds by both sides' least numbers of parts.
 abbrev AreBounded : ℕ → List Item → List Item → Type 0
 AreBounded turns left right =
     (k m : ℕ) → IsLeast (map unclassed left) k → IsLeast (map unclassed right) m

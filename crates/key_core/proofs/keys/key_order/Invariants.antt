@@ -3,7 +3,7 @@ use Rattle.draft_core.specs.Lent.{lent_draft}
 use Rattle.key_core.specs.Order.{key_cmp}
 use Rattle.key_core.proofs.keys.key_order.Given as goal
 
--- what is left decides
+-- the remaining columns decide
 abbrev pub invariant-loop-column : goal.invariant-loop-column
 invariant-loop-column l =
     key_cmp (drop l.column-index l.key) (lent_draft l.a).values (lent_draft l.b).values

@@ -4,7 +4,7 @@ use Rattle.draft_core.specs.Lent.{lent_draft}
 use Rattle.key_core.specs.Order.{have_neighbours}
 use Rattle.key_core.proofs.keys.neighbours_collide.Given as goal
 
--- what is left decides
+-- the remaining neighbours decide
 abbrev pub invariant-loop-i : goal.invariant-loop-i
 invariant-loop-i l =
     have_neighbours (λ a b. collide l.key (lent_draft a) (lent_draft b)) (drop (l.i - 1) l.rows) ≡ have_neighbours

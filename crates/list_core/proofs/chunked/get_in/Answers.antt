@@ -6,7 +6,7 @@ use Rattle.list_core.proofs.chunked.get_in.Goals as goal
 use Rattle.list_core.proofs.chunked.get_in.Goals.{After-len}
 use Rattle.list_core.proofs.chunked.get_in.Given.{Over}
 
--- the chunk is the first of those that are left
+-- the chunk is the first of the remaining chunks
 left_are : (g : Over) (c : After-len g)
     → drop c.loop-chunk.chunk-index c.args.chunks.now
     ≡ c.chunk-item.result ∷ drop (c.loop-chunk.chunk-index + 1) c.args.chunks.now

@@ -1,4 +1,4 @@
--- What the range has of the cells so far stands behind what was there.
+-- The keys before the index that are within the range follow the keys that were there.
 use Rattle.std.proofs.Common.{◌≡◌, ◌++◌, take}
 use Rattle.match_core.specs.Cells.{cells_in}
 use Rattle.match_core.proofs.cells.add_cells_in.Given as goal

@@ -1,4 +1,4 @@
--- The cells so far are those of the rows so far.
+-- The sort keys are those of the rows from `start` to `i`.
 use Rattle.std.proofs.Common.{◌≡◌, ◌≤◌, drop, take}
 use Rattle.match_core.specs.Cells.{AreCellsAt}
 use Rattle.match_core.specs.ClassedPlaces.{placed_from}

@@ -1,4 +1,4 @@
--- The cells are those of the range in the lists so far.
+-- The sort keys are those within the range in the lists before the index.
 use Rattle.std.proofs.Common.{◌≡◌, take}
 use Rattle.list_core.specs.Chunks.{all_in}
 use Rattle.match_core.specs.Cells.{cells_in}

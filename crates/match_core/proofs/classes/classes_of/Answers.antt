@@ -14,11 +14,11 @@ use Rattle.match_core.specs.Columns.{tests_of_names}
 use Rattle.match_core.proofs.SplitClasses.{no_columns, one_more}
 use Rattle.match_core.proofs.classes.classes_of.Goals as goal
 
--- as many as both lists have
+-- the length of two lists together
 both_count : (xs ys : List ℕ) (n m : ℕ) → length xs ≡ n → length ys ≡ m → length (xs ++ ys) ≡ n + m
 both_count xs ys n m e f = let all = length-append xs ys in omega (arith, all, e, f)
 
--- what stands behind the first one stands one place later
+-- an element of the rest is one index further in the whole list
 one_later : (on others : List NamePair) (first d : NamePair) (i : ℕ) → on ≡ first ∷ others
     → get_or others i d ≡ get_or on (i + 1) d
 one_later on others first d i whole =
@@ -99,13 +99,13 @@ loop-pair-preserved g c =
       c.in_ok-classes-2.ensures.right_places,
     )
 
--- a list that is lent has as many as it had
+-- a borrowed list keeps its length
 counted : (xs : List ℕ) (n : ℕ) (lent x : Bor (List ℕ)) → lent.now ≡ xs → length xs ≡ n → Some lent ≡ Some x
     → length x.now ≡ n
 counted xs n lent x is len e =
     let same : lent ≡ x = cc in ap (λ (b : Bor (List ℕ)). length b.now) (sym same) ∙ ap length is ∙ len
 
--- without names all are of one class
+-- without names all rows are in one class
 all_alike : {E : Type 0} (r : Result Classes E) (left right : List Column) (lefts rights : List Row)
     (on : List NamePair) (n m : ℕ) → n ≡ length lefts → m ≡ length rights → length on ≡ 0
     → IfOk r (λ (new : Classes). new.left.items ≡ replicate n 0)

@@ -3,7 +3,7 @@ use Rattle.match_core.specs.ClassedPlaces.{AreByClass}
 use Rattle.match_core.specs.Classes.{AreClasses}
 use Rattle.match_core.proofs.classes.classes_of.Given as goal
 
--- the classes of both sides show which rows match by the pairs so far, and their places stand by class
+-- the classes of both sides say which rows match by the pairs before the index, and the row indices are by class
 abbrev pub invariant-loop-pair : goal.invariant-loop-pair
 invariant-loop-pair g l =
     (length l.classes.left.items ≡ length l.left.rows.now) × (length l.classes.right.items ≡ length l.right.rows.now)

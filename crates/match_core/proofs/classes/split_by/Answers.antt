@@ -11,7 +11,7 @@ use Rattle.match_core.specs.Cells.{Refines, values_at}
 use Rattle.match_core.proofs.SplitClasses.{columns_one_kind, values_under-places}
 use Rattle.match_core.proofs.classes.split_by.Goals as goal
 
--- what splits by the values at two places splits by those under the names of these
+-- splitting by the values at two column indices is splitting by the values under their names
 by_names : {E : Type 0} (result : Result Classes E) (left right : List Column) (lefts rights : List Row)
     (pair : NamePair) (l r : ℕ) (old : List ℕ) → column_of left pair.0 ≡ Some l → column_of right pair.1 ≡ Some r
     → IfOk result (λ (new : Classes). Refines old (values_at l r lefts rights) (new.left.items ++ new.right.items))

@@ -1,4 +1,4 @@
--- The pairs that are left decide.
+-- The remaining pairs decide.
 use Rattle.std.proofs.Common.{◌≡◌, drop}
 use Rattle.std.specs.Prelude.{flat_map}
 use Rattle.row_core.specs.Refusals.{first_of}

@@ -1,4 +1,4 @@
--- the left cells so far come before the other
+-- the left keys before the index come before the other key
 use Rattle.std.proofs.Common.{◌≡◌, ◌≤◌, All, length, take, true}
 use Rattle.match_core.specs.Cells.{is_before}
 use Rattle.match_core.proofs.numbering.first_from.Given as goal

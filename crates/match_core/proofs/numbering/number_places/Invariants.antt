@@ -1,4 +1,4 @@
--- The places so far have their numbers.
+-- The indices before `at-index` have their numbers.
 use Rattle.std.proofs.Common.{◌≡◌, map, take}
 use Rattle.match_core.specs.ClassedPlaces.{numbered_by}
 use Rattle.match_core.proofs.numbering.number_places.Given as goal

@@ -1,4 +1,4 @@
--- the rows so far have their numbers, the others their ranks
+-- the rows before `i` have their numbers, the others their ranks
 use Rattle.std.proofs.Common.{◌≡◌, ◌<◌, ◌≤◌, ℕ}
 use Rattle.std.specs.Prelude.{slice_index}
 use Rattle.match_core.proofs.numbering.number_rows.Given as goal

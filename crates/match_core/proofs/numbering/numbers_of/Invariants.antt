@@ -1,4 +1,4 @@
--- the right cells so far have numbers
+-- the right keys before the index have numbers
 use Rattle.match_core.proofs.NumberLemmas.{Numbering}
 use Rattle.match_core.proofs.numbering.numbers_of.Given as goal
 

@@ -1,4 +1,4 @@
--- The places of the cells so far stand behind what was there.
+-- The indices of the keys before the loop index follow what was there.
 use Rattle.std.proofs.Common.{◌≡◌, ◌++◌, map, take}
 use Rattle.match_core.specs.Cells.{spot_of}
 use Rattle.match_core.specs.ClassedPlaces.{classed_by}

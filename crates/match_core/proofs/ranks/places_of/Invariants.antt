@@ -1,4 +1,4 @@
--- The places are those of the cells in the lists so far.
+-- The indices are those of the keys in the lists before the loop index.
 use Rattle.std.proofs.Common.{◌≡◌, map, take}
 use Rattle.list_core.specs.Chunks.{all_in}
 use Rattle.match_core.specs.Cells.{spot_of}

@@ -1,4 +1,4 @@
--- the rows of the cells of the lists so far have ranks
+-- the rows of the keys in the lists before the index have ranks
 use Rattle.list_core.specs.Chunks.{all_in}
 use Rattle.match_core.specs.Cells.{AreRankedUpto, count_before}
 use Rattle.match_core.proofs.ranks.rank_cells.Given as goal

@@ -8,7 +8,7 @@ use Rattle.match_core.specs.Cells.{AreRankedUpto, count_before}
 use Rattle.match_core.proofs.RankLemmas.{count_before-more, next_from_last, ranked_more, slice_get-all_in}
 use Rattle.match_core.proofs.ranks.rank_list.Goals as goal
 
--- a cell of a list is one of all
+-- a key of a list is one of all keys
 listed : {V : Type 0} (lists : List (Vec (Cell V))) (number i : ℕ) (list : Vec (Cell V)) (cells : List (Cell V))
     (cell : Cell V) → number < length lists → list ≡ get_or lists number list → cells ≡ list.items → i < length cells
     → cell ≡ get_or cells i cell → slice_get (all_in lists) (count_before number lists + i) ≡ Some cell
@@ -16,12 +16,12 @@ listed {V} lists number i list cells cell lt is own within here =
     slice_get-all_in lists number i list cell lt is
     (ap (λ (l : List (Cell V)). slice_get l i) (sym own) ∙ slice_get_read cells (length cells) i cell refl within here)
 
--- a cell that is there is one of them
+-- a key at an index is within the list
 there : {V : Type 0} (cells : List (Cell V)) (i : ℕ) (cell : Cell V) → slice_get cells i ≡ Some cell
     → (i < length cells) × (cell ≡ get_or cells i cell)
 there cells i cell at = (slice_get_within cells i cell at, sym (get_or_from_slice_get cells i cell cell at))
 
--- and there is room for its row's rank
+-- and its row's index is within the ranks
 room : {V : Type 0} (cells : List (Cell V)) (n i : ℕ) (cell : Cell V) → All (λ (x : Cell V). x.place < n) cells
     → slice_get cells i ≡ Some cell → cell.place < n
 room {V} cells n i cell within at =

@@ -1,4 +1,4 @@
--- the rows of the cells so far have ranks
+-- the rows of the keys before the index have ranks
 use Rattle.std.proofs.Common.{◌+◌}
 use Rattle.list_core.specs.Chunks.{all_in}
 use Rattle.match_core.specs.Cells.{AreRankedUpto, count_before}

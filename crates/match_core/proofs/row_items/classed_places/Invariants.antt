@@ -1,4 +1,4 @@
--- The places so far.
+-- The indices before the loop index.
 use Rattle.std.proofs.Common.{◌≡◌, take}
 use Rattle.match_core.specs.ClassedPlaces.{placed_from}
 use Rattle.match_core.proofs.row_items.classed_places.Given as goal

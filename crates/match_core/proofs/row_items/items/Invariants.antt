@@ -1,4 +1,4 @@
--- The rows so far are items.
+-- The rows before the index are items.
 use Rattle.std.proofs.Common.{◌≡◌, take}
 use Rattle.match_core.specs.Items.{items_of}
 use Rattle.match_core.proofs.row_items.items.Given as goal

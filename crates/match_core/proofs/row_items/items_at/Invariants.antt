@@ -1,4 +1,4 @@
--- The rows at the places so far are items.
+-- The rows at the indices before the loop index are items.
 use Rattle.std.proofs.Common.{◌≡◌, Some, map, take}
 use Rattle.match_core.specs.ClassedPlaces.{item_placed}
 use Rattle.match_core.proofs.row_items.items_at.Given as goal

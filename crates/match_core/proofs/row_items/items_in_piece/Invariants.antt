@@ -1,4 +1,4 @@
--- The rows so far are items, those that the range has.
+-- The rows from `start` to `i` whose classes are within the range are items.
 use Rattle.std.proofs.Common.{◌≡◌, ◌≤◌}
 use Rattle.match_core.proofs.RowItems.{items_from}
 use Rattle.match_core.proofs.row_items.items_in_piece.Given as goal

@@ -28,7 +28,7 @@ number_rows-requires g c k d lt =
     let same = get_or_default ranks k d 0 inside in
     omega (arith, at, same, rank, matched, firsts, numbers)
 
--- the right ranks, once they were written
+-- the right ranks after they were written
 kept : (g : Over) (c : After-drop-lefts-2 g)
     → take c.in_ok-lefts.rights.ranks.len
     (c.number_rows.new.ranks ++ drop (length c.number_rows.new.ranks) c.in_ok-lefts.rights.ranks.items)

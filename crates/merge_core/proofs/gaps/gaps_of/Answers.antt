@@ -14,7 +14,7 @@ loop-y-preserved c =
     c.loop-y.gaps.items c.cover.new.gaps.items c.loop-y.passed (omega (arith, ints)) (omega (arith, ints))
     c.in-Some.ensures.next c.in-Some.ensures.chain over c.in_ok-at.ensures.ok c.loop-y.invariant)
 
--- however the loop ended, only the gap up to the end of x is left
+-- however the loop ended, only the gap up to the end of `x` is left
 stopped : (c : After-push_gap)
     → IsStopped c.args.x.now c.args.right.now c.match-peek.at c.args.gaps.now.items c.match-peek.gaps.items
 stopped c =
@@ -38,7 +38,7 @@ stopped c =
           (none_left c.args.x.now c.loop-y.right w.in_default.ensures.next) c.loop-y.invariant)
     ]
 
--- and each right item that is left ends later than x
+-- and each remaining right item ends after `x`
 left_over : (c : After-push_gap) → EndLater c.args.x.now.period.to c.loop-y.right
 left_over c =
     elim c.match-peek.branch [

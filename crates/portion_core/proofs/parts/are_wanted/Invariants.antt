@@ -3,7 +3,7 @@ use Rattle.table_core.specs.Lent.{lent_row}
 use Rattle.portion_core.specs.Wanted.{are_wanted}
 use Rattle.portion_core.proofs.parts.are_wanted.Given as goal
 
--- it turns on the columns that are left
+-- the remaining columns decide
 abbrev pub invariant-loop-column : goal.invariant-loop-column
 invariant-loop-column l =
     are_wanted (drop l.column l.wanted) (drop l.column (lent_row l.row).values)

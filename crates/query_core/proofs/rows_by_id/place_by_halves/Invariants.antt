@@ -1,4 +1,4 @@
--- The row stands between both places.
+-- The row's index is between both bounds.
 use Rattle.std.proofs.Common.{◌-◌}
 use Rattle.query_core.proofs.FoundRows.{IsBetween}
 use Rattle.query_core.proofs.rows_by_id.place_by_halves.Given as goal

@@ -1,4 +1,4 @@
--- The places of the rows so far are put.
+-- The indices of the rows before `i` are stored.
 use Rattle.query_core.proofs.FoundRows.{ArePlacesOf}
 use Rattle.query_core.proofs.rows_by_id.put_places.Given as goal
 

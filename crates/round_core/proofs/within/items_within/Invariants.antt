@@ -1,4 +1,4 @@
--- The items so far are cut.
+-- The items before the index are clipped.
 use Rattle.std.proofs.Common.{take}
 use Rattle.round_core.specs.Spans.{AreWithin}
 use Rattle.round_core.proofs.within.items_within.Given as goal

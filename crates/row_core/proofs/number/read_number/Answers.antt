@@ -22,7 +22,7 @@ returns-in_default-clause-text c = λ number fits e. c.in_default.ensures.cases.
 pub returns-in_default-clause-number : goal.returns-in_default-clause-number
 returns-in_default-clause-number c = sym (number_of-none c.args.text.now (returns-in_default-clause-text c))
 
--- what is answered to a plain text
+-- the answer for a plain text
 answered : (c : goal.After-map_err)
     → MatchResult c.map_err.result (λ z. (c.args.text.now ≡ number_text z) × (number_of c.args.text.now ≡ Some z))
     (λ e. (z : ℤ) → is_number z ≡ true → c.args.text.now ≢ number_text z)

@@ -3,7 +3,7 @@ use Rattle.row_core.specs.Reading.{values_of}
 use Rattle.row_core.specs.Refusals.{map_ok}
 use Rattle.row_core.proofs.reading.read_values.Given as goal
 
--- the values so far stand before those that are left
+-- all values are those read already, followed by the remaining ones
 abbrev pub invariant-loop-i : goal.invariant-loop-i
 invariant-loop-i g l =
     let fields = drop 2 (g.L.Fields.fields l.fields) in

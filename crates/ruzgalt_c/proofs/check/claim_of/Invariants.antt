@@ -3,6 +3,6 @@ use Rattle.std.specs.Global.{Vec}
 use Rattle.std.proofs.Common.{ℕ}
 use Rattle.ruzgalt_c.proofs.check.claim_of.Given as goal
 
--- the lists so far are parts
+-- The parts are the lists already visited.
 abbrev pub invariant-loop-list : goal.invariant-loop-list
 invariant-loop-list l = l.claim ≡ map (λ (list : Vec ℕ). list.items) (take l.list-index l.lists)

@@ -2,7 +2,7 @@ use Rattle.std.proofs.Common.{◌≡◌, ◌≤◌, ◌-◌, ◌<◌, ℕ, [], g
 use Rattle.std.specs.Global.{Vec}
 use Rattle.ruzgalt_c.proofs.check.empty_lists.Given as goal
 
--- no more than wanted, each of them empty
+-- There are at most `count` lists, all empty.
 abbrev pub invariant-lists : goal.invariant-lists
 invariant-lists l = record {
   few : length l.lists.items ≤ l.count;

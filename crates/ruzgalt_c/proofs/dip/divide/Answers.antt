@@ -19,7 +19,7 @@ divide_sorted-requires-clause-few c =
     let few : length c.args.from.now ≤ item_limit = c.requires.few in
     rw c.deref.ensures.value (omega (arith, rows, same, few))
 
--- all items are in the parts
+-- The parts have all items.
 divided : (c : After-number_rows-arg-1) → IsPermutation c.in_ok-items.items.items (all_of c.in-Ok.division)
 divided c =
     let items = c.in_ok-items.items.items in

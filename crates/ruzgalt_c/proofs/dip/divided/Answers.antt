@@ -9,7 +9,7 @@ use Rattle.dip_core.proofs.DivisionLemmas.{IsLeastDivision-permutation}
 use Rattle.ruzgalt_c.proofs.dip.divided.Goals as goal
 use Rattle.ruzgalt_c.proofs.dip.divided.Goals.{After-deref}
 
--- the items that are divided are the sorted ones
+-- The sorted items are divided.
 sorted_items : (c : After-deref) → IsPermutation c.args.items.now c.deref.result.now
 sorted_items c =
     subst (λ (xs : List Item). IsPermutation c.args.items.now xs) (sym c.deref.ensures.value)

@@ -3,7 +3,7 @@ use Rattle.std.specs.Prelude.{All}
 use Rattle.dip_core.specs.declared.item.Item.{Item}
 use Rattle.ruzgalt_c.proofs.dip.number_part.Given as goal
 
--- the items so far have the number, and no other place has a new one
+-- The items already visited have the number, and no other index has changed.
 abbrev pub invariant-loop-item : goal.invariant-loop-item
 invariant-loop-item l = record {
   len : length l.numbers ≡ length l.fn.numbers;

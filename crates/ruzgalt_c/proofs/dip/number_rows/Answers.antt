@@ -10,7 +10,7 @@ use Rattle.ruzgalt_c.specs.Dip.{AreNumbersOf}
 use Rattle.ruzgalt_c.proofs.RowLemmas.{parts-apart}
 use Rattle.ruzgalt_c.proofs.dip.number_rows.Goals as goal
 
--- an item of a list that is a part
+-- An item of a list that is a part.
 within : (part items : List Item) → items ≡ part → (i : ℕ) (d : Item) → i < length items
     → Contains part (get_or items i d)
 within part items here i d h =

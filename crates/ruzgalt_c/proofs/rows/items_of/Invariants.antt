@@ -3,7 +3,7 @@ use Rattle.dip_core.specs.declared.item.Item.{Item}
 use Rattle.ruzgalt_c.specs.Rows.{IsRow}
 use Rattle.ruzgalt_c.proofs.rows.items_of.Given as goal
 
--- the rows so far are items
+-- The rows before index `k` are items.
 abbrev pub invariant-loop-k : goal.invariant-loop-k
 invariant-loop-k l = record {
   len : length l.items.items ≡ l.k;

@@ -13,11 +13,11 @@ use Rattle.script_core.proofs.Loading.{behind, behind-next, behind-refused}
 use Rattle.script_core.proofs.claims.push_part.Goals as goal
 use Rattle.script_core.proofs.claims.push_part.Goals.{in-Some+in-Ok+in_ok-push-in-Ok, in_default}
 
--- the word is right
+-- The record has the right word.
 begun : (line : Record) → begins (codes "part") line ≡ true → part_of line ≡ naturals_in (drop 1 line)
 begun line e = ap (λ b. if b then naturals_in (drop 1 line) else Err BadCommand) e
 
--- one more id was read
+-- One more id was read.
 next_id : (fields : Record) (place : ℕ) (text : List ℕ) (ids : List ℕ) (id : ℕ) → slice_get fields place ≡ Some text
     → natural_in text ≡ Ok id
     → behind ids (naturals_in (drop place fields)) ≡ behind (ids ++ id ∷ []) (naturals_in (drop (place + 1) fields))
@@ -25,7 +25,7 @@ next_id fields place text ids id e good =
     ap (λ l. behind ids (naturals_in l)) (drop-slice_get fields place text e)
     ∙ behind-next ids (natural_in text) id (naturals_in (drop (place + 1) fields)) good
 
--- a field is refused
+-- A field is refused.
 no_id : (fields : Record) (place : ℕ) (text : List ℕ) (ids : List ℕ) (refusal : Refusal)
     → slice_get fields place ≡ Some text → natural_in text ≡ Err refusal
     → behind ids (naturals_in (drop place fields)) ≡ Err refusal

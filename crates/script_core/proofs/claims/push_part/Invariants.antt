@@ -1,4 +1,4 @@
--- The claim is the old one with a last part, whose ids are those of the fields before this place.
+-- The claim is the old one and a last part, with the ids of the fields before index `place`.
 use Rattle.std.proofs.Common.{◌≡◌, ℕ, List, [], ◌∷◌, ◌++◌, drop}
 use Rattle.command_core.specs.Lines.{fields_in}
 use Rattle.script_core.specs.Effects.{naturals_in}

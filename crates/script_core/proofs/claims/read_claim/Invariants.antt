@@ -1,4 +1,4 @@
--- The parts so far are those of the records before this place.
+-- The claim has the parts of the records before index `place`.
 use Rattle.std.proofs.Common.{◌≡◌, ◌+◌, drop}
 use Rattle.command_core.specs.Lines.{lines_in}
 use Rattle.script_core.specs.Effects.{claim_of}

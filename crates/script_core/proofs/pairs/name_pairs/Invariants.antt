@@ -1,4 +1,4 @@
--- The pairs so far.
+-- `pairs` has the pairs before index `place`.
 use Rattle.std.proofs.Common.{◌≡◌, take}
 use Rattle.command_core.specs.PairsIn.{name_pairs_in}
 use Rattle.script_core.proofs.pairs.name_pairs.Given as goal

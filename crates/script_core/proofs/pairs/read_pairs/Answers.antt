@@ -16,7 +16,7 @@ use Rattle.script_core.proofs.Loading.{behind, behind-next, behind-refused}
 use Rattle.script_core.proofs.pairs.read_pairs.Goals as goal
 use Rattle.script_core.proofs.pairs.read_pairs.Goals.{in-Some+in_ok-value+in_ok-push, in_default}
 
--- one more value was read
+-- One more value was read.
 next_value : (columns : List Column) (texts : List TextPair) (place : ℕ) (text : TextPair) (had : List Pair)
     (pair : Pair) → slice_get texts place ≡ Some text → pair_read columns text ≡ Ok pair
     → behind had (pairs_read columns (drop place texts)) ≡ behind (had ++ pair ∷ [])
@@ -32,7 +32,7 @@ no_value columns texts place text had refusal e bad =
     ap (λ l. behind had (pairs_read columns l)) (drop-slice_get texts place text e)
     ∙ behind-refused had (pair_read columns text) refusal (pairs_read columns (drop (place + 1) texts)) bad
 
--- a text is refused
+-- A text is refused.
 value_failed : (number : ℕ) (columns : List Column) (texts : List TextPair) (place : ℕ) (text : TextPair)
     (had : List Pair) (failure : Failure) → slice_get texts place ≡ Some text
     → pairs_read columns texts ≡ behind had (pairs_read columns (drop place texts))

@@ -19,7 +19,7 @@ use Rattle.script_core.specs.Refusal.{value_refusal}
 use Rattle.script_core.specs.Effects.{pair_read, named_value}
 use Rattle.script_core.proofs.pairs.value_named.Goals as goal
 
--- a value that was read, or why it was not, is what a column's kind makes of the text
+-- The value, or the failure, is what the column's kind makes of the text.
 abbrev IsRead : ℕ → List ℕ → Result Pair Refusal → Result Value (Failure ValueRefused) → Type 0
 IsRead number name meant result =
     MatchResult result (λ value. meant ≡ Ok (name, value))
@@ -42,7 +42,7 @@ column_of-within : (columns : List Column) (name : List ℕ) (place : ℕ) → c
     → place < length columns
 column_of-within columns name place e = grind (arith, common_steps)
 
--- what the column's kind makes of the text is what was read, where there is a column
+-- If the column exists, its kind makes this value of the text, or this failure.
 abbrev IsAnswerAt : Option Column → List ℕ → Result Value (Failure ValueRefused) → Type 0
 IsAnswerAt found text result = IfSome found (λ column. IsAnswer (value_of column.kind text) result)
 

@@ -9,7 +9,7 @@ use Rattle.script_core.specs.Refusal.{table_refusal}
 use Rattle.script_core.proofs.Showing.{rows-reported}
 use Rattle.script_core.proofs.queries.rows_on.Goals as goal
 
--- where rows that hold are given, they are those of the rows that are meant
+-- The rows that hold at a point are some of the rows that are meant.
 held-reported : {E D : Type 0} (rename : E → D) (point : ℤ) (meant : Result (List Row) E) (held : List Row)
     → map_ok (rows_on point) meant ≡ Ok held
     → (read : List Row) × (map_err rename meant ≡ Ok read) × (Rows held ≡ Rows (rows_on point read))

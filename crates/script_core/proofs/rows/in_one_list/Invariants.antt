@@ -1,4 +1,4 @@
--- The rows so far come before those of the ranges that are left.
+-- The rows already appended come before the rows of the remaining ranges.
 use Rattle.std.proofs.Common.{◌≡◌}
 use Rattle.script_core.specs.Loads.{all_drafts}
 use Rattle.script_core.proofs.Loading.{behind}

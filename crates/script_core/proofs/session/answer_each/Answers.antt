@@ -8,7 +8,7 @@ use Rattle.script_core.proofs.Calls.{ledger-legal}
 use Rattle.script_core.proofs.Progress.{commands-few, progress-begun, progress-more, progress-over, progress-stopped}
 use Rattle.script_core.proofs.session.answer_each.Goals as goal
 
--- an answer that was begun afresh is all of the text
+-- If a printer was empty, its text is the answer.
 text_is : (old new bytes : List ℕ) → old ≡ [] → new ≡ old ++ bytes → new ≡ bytes
 text_is old new bytes fresh adds = adds ∙ ap (λ t. t ++ bytes) fresh
 

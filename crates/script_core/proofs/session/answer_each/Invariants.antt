@@ -1,4 +1,4 @@
--- The commands before `at` are done, and their answers are written.
+-- The statements before record `at` were executed, and their answers were written.
 use Rattle.std.proofs.Common.{◌≡◌, ◌+◌, ◌*◌, ◌≤◌, ◌-◌, [], drop, length}
 use Rattle.stream_core.specs.Counted.{failures_of, inner_of}
 use Rattle.script_core.specs.Ledgers.{ledger_history, left_in, place_in}

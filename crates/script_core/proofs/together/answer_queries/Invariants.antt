@@ -1,4 +1,4 @@
--- The queries before `at` are answered.
+-- The queries before record `at` were answered.
 use Rattle.std.proofs.Common.{◌≤◌, ◌-◌, length}
 use Rattle.command_core.specs.Lines.{lines_in}
 use Rattle.store_core.specs.Snapshots.{history}

@@ -1,4 +1,4 @@
--- What was read so far stands behind the text.
+-- The bytes read are appended to the text.
 use Rattle.std.proofs.Common.{◌≤◌, ◌+◌, ◌-◌, length, vec_len}
 use Rattle.stream_core.specs.Counted.{inner_of, failures_of}
 use Rattle.stream_core.specs.Faults.{HasReadOn}

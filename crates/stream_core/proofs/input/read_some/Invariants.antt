@@ -1,4 +1,4 @@
--- Until a read answers, the reader keeps its bytes, and each interruption uses up some patience.
+-- Until a read succeeds, the reader keeps its bytes, and each interruption uses up a retry.
 use Rattle.std.proofs.Common.{◌+◌, ◌≤◌}
 use Rattle.std.specs.Io.KnownBytes.{Keeps}
 use Rattle.stream_core.specs.Counted.{inner_of, failures_of}

@@ -1,4 +1,4 @@
--- What was taken so far is the front of the bytes.
+-- The bytes accepted are a prefix of all bytes.
 use Rattle.std.proofs.Common.{◌+◌, ◌≤◌, ◌-◌, length, take}
 use Rattle.std.specs.Io.KnownBytes.{Appends}
 use Rattle.stream_core.specs.Counted.{inner_of, failures_of}

@@ -6,7 +6,7 @@ use Rattle.table_core.specs.Places.{at_places, shown_at}
 use Rattle.table_core.specs.Source.{rows_from}
 use Rattle.table_core.proofs.shared_rows.places_holding.Given as goal
 
--- the places so far
+-- the list has the indexes found among the first rows
 abbrev pub invariant-loop-i : goal.invariant-loop-i
 invariant-loop-i l = record {
   within : All (λ place. place < length (rows_from l.source)) l.held.items;

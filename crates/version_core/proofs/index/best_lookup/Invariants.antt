@@ -6,7 +6,7 @@ use Rattle.version_core.specs.Finding.{AreNoMore, bucket_at, falls_into, led_to,
 use Rattle.version_core.specs.Limits.{bucket_count}
 use Rattle.version_core.proofs.index.best_lookup.Given as goal
 
--- the best so far is a lookup of all that is wanted, and the shortest of those so far
+-- the best lookup among the first columns: it is one for all wanted values, and the shortest
 abbrev pub invariant-loop-column : goal.invariant-loop-column
 invariant-loop-column l = record {
   few : IfSome l.best (λ lookup. lookup.bucket < bucket_count);

@@ -6,7 +6,7 @@ use Rattle.version_core.specs.Keys.{is_left}
 use Rattle.version_core.proofs.KeyLemmas.{drafts_at}
 use Rattle.version_core.proofs.keys.rows_left.Given as goal
 
--- the rows that are left at the places so far
+-- the list has the kept rows at the first positions
 abbrev pub invariant-loop-place : goal.invariant-loop-place
 invariant-loop-place l =
     map lent_draft l.rows.items ≡ drafts_at l.versions

@@ -2,7 +2,7 @@ use Rattle.std.proofs.Common.{◌≡◌, ◌++◌, ◌-◌, length}
 use Rattle.std.specs.List.{range_with_len}
 use Rattle.version_core.proofs.places.push_places.Given as goal
 
--- the places so far
+-- the first positions have been added
 abbrev pub invariant-loop-place : goal.invariant-loop-place
 invariant-loop-place l = record {
   start : l.before ≡ length l.fn.places.items;

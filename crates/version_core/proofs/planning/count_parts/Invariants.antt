@@ -6,7 +6,7 @@ use Rattle.version_core.specs.Plans.{parts_at}
 use Rattle.version_core.specs.declared.change.RowsChange.TheVariants.{Portion}
 use Rattle.version_core.proofs.planning.count_parts.Given as goal
 
--- the parts of the rows that are taken at the places so far, at most three of a row
+-- the parts of the rows removed at the first positions, at most three for each
 abbrev pub invariant-loop-place : goal.invariant-loop-place
 invariant-loop-place l = record {
   counted : l.count ≡ length

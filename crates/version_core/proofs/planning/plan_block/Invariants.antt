@@ -6,7 +6,7 @@ use Rattle.version_core.specs.Plans.{parts_at}
 use Rattle.version_core.specs.declared.change.RowsChange.TheVariants.{Portion}
 use Rattle.version_core.proofs.planning.plan_block.Given as goal
 
--- what is taken at the places so far, and made for it
+-- the positions removed among the first ones, and what replaces their rows
 abbrev pub invariant-loop-place : goal.invariant-loop-place
 invariant-loop-place l = record {
   made : l.plan.parts ≡ parts_at (Portion l.change) l.versions l.plan.taken.items;

@@ -7,7 +7,7 @@ use Rattle.version_core.specs.Plans.{parts_at}
 use Rattle.version_core.specs.declared.change.RowsChange.TheVariants.{Portion}
 use Rattle.version_core.proofs.planning.plan_portion.Given as goal
 
--- with what is taken at the places that are left, all is
+-- with the remaining positions, all are examined
 abbrev pub invariant-loop-block : goal.invariant-loop-block
 invariant-loop-block l = record {
   can_next : goal.iterator-loop-block.can_next l.block-iterator;

@@ -1,7 +1,7 @@
 use Rattle.std.proofs.Common.{◌≡◌, ◌++◌, length, replicate}
 use Rattle.version_core.proofs.stored.push_system_periods.Given as goal
 
--- so many as turns
+-- one has been added for each turn
 abbrev pub invariant-loop : goal.invariant-loop
 invariant-loop l = record {
   start : l.before ≡ length l.fn.system_periods.items;

@@ -5,7 +5,7 @@ use Rattle.version_core.specs.Shown.{holds_where, shown}
 use Rattle.version_core.specs.declared.version.Version.{Version}
 use Rattle.version_core.proofs.version.places_shown.Given as goal
 
--- the places so far
+-- the list has the positions found among the first versions
 abbrev pub invariant-loop-i : goal.invariant-loop-i
 invariant-loop-i l = record {
   within : All (λ place. place < length l.versions) l.places.items;

@@ -5,7 +5,7 @@ use Rattle.version_core.specs.Stored.{versions_of}
 use Rattle.version_core.specs.declared.version.Version.{Version}
 use Rattle.version_core.proofs.version.versions_seen.Given as goal
 
--- the places so far, and what stands beside each
+-- the lists have the positions found among the first versions, and their system periods
 abbrev pub invariant-loop-i : goal.invariant-loop-i
 invariant-loop-i l = record {
   within : All (λ place. place < length l.versions) l.places.items;

@@ -3,7 +3,7 @@ use Rattle.std.specs.Prelude.{fold}
 use Rattle.version_core.specs.OpenVersions.{closed_at}
 use Rattle.version_core.proofs.versions.close_all.Given as goal
 
--- those at the first places are closed
+-- the versions at the first positions are closed
 abbrev pub invariant-loop-place : goal.invariant-loop-place
 invariant-loop-place l = record {
   closed : l.versions ≡ fold (closed_at l.commit) l.fn.versions (take l.place-index l.places);

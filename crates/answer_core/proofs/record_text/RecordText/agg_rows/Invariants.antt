@@ -1,4 +1,4 @@
--- The rows so far are printed.
+-- The rows already visited are printed.
 use Rattle.std.proofs.Common.{◌≡◌, ◌++◌, map, take}
 use Rattle.agg_core.specs.Grouping.{agg_row_of}
 use Rattle.answer_core.specs.PrintedRecords.{agg_record}

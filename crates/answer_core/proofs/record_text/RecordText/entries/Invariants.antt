@@ -1,4 +1,4 @@
--- The commits so far are printed.
+-- The commits already visited are printed.
 use Rattle.std.proofs.Common.{◌≡◌, ◌++◌, map, take}
 use Rattle.answer_core.specs.PrintedRecords.{commit_record}
 use Rattle.answer_core.specs.RecordBytes.{bytes_of}

@@ -1,4 +1,4 @@
--- The number and the ids so far are fields.
+-- The number and the ids already visited are printed.
 use Rattle.std.proofs.Common.{◌≡◌, ◌++◌, take}
 use Rattle.csv.specs.Writing.{row_body}
 use Rattle.answer_core.specs.PrintedRecords.{part_record}

@@ -1,4 +1,4 @@
--- The numbers so far are fields.
+-- The numbers already visited are printed.
 use Rattle.std.proofs.Common.{◌≡◌, ◌∷◌, ◌++◌, map, take}
 use Rattle.std.specs.Prelude.{codes, decimal}
 use Rattle.csv.specs.Writing.{row_body}

@@ -1,4 +1,4 @@
--- The parts so far are printed.
+-- The parts already visited are printed.
 use Rattle.std.proofs.Common.{◌≡◌, ◌≤◌, ◌++◌, drop, take}
 use Rattle.answer_core.specs.PrintedRecords.{part_records}
 use Rattle.answer_core.specs.RecordBytes.{bytes_of}

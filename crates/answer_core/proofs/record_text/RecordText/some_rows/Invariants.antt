@@ -1,4 +1,4 @@
--- The rows so far are printed.
+-- The rows already visited are printed.
 use Rattle.std.proofs.Common.{◌≡◌, ◌≤◌, ◌++◌, drop, map, take}
 use Rattle.answer_core.specs.PrintedRecords.{row_record}
 use Rattle.answer_core.specs.RecordBytes.{bytes_of}

@@ -1,4 +1,4 @@
--- The versions so far are printed.
+-- The versions already visited are printed.
 use Rattle.std.proofs.Common.{◌≡◌, ◌≤◌, ◌++◌, drop, map, take}
 use Rattle.answer_core.specs.PrintedRecords.{version_record}
 use Rattle.answer_core.specs.RecordBytes.{bytes_of}

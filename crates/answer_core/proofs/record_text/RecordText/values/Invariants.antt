@@ -1,4 +1,4 @@
--- The values so far are there.
+-- The values already visited are printed.
 use Rattle.std.proofs.Common.{◌≡◌, ◌++◌, map, take}
 use Rattle.csv.specs.Writing.{fields_text}
 use Rattle.table_core.specs.Lent.{lent_row}

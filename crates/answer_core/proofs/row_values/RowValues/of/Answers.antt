@@ -8,7 +8,7 @@ use Rattle.table_core.specs.declared.row_ref.RowRef.{RowRef}
 use Rattle.answer_core.specs.JoinedRows.{values_with}
 use Rattle.answer_core.proofs.row_values.RowValues.of.Goals as goal
 
--- where no row has values, none is found
+-- If no row has values, none are found.
 bare_row : (row : Row) (here : Bool) (more : Option Row) → row.values ≡ []
     → option_map_or (λ (r : Row). r.values) more [] ≡ []
     → option_map_or (λ (r : Row). r.values) (cond here (Some row) more) [] ≡ []
@@ -25,7 +25,7 @@ pub returns-then-self : goal.returns-then-self
 returns-then-self c =
     let none = bare_values c.self.inside.rows c.args.id (c.self.invariant c.if-self.true) in search rules
 
--- the values of a row that is lent
+-- The values of a lent row.
 lent_values : (row : Option RowRef)
     → option_map_or (λ (r : RowRef). (lent_row r).values) row []
     ≡ option_map_or (λ (r : Row). r.values) (option_map lent_row row) []

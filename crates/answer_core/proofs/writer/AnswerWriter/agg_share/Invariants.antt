@@ -1,4 +1,4 @@
--- The rows of the chunks so far are printed.
+-- The rows of the chunks already visited are printed.
 use Rattle.std.proofs.Common.{map, take}
 use Rattle.list_core.specs.Chunks.{all_in}
 use Rattle.agg_core.specs.Grouping.{agg_row_of}

@@ -1,4 +1,4 @@
--- The rows of the shares so far are printed.
+-- The rows of the partitions already visited are printed.
 use Rattle.std.proofs.Common.{map, take}
 use Rattle.agg_core.specs.Shares.{rows_in_shares}
 use Rattle.answer_core.specs.PrintedRecords.{agg_record}

@@ -1,4 +1,4 @@
--- A value owns nothing, so it may go to another thread.
+-- A value owns nothing, so it may move to another thread.
 use denote.Param.Send.{IsSend}
 use Rattle.book_core.specs.contracts.commit.Commits.{the_row}
 

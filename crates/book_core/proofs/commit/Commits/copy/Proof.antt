@@ -1,4 +1,4 @@
--- A value of no bytes, for the same commits.
+-- A value without bytes, for the same commits.
 use Rattle.book_core.proofs.Steps.{[], ◌∷◌, refl, proved, named, Val, vptr, vstruct, vnil, tables, ‵, raw, ◌⊛◌, ◌$◌, ◌∵◌, !, qed, keep, move, split, suffices, done, no_more, returns, enter, agg, alloc_all, pass_all, free_all, look_at, sets, yes, owns, shr_vals, shr_Tells, pure_i, plain, types_at, alive, says, stay_none_ref, Stays, walk_of, ends_at, Goes-none_ref}
 use Rattle.book_core.specs.contracts.commit.Commits as made
 use Rattle.book_core.specs.contracts.commit.Commits.copy as f

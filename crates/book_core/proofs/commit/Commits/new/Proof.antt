@@ -1,4 +1,4 @@
--- A value of no bytes, for no commits.
+-- A value without bytes, for no commits.
 use Rattle.book_core.proofs.Steps.{[], ◌∷◌, refl, proved, vstruct, vnil, tables, ‵, raw, ◌⊛◌, ◌$◌, ◌∵◌, !, qed, keep, move, split, suffices, done, no_more, returns, enter, agg, alloc_all, pass_all, free_all, look_at, sets, owns, pure_i, types_at, alive, says, Stays, walk_of, ends_at}
 use Rattle.book_core.specs.contracts.commit.Commits as made
 use Rattle.book_core.specs.contracts.commit.Commits.new as f

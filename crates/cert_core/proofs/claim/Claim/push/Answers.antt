@@ -15,7 +15,7 @@ lasts c =
     let there : 0 < length c.args.self.now = c.requires in
     omega (arith, parts, ends, there)
 
--- it ends now where the ids do
+-- the last part now ends at the end of the ids
 moved : (c : After-move_last) → c.move_last.new.ends.items ≡ slice_set c.self.inside.ends.items
     (length c.self.inside.ends.items - 1) (length (c.self.inside.ids.items ++ c.args.id ∷ []))
 moved c =

@@ -6,11 +6,11 @@ use Rattle.command_core.specs.Seams.{joined, last}
 use Rattle.command_core.proofs.piece.PieceRecords.end_in_field.Goals.{After-last_field}
 use Rattle.command_core.proofs.piece.PieceRecords.end_in_field.Goals as goal
 
--- the field doesn't end with a line feed, where there is one
+-- If there is a field, it doesn't end with a line feed.
 abbrev Holds : Option (List ℕ) → Type 0
 Holds found = IfSome found (λ field. last field ≢ Some 10)
 
--- what was found is the last field of all
+-- The field that was found is the last of all.
 found_is : (c : After-last_field)
     → option_map (λ (s : Bor (List ℕ)). s.now) c.last_field.result ≡ last (joined c.args.self.now)
 found_is c =

@@ -1,4 +1,4 @@
--- A value of no bytes, for no look.
+-- The result is a value without bytes, for no look.
 use Rattle.dip_core.proofs.Steps.{[], ◌∷◌, refl, proved, vstruct, vnil, tables, ‵, raw, ◌⊛◌, ◌$◌, ◌∵◌, !, qed, keep, move, split, suffices, done, no_more, returns, enter, agg, alloc_all, pass_all, free_all, look_at, sets, owns, pure_i, types_at, alive, says, Stays, walk_of, ends_at}
 use Rattle.dip_core.specs.contracts.all_looks.AllLooks as made
 use Rattle.dip_core.specs.contracts.all_looks.AllLooks.none as f

@@ -7,7 +7,7 @@ use Rattle.dip_core.specs.Invariants.{ArePlaced}
 use Rattle.dip_core.proofs.DivisionLemmas.{IsLeastDivision-from_placed}
 use Rattle.dip_core.proofs.placer.Placer.finish.Goals as goal
 
--- the parts that a placer kept are those that contracts see, and those of the division
+-- the placer's parts, the parts that contracts see, and the division's parts are the same
 least_of : (kept parts result : List (List Item)) → kept ≡ parts → result ≡ kept → ArePlaced kept
     → IsLeastDivision (all_of parts) result
 least_of kept parts result were is placed =

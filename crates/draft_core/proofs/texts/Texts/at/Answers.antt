@@ -5,7 +5,7 @@ use Rattle.row_core.specs.Texts.{IsText}
 use Rattle.draft_core.proofs.TextsLemmas.{AreTexts, text-there}
 use Rattle.draft_core.proofs.texts.Texts.at.Goals as goal
 
--- what is read from the parts of equal lists is a text
+-- a part of equal ends and bytes is a text
 part-text : (ends bytes ends' bytes' text : List ℕ) (i : ℕ) → AreTexts ends bytes → ends' ≡ ends → bytes' ≡ bytes
     → slice_get (cut 0 ends' bytes') i ≡ Some text → IsText text
 part-text ends bytes ends' bytes' text i are e b there =

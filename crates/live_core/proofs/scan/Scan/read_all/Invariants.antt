@@ -1,4 +1,4 @@
--- The bytes before `place` were read.
+-- The bytes before index `place` were read.
 use Rattle.std.proofs.Common.{◌≤◌, take}
 use Rattle.live_core.specs.Scanning.{Knows, Reading, read_bytes}
 use Rattle.live_core.proofs.ScanLemmas.{IsReadTo}

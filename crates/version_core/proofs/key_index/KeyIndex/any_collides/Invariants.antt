@@ -4,7 +4,7 @@ use Rattle.version_core.specs.Keys.{collides_left}
 use Rattle.version_core.proofs.KeyIndexLemmas.{AreLeft}
 use Rattle.version_core.proofs.key_index.KeyIndex.any_collides.Given as goal
 
--- no version of an entry so far collides
+-- no version of a searched entry collides
 abbrev pub invariant-loop-entry : goal.invariant-loop-entry
 invariant-loop-entry l =
     AreLeft (λ e. passes l.versions

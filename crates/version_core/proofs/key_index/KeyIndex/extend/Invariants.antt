@@ -2,6 +2,6 @@ use Rattle.std.proofs.Common.{take}
 use Rattle.version_core.specs.KeyIndex.{IsKeyIndex}
 use Rattle.version_core.proofs.key_index.KeyIndex.extend.Given as goal
 
--- the versions so far are in the index
+-- the first versions are in the index
 abbrev pub invariant-loop-place : goal.invariant-loop-place
 invariant-loop-place l = IsKeyIndex (take l.place l.versions) l.self

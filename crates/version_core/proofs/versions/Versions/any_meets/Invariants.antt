@@ -5,7 +5,7 @@ use Rattle.version_core.specs.Keys.{rows_left}
 use Rattle.version_core.specs.OpenVersions.{current}
 use Rattle.version_core.proofs.versions.Versions.any_meets.Given as goal
 
--- none so far
+-- none of the first rows collides
 abbrev pub invariant-loop-i : goal.invariant-loop-i
 invariant-loop-i l =
     list_any (λ other. list_any (λ left. collide l.index.columns.items left other)

@@ -29,7 +29,7 @@ close_all-requires c =
     λ k d lt. let below = inside k d lt in
     omega (arith, below, grown, length-append vs fresh)
 
--- the versions as the indexes are given them
+-- the versions that the indexes get
 given : (c : goal.After-deref-2)
     → c.close_all.new.versions ≡ versions_after c.args.commit c.args.change.now c.self.inside.items
 given c =
@@ -59,7 +59,7 @@ keep_indexes-requires-clause-inside c =
       length-map vs (closed c.args.commit goes),
     )
 
--- those before the new ones
+-- the versions before the new ones
 front : (c : goal.After-deref-2)
     → take c.len-before.result c.close_all.new.versions
     ≡ map (closed c.args.commit (removes c.args.change.now)) c.self.inside.items
