@@ -2,6 +2,7 @@ pub mod Crowds
 pub mod Found
 pub mod Join
 pub mod JoinLots
+pub mod JoinSides
 pub mod JoinStandIns
 pub mod ItemJoin
 pub mod PairValues

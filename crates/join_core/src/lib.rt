@@ -7,7 +7,6 @@ mod advances;
 mod bundle_joins;
 mod crowds;
 mod found;
-mod item_join;
 mod join_pairs;
 mod joins;
 mod laws;
@@ -15,9 +14,8 @@ mod rows;
 mod stretches;
 mod tiles;
 
-pub use item_join::JoinAnswer;
 pub use join_pairs::{JoinOut, JoinPairs, JoinWork};
-pub use joins::join;
+pub use joins::{JoinAnswer, join, join_rows};
 pub use laws::{
     join_has_one_list, join_is_that_of_codes, join_is_that_of_its_lots, join_is_that_of_stand_ins,
 };

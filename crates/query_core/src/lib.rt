@@ -10,7 +10,7 @@ mod rows_by_id;
 
 pub use agg_core::{AggRow, AggRowRef, AggRows, AggShare, Func, agg};
 pub use anti_core::{AntiRow, AntiRows, GapPairs, anti};
-pub use join_core::{JoinAnswer, JoinOut, JoinPairs, JoinRow, JoinRows, join};
+pub use join_core::{JoinAnswer, JoinOut, JoinPairs, JoinRow, JoinRows, join, join_rows};
 pub use laws::join_and_anti_share_left_rows;
 pub use match_core::{QueryRefused, Side, items};
 pub use period_core::NoMemory;

@@ -26,7 +26,7 @@ use anti_core::anti;
 use book_core::SharedRows;
 use cert_core::{Certificate, Claim, check_division};
 use command_core::{Aggregate, Lines, Refusal, TwoTables};
-use join_core::join;
+use join_core::join_rows;
 use period_core::{NoMemory, Point};
 use query_core::{Side, dip, items};
 use row_core::{Name, Schema};
@@ -181,8 +181,8 @@ pub(crate) fn join_tables<T: Threads + Sync>(
         workers,
         gate,
     } = crew_for(crew, left.len().saturating_add(right.len()));
-    match join(rt, alloc, left_side, right_side, &on, workers, gate) {
-        Ok(found) => Ok(Answer::Join(Joined::new(left, right, found.rows))),
+    match join_rows(rt, alloc, left_side, right_side, &on, workers, gate) {
+        Ok(rows) => Ok(Answer::Join(Joined::new(left, right, rows))),
         Err(why) => Err(failure_at(number, why)),
     }
 }

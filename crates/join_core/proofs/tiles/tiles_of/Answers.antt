@@ -5,7 +5,7 @@ use Rattle.std.proofs.lemmas.Result.{IfOk-weaker}
 use Rattle.std.proofs.lemmas.List.Sorted.{length_permutation}
 use Rattle.dip_core.proofs.DivisionLemmas.{HasDistinctIds-permutation}
 use Rattle.dip_core.specs.Item.{item_limit}
-use Rattle.join_core.proofs.TileLemmas.{AreTiles-divisible, AreTiles-permutation}
+use Rattle.join_core.proofs.TileLemmas.{AreTiles-permutation}
 use Rattle.join_core.specs.declared.tiles.Tile.{Tile}
 use Rattle.join_core.proofs.tiles.tiles_of.Goals as goal
 

@@ -18,10 +18,10 @@ returns-in-Ok g c =
     let both = c.in_ok-left_columns.field-0 in
     let read = c.in_ok-left_columns.ensures in
     let named : c.deref.result.now ≡ name_pairs_in c.args.tables.on = c.deref.ensures.value ∙ c.in_ok-on.ensures in
-    let answered = rw named at c.in-Ok.ensures.answer in (
+    let answered = rw named at c.in-Ok.ensures in (
       ((both.left_columns.now, both.left), (both.right_columns.now, both.right)),
       compared-read c.args.number (history c.args.snapshot.now) (commit_shown c.args.snapshot.now)
           (compared_in c.args.tables) (both.left_columns, both.left) (both.right_columns, both.right) read.left
           read.right answered.0,
-      record { rows = c.in-Ok.found.rows; joined = answered.1; is = ap answer.Join c.new.ensures },
+      record { rows = c.in-Ok.rows; joined = answered.1; is = ap answer.Join c.new.ensures },
     )
