@@ -57,17 +57,6 @@ found_from name (t ∷ ts) i k =
           )
     ]
 
-pub absent_from : (name : List ℕ) (f : StoredTable → StoredTable) (ts : List StoredTable) (i : ℕ)
-    → position_from (λ t. bytes_eq t.name name) i ts ≡ None → at_kept name f ts ≡ ts
-absent_from name f [] i = λ h. refl
-absent_from name f (t ∷ ts) i =
-    elim (bytes_eq t.name name) as
-    (λ b. cond b (Some i) (position_from (λ t. bytes_eq t.name name) (i + 1) ts) ≡ None
-    → cond b (f t ∷ ts) (t ∷ at_kept name f ts) ≡ t ∷ ts) [
-      | true ↦ λ h. absurd (cc)
-      | false ↦ λ h. ap (λ l. t ∷ l) (absent_from name f ts (i + 1) h)
-    ]
-
 -- refusals
 
 pub first_of-none : {E : Type 0} (tests : List (Bool × E)) → first_of tests ≡ None

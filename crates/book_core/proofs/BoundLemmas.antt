@@ -8,7 +8,6 @@ use Rattle.std.proofs.lemmas.List.Elements.{filter_agree}
 use Rattle.std.proofs.lemmas.List.Sums.{fold-append}
 use Rattle.period_core.specs.Period.{after as later, before, meet}
 use Rattle.period_core.specs.declared.period.Period.{Period}
-use Rattle.row_core.specs.Refusals.{first_of}
 use Rattle.row_core.specs.Schema.{column_of}
 use Rattle.row_core.specs.ValueOrder.{same_value}
 use Rattle.row_core.specs.declared.draft.Draft.{Draft}
@@ -21,7 +20,7 @@ use Rattle.portion_core.specs.Wanted.{are_wanted, with_set}
 use Rattle.portion_core.specs.declared.portion_change.PortionChange.{PortionChange}
 use Rattle.book_core.specs.Bound.{Does, IsOfRows, portion_parts, rows_changed}
 use Rattle.book_core.specs.Rows.{Pair, inside_set, is_equal_at, is_touched, parts_within, set_at}
-use Rattle.book_core.specs.State.{State, first_refusal, table_named, table_of, tests_of, with_table}
+use Rattle.book_core.specs.State.{table_named}
 use Rattle.book_core.specs.StoredTables.{StoredTable, at_kept, kept_table_after, kept_tables_after}
 use Rattle.book_core.specs.declared.change.Change.{Change}
 use Rattle.book_core.specs.declared.change.Change.TheVariants.{Make, Load, Update, Delete}
@@ -156,10 +155,3 @@ changes-rows n ts (Make name schema) of = absurd of
 changes-rows n ts (Load name rows) of = refl
 changes-rows n ts (Update name portion sets conds) of = refl
 changes-rows n ts (Delete name portion conds) of = refl
-
-pub rows-refusal : (n : ℕ) (s : State) (c : Change) → IsOfRows c
-    → with_table (table_of s (table_named c)) (λ t. first_of (tests_of n c t)) ≡ first_refusal n s c
-rows-refusal n s (Make name schema) of = absurd of
-rows-refusal n s (Load name rows) of = refl
-rows-refusal n s (Update name portion sets conds) of = refl
-rows-refusal n s (Delete name portion conds) of = refl

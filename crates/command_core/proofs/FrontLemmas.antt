@@ -3,7 +3,8 @@ use Rattle.std.proofs.Common.{◌≡◌, ◌≢◌, ℕ, suc, ◌+◌, ◌<◌, 
 use Rattle.std.specs.Prelude.{IfSome}
 use Rattle.std.specs.Option.{option_or}
 use Rattle.std.proofs.Math.Seq.{take-suc}
-use Rattle.std.proofs.lemmas.Bool.{cases_Bool}
+use Rattle.std.proofs.lemmas.Bool.{cases_Bool, cases_lt}
+use Rattle.std.proofs.lemmas.List.{take_all}
 use Rattle.csv.specs.Machine.{next_record}
 use Rattle.csv.specs.Reading.{Reached, is_bom, strip_bom}
 use Rattle.csv.specs.declared.parser.State.TheVariants as st
@@ -67,6 +68,30 @@ EndsInField-more lists i records within is first second =
     (take-suc lists i records within ∙ ap (λ (r : List Record). take i lists ++ r ∷ []) (sym is))
     ∙ joined-push (take i lists) records in
     subst EndsInField (sym all) (EndsInField-both (joined (take i lists)) records first second)
+
+-- if the later records don't end so, all of them don't
+EndsInField-not : (records others : List Record) → (EndsInField others → ⊥) → EndsInField (records ++ others) → ⊥
+EndsInField-not records others not_so both =
+    by (last (joined others)) not_so
+    (subst (λ (o : Option (List ℕ)). IfSome o (λ field. last field ≢ Some 10)) (last-joined records others) both)
+  where
+    by : (o : Option (List ℕ)) → (IfSome o (λ field. last field ≢ Some 10) → ⊥)
+        → IfSome (option_or o (last (joined records))) (λ field. last field ≢ Some 10) → ⊥
+    by None none whole = none tt
+    by (Some field) none whole = none whole
+
+-- if all lists except the last end so, and one list doesn't, the joined lists don't
+pub lists-not : (lists : List (List Record)) (i : ℕ) → i < length lists → (EndsInField (get_or lists i []) → ⊥)
+    → ((j : ℕ) → suc j < length lists → EndsInField (get_or lists j [])) → EndsInField (joined lists) → ⊥
+lists-not lists i inside not_so others whole = elim (cases_lt (suc i) (length lists)) [
+  | inl before ↦ not_so (others i before)
+  | inr last_one ↦
+      let all : joined lists ≡ joined (take i lists) ++ get_or lists i [] =
+      ap (λ (l : List (List Record)). joined l)
+      (sym (take_all (suc i) lists last_one) ∙ take-suc lists i [] inside)
+      ∙ joined-push (take i lists) (get_or lists i []) in
+      EndsInField-not (joined (take i lists)) (get_or lists i []) not_so (subst EndsInField all whole)
+]
 
 -- Prefixes
 

@@ -1,5 +1,5 @@
 -- Seams of a script: where it is cut into pieces that are read one by one.
-use Rattle.std.specs.Prelude.{◌≡◌, ◌≢◌, ◌⊎◌, ℕ, suc, ◌<◌, List, [], ◌∷◌, ◌++◌, Option, None, Some, IfSome, length, drop, take, get_or, flat_map}
+use Rattle.std.specs.Prelude.{◌≡◌, ◌≢◌, ◌⊎◌, ℕ, suc, ◌+◌, ◌<◌, ◌≤◌, List, [], ◌∷◌, ◌++◌, Option, None, Some, IfSome, length, drop, take, get_or, flat_map}
 use Rattle.csv.specs.Machine.{line_feed}
 use Rattle.csv.specs.Reading.{strip_bom}
 use Rattle.command_core.specs.Records.{AreScriptRecords, Record}
@@ -41,6 +41,18 @@ AreSeams texts lists = (i : ℕ) → suc i < length texts
 pub record IsCut (text : List ℕ) (place : ℕ) : Type 0 where
   pub ends : last (take place text) ≡ Some line_feed
   pub unmarked : (more : List ℕ) → strip_bom (drop place text ++ more) ≡ drop place text ++ more
+
+-- no line end is followed by three bytes that are not a byte order mark
+abbrev pub HasNoCut : List ℕ → Type 0
+HasNoCut text = (place : ℕ) → place + 3 ≤ length text → IsCut text place → ⊥
+
+-- the text before a cut, if only that is read, ends within a quoted field
+pub record IsCutWithin (text : List ℕ) : Type 0 where
+  pub place : ℕ
+  pub cut : IsCut text place
+  pub records : List Record
+  pub are : AreScriptRecords (take place text) records
+  pub within : EndsInField records → ⊥
 
 -- These are the records of the prefix `front` of a script, whose next bytes are `next`. Either `front` is empty, or a
 -- record begins after it, whatever follows `next`.

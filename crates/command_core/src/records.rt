@@ -1,5 +1,5 @@
 //! The records of a script, and how many of them were consumed.
-ghost use Rattle.std.specs.Prelude.{◌≡◌, ◌<◌, ◌≤◌, ◌^◌, drop, length, slice_get, Some};
+ghost use Rattle.std.specs.Prelude.{◌≡◌, ◌+◌, ◌<◌, ◌≤◌, ◌^◌, drop, length, slice_get, IfSome, Some};
 ghost use Rattle.command_core.specs.Lines.{fields_in};
 ghost use Rattle.command_core.specs.Seams.{joined};
 
@@ -19,7 +19,7 @@ pub struct Records {
 }
 
 impl Model for Records {
-    ghost use Rattle.std.specs.Prelude.{ℕ, List, length, drop, ◌≡◌, ◌≤◌, ◌<◌, ◌^◌};
+    ghost use Rattle.std.specs.Prelude.{ℕ, List, length, drop, slice_get, ◌≡◌, ◌≤◌, ◌<◌, ◌^◌, IfSome};
     ghost use Rattle.command_core.specs.Seams.{joined};
 
     ghost Value = { List (List (List ℕ)) };
@@ -27,15 +27,16 @@ impl Model for Records {
     ghost view = { λ r. drop r.passed (joined r.batches.items) };
 
     ghost invariant = { λ r. (r.count ≡ length (joined r.batches.items)) × (r.passed ≤ r.count)
-        × (r.count < 2 ^ 64) };
+        × (r.count < 2 ^ 64) × IfSome (slice_get r.batches.items 0) (λ first. r.passed < length first) };
 }
 
 impl Records {
     /// Returns the records of `batches`, none of them consumed.
-    pub(crate) fn of(batches: Vec<Batch>) -> Records
+    pub(crate) fn of(mut batches: Vec<Batch>) -> Records
         requires { length (joined batches.items) < 2 ^ 64 }
         ensures { result ≡ joined batches.items }
     {
+        give_back(&mut batches, 0);
         let count = count_of(&batches);
         Records {
             batches,
@@ -76,6 +77,8 @@ impl Records {
 fn give_back(batches: &mut Vec<Batch>, passed: usize) -> usize
     ensures within { result ≤ passed }
     ensures left { joined batches.new.items ≡ drop result (joined batches.old.items) }
+    ensures whole { IfSome (slice_get batches.new.items 0)
+        (λ first. passed < result + length first) }
 {
     let mut gone = 0;
     while let Some(first) = batches.first() {

@@ -1,7 +1,7 @@
 //! Reads the records of a script that arrives in several texts. Workers parse the pieces of a text in parallel.
-ghost use Rattle.std.specs.Prelude.{◌≡◌, ◌+◌, ◌<◌, ◌≤◌, ◌^◌, ◌++◌, [], List, ℕ, drop, take, length, get_or, map, IfOk, OnOk};
+ghost use Rattle.std.specs.Prelude.{◌≡◌, ◌⊎◌, ◌+◌, ◌<◌, ◌≤◌, ◌^◌, ◌++◌, [], List, ℕ, suc, drop, take, length, get_or, map, IfOk, OnOk};
 ghost use Rattle.command_core.specs.Records.{AreScriptRecords};
-ghost use Rattle.command_core.specs.Seams.{AreOfFront, AreRead, joined};
+ghost use Rattle.command_core.specs.Seams.{AreOfFront, AreRead, EndsInField, HasNoCut, IsCutWithin, joined};
 
 use crate::batch::Batch;
 use crate::piece::{PieceRecords, read_piece};
@@ -61,6 +61,8 @@ impl ScriptReader {
         ensures within { IfOk result (λ taken. taken ≤ length text.now) }
         ensures read { IfOk result (λ taken. (front : List ℕ) → AreOfFront front self.old text.now
             → AreOfFront (front ++ take taken text.now) self.new (drop taken text.now)) }
+        ensures none { IfOk result (λ taken. taken ≡ 0
+            → HasNoCut text.now ⊎ IsCutWithin text.now) }
     {
         let cut = last_cut(text);
         if cut == 0 {
@@ -106,7 +108,9 @@ fn read_text<R: Threads + Sync>(
     workers: u32,
 ) -> Result<Vec<PieceRecords>, NoMemory>
     requires { length text.now < 2 ^ 31 }
-    ensures { IfOk result (λ read. AreScriptRecords text.now (joined read.items)) }
+    ensures records { IfOk result (λ read. AreScriptRecords text.now (joined read.items)) }
+    ensures seams { IfOk result (λ read. (i : ℕ) → suc i < length read.items
+        → EndsInField (get_or read.items i [])) }
 {
     let pieces = pieces_of(alloc, text, workers)?;
     let mut read = read_each(rt, alloc, &pieces)?;

@@ -1,9 +1,9 @@
 //! Cuts a script after line ends, so that its pieces can be read one by one. A record begins after most line ends, but
 //! not after one between quotes.
-ghost use Rattle.std.specs.Prelude.{◌≡◌, ◌≢◌, ◌↔◌, ◌+◌, ◌<◌, ◌≤◌, ◌/◌, length, map, max, min, true, IfOk, IfSome, IsFalse, IsTrue, MatchBool, Some};
+ghost use Rattle.std.specs.Prelude.{◌≡◌, ◌≢◌, ◌↔◌, ℕ, ◌+◌, ◌<◌, ◌≤◌, ◌/◌, [], get_or, length, map, max, min, false, true, IfOk, IfSome, IsFalse, IsTrue, MatchBool, Some};
 ghost use Rattle.csv.specs.Machine.{line_feed};
 ghost use Rattle.csv.specs.Reading.{strip_bom};
-ghost use Rattle.command_core.specs.Seams.{AreSeams, EndsInField, IsCut, IsSeam, joined, last};
+ghost use Rattle.command_core.specs.Seams.{AreSeams, EndsInField, HasNoCut, IsCut, IsSeam, joined, last};
 
 use crate::piece::PieceRecords;
 use period_core::NoMemory;
@@ -66,6 +66,7 @@ fn first_cut(text: &[u8], from: usize) -> Option<usize>
 pub(crate) fn last_cut(text: &[u8]) -> usize
     ensures within { result ≤ length text.now }
     ensures cut { 0 < result → IsCut text.now result }
+    ensures none { result ≡ 0 → HasNoCut text.now }
 {
     let before_row = last_cut_before(text, ROW, text.len().saturating_sub(BYTES_LOOKED_AT));
     if before_row > 0 {
@@ -79,6 +80,7 @@ pub(crate) fn last_cut(text: &[u8]) -> usize
 fn last_cut_before(text: &[u8], word: &[u8], from: usize) -> usize
     ensures within { result ≤ length text.now }
     ensures cut { 0 < result → IsCut text.now result }
+    ensures none { result ≡ 0 → word.now ≡ [] → from ≡ 0 → HasNoCut text.now }
 {
     for at in (from..text.len().saturating_sub(2)).rev() {
         if is_cut(text, at) && text[at..].starts_with(word) {
@@ -91,7 +93,8 @@ fn last_cut_before(text: &[u8], word: &[u8], from: usize) -> usize
 /// Returns whether a line ends before index `at`, and the three bytes after it aren't a byte order mark.
 fn is_cut(text: &[u8], at: usize) -> bool
     requires { at + 3 ≤ length text.now }
-    ensures { result ≡ true → IsCut text.now at }
+    ensures yes { result ≡ true → IsCut text.now at }
+    ensures no { result ≡ false → IsCut text.now at → ⊥ }
 {
     let (front, behind) = text.split_at(at);
     ends_line(front) && !is_marked(behind)
@@ -99,7 +102,9 @@ fn is_cut(text: &[u8], at: usize) -> bool
 
 /// Returns whether no list's last field ends with a line feed.
 pub(crate) fn end_in_fields(lists: &[PieceRecords]) -> bool
-    ensures { result ≡ true → EndsInField (joined lists.now) }
+    ensures yes { result ≡ true → EndsInField (joined lists.now) }
+    ensures no { result ≡ false → (i : ℕ) × (i < length lists.now)
+        × (EndsInField (get_or lists.now i []) → ⊥) }
 {
     for records in lists {
         if !records.end_in_field() {

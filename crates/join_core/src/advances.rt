@@ -70,9 +70,10 @@ pub(crate) fn turns_answered<R: Threads + Sync, G>(
     requires left_ids { HasDistinctIds left.now }
     requires right_ids { HasDistinctIds right.now }
     requires made { AreMade left.now right.now advances }
-    ensures { IfOk result (λ turns. (k m : ℕ) → IsLeast (map unclassed left.now) k
+    ensures within { IfOk result (λ turns. (k m : ℕ) → IsLeast (map unclassed left.now) k
         → IsLeast (map unclassed right.now) m → IsWithin k m (length left.now)
         (length right.now) turns) }
+    ensures made { IfOk result (λ turns. advances.made ≤ turns) }
 {
     if advances.are_enough() {
         return Ok(advances.made);

@@ -1,5 +1,5 @@
 -- The order of sort keys, and their equality.
-use Rattle.std.proofs.Common.{◌≡◌, Bool, true, false, not, ◌&&◌, Option, Some, None, refl, sym, ap, ◌∙◌}
+use Rattle.std.proofs.Common.{◌≡◌, Bool, true, false, refl, sym, ap, ◌∙◌}
 use Rattle.std.specs.Bool.{Decides}
 use Rattle.std.specs.Cmp.{IsTotalOrder}
 use Rattle.std.specs.Ordering.{is_lt, is_eq, ordering_reverse}
@@ -7,8 +7,6 @@ use Rattle.std.specs.declared.cmp.Ordering.{Ordering}
 use Rattle.std.specs.declared.cmp.Ordering.TheVariants.{Less, Equal, Greater}
 use Rattle.std.proofs.lemmas.Cmp.{then_total, on_total, nat_cmp_total, tied_itself, tied_back}
 use Rattle.match_core.specs.declared.cells.Cell.{Cell}
-use Rattle.share_core.specs.Ranges.{has, has_begun, has_ended}
-use Rattle.share_core.specs.declared.range.Range.{Range}
 use Rattle.match_core.specs.Cells.{cell_cmp, is_before, same_cell}
 
 -- the boolean tests of an order decide it
@@ -89,26 +87,3 @@ module _ {V : Type 0} (cmp : V → V → Ordering) (total : IsTotalOrder cmp) wh
       ap is_lt
       ((cell_total cmp total).antisymm a x ∙ ap ordering_reverse ((cell_total cmp total).congr x y a s)
       ∙ sym ((cell_total cmp total).antisymm a y))
-
-  -- and both come before it, or neither does
-  same-before : (a x y : Cell V) → SameCell cmp x y → is_before cmp x a ≡ is_before cmp y a
-  same-before a x y s = ap is_lt ((cell_total cmp total).congr x y a s)
-
-  -- a range has begun at both of two equal keys, or at neither
-  begun_same : (from : Option (Cell V)) (x y : Cell V) → SameCell cmp x y
-      → has_begun (cell_cmp cmp) from x ≡ has_begun (cell_cmp cmp) from y
-  begun_same None x y s = refl
-  begun_same (Some first) x y s = ap not (same-before first x y s)
-
-  -- it has ended at both, or at neither
-  ended_same : (end : Option (Cell V)) (x y : Cell V) → SameCell cmp x y
-      → has_ended (cell_cmp cmp) end x ≡ has_ended (cell_cmp cmp) end y
-  ended_same None x y s = refl
-  ended_same (Some first) x y s = ap not (same-before first x y s)
-
-  -- a range contains both, or neither
-  pub has-same : (range : Range (Cell V)) (x y : Cell V) → SameCell cmp x y
-      → has (cell_cmp cmp) range x ≡ has (cell_cmp cmp) range y
-  has-same range x y s =
-      ap (λ b. b && not (has_ended (cell_cmp cmp) range.before x)) (begun_same range.from x y s)
-      ∙ ap (λ b. has_begun (cell_cmp cmp) range.from y && not b) (ended_same range.before x y s)

@@ -102,18 +102,6 @@ length-items_with (r ∷ rows) [] enough = absurd (omega arith)
 length-items_with (r ∷ rows) (c ∷ classes) enough = let e = length-items_with rows classes (omega arith) in
     omega (arith, e)
 
--- one more row and its item
-pub items_with-more : (rows : List Row) (classes : List ℕ) (i : ℕ) (r : Row) → i < length rows → i < length classes
-    → items_with (take (i + 1) rows) (take (i + 1) classes) ≡ items_with (take i rows) (take i classes) ++ item_with
-    (get_or rows i r) (get_or classes i 0) ∷ []
-items_with-more [] classes i r h k = absurd (omega arith)
-items_with-more (q ∷ rows) [] i r h k = absurd (omega arith)
-items_with-more (q ∷ rows) (c ∷ classes) zero r h k = refl
-items_with-more (q ∷ rows) (c ∷ classes) (suc i) r h k =
-    let e : suc i + 1 ≡ suc (i + 1) = omega arith in
-    ap (λ n. items_with (take n (q ∷ rows)) (take n (c ∷ classes))) e
-    ∙ ap (λ l. item_with q c ∷ l) (items_with-more rows classes i r (omega arith) (omega arith))
-
 -- one more row as an item of one class
 pub items_of-more : (rows : List Row) (i : ℕ) (r : Row) → slice_get rows i ≡ Some r
     → items_of (take (i + 1) rows) ≡ items_of (take i rows) ++ item_with r 0 ∷ []
@@ -122,16 +110,6 @@ items_of-more (q ∷ rows) zero r h = let e : q ≡ r = cc in ap (λ (x : Row). 
 items_of-more (q ∷ rows) (suc i) r h =
     let e : suc i + 1 ≡ suc (i + 1) = omega arith in
     ap (λ n. items_of (take n (q ∷ rows))) e ∙ ap (λ l. item_with q 0 ∷ l) (items_of-more rows i r h)
-
--- a prefix that contains all rows
-pub items_with-front : (rows : List Row) (classes : List ℕ) (n : ℕ) → length rows ≤ n → length rows ≤ length classes
-    → items_with (take n rows) (take n classes) ≡ items_with rows classes
-items_with-front [] classes zero h enough = refl
-items_with-front [] classes (suc n) h enough = refl
-items_with-front (r ∷ rows) [] n h enough = absurd (omega arith)
-items_with-front (r ∷ rows) (c ∷ classes) zero h enough = absurd (omega arith)
-items_with-front (r ∷ rows) (c ∷ classes) (suc n) h enough =
-    ap (λ l. item_with r c ∷ l) (items_with-front rows classes n (omega arith) (omega arith))
 
 -- without classes there are no items
 items_with-unclassed : (rows : List Row) → items_with rows [] ≡ []

@@ -197,7 +197,9 @@ pub fn items_in_piece(
 }
 
 /// Returns how many of the classes are within a range.
-fn count_in(range: Range<u64>, classes: &[u64]) -> usize {
+fn count_in(range: Range<u64>, classes: &[u64]) -> usize
+    ensures { result ≤ length classes.now }
+{
     if range.from.is_none() && range.before.is_none() {
         return classes.len();
     }

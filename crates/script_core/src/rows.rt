@@ -1,5 +1,5 @@
 //! Reads the rows of a load.
-ghost use Rattle.std.specs.Prelude.{◌≡◌, ◌+◌, ◌<◌, ◌≤◌, ◌^◌, ◌++◌, ◌∷◌, [], IfOk, Ok, MatchResult, length};
+ghost use Rattle.std.specs.Prelude.{◌≡◌, ◌+◌, ◌-◌, ◌==◌, ◌<◌, ◌≤◌, ◌^◌, ◌++◌, ◌∷◌, [], IfOk, Ok, MatchResult, if◌then◌else◌, length};
 ghost use Rattle.std.specs.List.{enumerate_from};
 ghost use Rattle.share_core.specs.Pieces.{piece};
 ghost use Rattle.row_core.specs.declared.draft.Draft.{Draft as AnyDraft};
@@ -94,6 +94,7 @@ fn rows_in_range(
 /// because the rows of the other ranges are appended to its list.
 fn room_of(from: usize, to: usize, count: usize) -> usize
     requires { from ≤ to }
+    ensures { result ≡ (if from == 0 then count else to - from) }
 {
     if from == 0 { count } else { to - from }
 }

@@ -1,6 +1,6 @@
 //! Lists that share the rows of a table.
 
-ghost use Rattle.std.specs.Prelude.{◌≡◌, ◌<◌, All, Some, filter, length, slice_get, IfOk};
+ghost use Rattle.std.specs.Prelude.{◌≡◌, ◌<◌, ◌^◌, All, Some, filter, length, slice_get, IfOk, IsOk};
 ghost use Rattle.period_core.specs.Period.{holds_at};
 ghost use Rattle.table_core.specs.Lent.{lent_row};
 ghost use Rattle.table_core.specs.Places.{AreWithin, at_places, shown_at};
@@ -164,7 +164,8 @@ fn holds_at(row: RowRef<'_>, point: Point) -> bool
 ///
 /// `NoMemory` if it doesn't fit; no allocation was refused then.
 pub fn as_place(place: usize) -> Result<u32, NoMemory>
-    ensures { IfOk result (λ p. p ≡ place) }
+    ensures index { IfOk result (λ p. p ≡ place) }
+    ensures fits { place < 2 ^ 32 → IsOk result }
 {
     u32::try_from(place).map_err(|_| AllocError)
 }

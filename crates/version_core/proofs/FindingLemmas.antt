@@ -6,7 +6,7 @@ use Rattle.std.proofs.lemmas.List.{append-nil, length-map, take_at}
 use Rattle.std.proofs.lemmas.List.Elements.{filter-append, filter_agree, All-append, All-filter, All-from_recursion, All-weaker, recursion_from_All}
 use Rattle.std.proofs.lemmas.List.Sums.{count_by-le-length, length-filter}
 use Rattle.std.proofs.lemmas.Option.{slice_get-map}
-use Rattle.std.proofs.Math.Bool.{and-true}
+use Rattle.std.proofs.Math.Bool.{and-true, and_self}
 use Rattle.std.proofs.lemmas.Bool.{and_parts, or_parts}
 use Rattle.list_core.proofs.PlaceLemmas.{slice_get-before, slice_get-seam}
 use Rattle.key_core.proofs.Replaced.{append-parts}
@@ -47,10 +47,6 @@ filter_agree-within p q [] h = refl
 filter_agree-within p q (x ∷ xs) h =
     ap (λ b. cond b (x ∷ filter p xs) (filter p xs)) h.0
     ∙ ap (λ l. cond (q x) (x ∷ l) l) (filter_agree-within p q xs h.1)
-
-and_self : (b : Bool) → (b && b) ≡ b
-and_self true = refl
-and_self false = refl
 
 filter_again : (p : ℕ → Bool) (xs : List ℕ) → filter p (filter p xs) ≡ filter p xs
 filter_again p xs = filter_filter p p xs ∙ filter_agree (λ x. p x && p x) p (λ x. and_self (p x)) xs

@@ -1,9 +1,14 @@
 -- Indexes by the values of a column.
-use Rattle.std.proofs.Common.{◌≡◌, ℕ, ℤ, ◌+◌, ◌*◌, ◌%◌, ◌<◌, ◌==◌, List, [], ◌∷◌, ◌++◌, Bool, true, false, ◌&&◌, cond, Option, Some, None, ◌⊎◌, length, map, take, get_or, set, refl, ap, sym, subst, ◌∙◌, arith, inl, inr}
-use Rattle.std.specs.Prelude.{slice_get, filter, find, unwrap_or, option_map, fold, unsigned_abs, All, IfSome, IsSome, is_some}
-use Rattle.std.proofs.lemmas.Bool.{cases_eq, cases_lt, and_right, eq-eqb, eqb-true, ne_eqb}
+use Rattle.std.proofs.Common.{◌≡◌, ℕ, ℤ, ◌+◌, ◌*◌, ◌%◌, ◌<◌, ◌≤◌, ◌==◌, List, [], ◌∷◌, ◌++◌, Bool, true, false, ◌&&◌, cond, Option, Some, None, ◌⊎◌, length, map, drop, take, get_or, set, refl, ap, sym, subst, ◌∙◌, arith, inl, inr}
+use Rattle.std.specs.Prelude.{slice_get, filter, find, unwrap_or, option_map, fold, nat_lt, position, unsigned_abs, All, IfSome, IsSome, is_some}
+use Rattle.std.specs.List.{position_or_len}
+use Rattle.std.proofs.lemmas.Bool.{cases_eq, cases_lt, and_right, eq-eqb, eqb-true, ltb-false, ne_eqb}
 use Rattle.std.proofs.lemmas.List.{get_or_default, get_or-set_other, get_or-set_same, length-set, length-take-le, take_more}
-use Rattle.std.proofs.lemmas.List.Elements.{All-get_or, All-head, All-tail, All-weaker}
+use Rattle.std.proofs.lemmas.List.{length-take, take-append-drop, take-append-le}
+use Rattle.std.proofs.lemmas.List.Elements.{All-get_or, All-head, All-tail, All-weaker, filter_passes}
+use Rattle.std.proofs.lemmas.List.Folds.{find-set, find_at}
+use Rattle.std.proofs.lemmas.List.Quantifiers.{position-Some}
+use Rattle.std.proofs.lemmas.Option.{slice_get_past}
 use Rattle.std.proofs.lemmas.List.Sums.{fold-append}
 use Rattle.row_core.specs.ValueOrder.{same_value}
 use Rattle.row_core.specs.declared.row.Row.{Row}
@@ -261,6 +266,57 @@ pub index-written : (buckets : List (List ℕ)) (bucket : ℕ) (read new : List 
     → set buckets bucket new ≡ set buckets bucket (f (get_or buckets bucket []))
 index-written buckets bucket read new f inside r e =
     ap (set buckets bucket) (e ∙ ap f (r ∙ get_or_default buckets bucket read [] inside))
+
+-- a swept bucket lists open versions only
+pub swept-open : (vs : List Version) (buckets : List (List ℕ)) (bucket : ℕ) (read new : List ℕ)
+    → bucket < length buckets → new ≡ filter (passes vs is_open) read
+    → All (λ place. passes vs is_open place ≡ true) (get_or (set buckets bucket new) bucket [])
+swept-open vs buckets bucket read new inside e =
+    rw (get_or-set_same buckets bucket new [] inside, e) (filter_passes (passes vs is_open) read)
+
+-- the index of the first element that passes a test
+position-is : {X : Type 0} (test : X → Bool) (xs : List X) (i : ℕ) → position test xs ≡ Some i
+    → i ≡ position_or_len test xs
+position-is test xs i at = by (nat_lt (position_or_len test xs) (length xs)) at where
+  by : (b : Bool) → cond b (Some (position_or_len test xs)) None ≡ Some i → i ≡ position_or_len test xs
+  by true e = cc
+  by false e = absurd (cc)
+
+-- the bucket of a lookup after its index is written
+pub bucket-written : (P : List ℕ → Type 0) (indexes : List Index) (lookup : Lookup) (i : ℕ) (old new : Index)
+    → position (λ (index : Index). index.column == lookup.column) indexes ≡ Some i
+    → new.column ≡ (get_or indexes i old).column → P (get_or new.buckets.items lookup.bucket [])
+    → IfSome (bucket_at (set indexes i new) lookup) P
+bucket-written P indexes lookup i old new at column holds =
+    let test = λ (index : Index). index.column == lookup.column in
+    let found = position-Some test indexes i old at in
+    let passed : test new ≡ true =
+    ap (λ k. k == lookup.column) column ∙ found.1 in
+    subst (λ (o : Option Index). IfSome (option_map (λ (index : Index). get_or index.buckets.items lookup.bucket []) o) P)
+    (sym (find-set test indexes i new (position-is test indexes i at) found.0 passed)) holds
+
+-- a lookup has no bucket if no index is of its column
+pub bucket-nowhere : (P : List ℕ → Type 0) (indexes : List Index) (lookup : Lookup)
+    → position (λ (index : Index). index.column == lookup.column) indexes ≡ None → IfSome (bucket_at indexes lookup) P
+bucket-nowhere P indexes lookup none =
+    let test = λ (index : Index). index.column == lookup.column in
+    let place = position_or_len test indexes in
+    let nowhere = find_at test indexes ∙ slice_get_past indexes place (past place (length indexes) (nat_lt place (length indexes)) refl none) in
+    subst (λ (o : Option Index). IfSome (option_map (λ (index : Index). get_or index.buckets.items lookup.bucket []) o) P)
+    (sym nowhere) tt
+  where
+    past : (place count : ℕ) (b : Bool) → nat_lt place count ≡ b → cond b (Some place) None ≡ None → count ≤ place
+    past place count true e none = absurd (cc)
+    past place count false e none = ltb-false place count e
+
+-- a prefix of a prefix is a prefix
+pub first-stays : {X : Type 0} (first old new : List X) → take (length first) old ≡ first
+    → take (length old) new ≡ old → take (length first) new ≡ first
+first-stays first old new before after =
+    let few : length first ≤ length old =
+    omega (arith, ap length before, length-take (length first) old) in
+    ap (take (length first)) (sym (take-append-drop (length old) new) ∙ ap (λ l. l ++ drop (length old) new) after)
+    ∙ take-append-le (length first) old (drop (length old) new) few ∙ before
 
 -- all indexes before the new versions are added
 pub indexes-closed : (n : ℕ) (goes : Row → Bool) (vs front : List Version) (indexes : List Index)

@@ -1,8 +1,9 @@
 -- The index of open versions by key and start.
-use Rattle.std.proofs.Common.{◌≡◌, ℕ, ℤ, ◌+◌, ◌<◌, ◌≤◌, ◌≤ℤ◌, ◌<ℤ◌, List, [], ◌∷◌, ◌++◌, Bool, true, false, ◌&&◌, ◌||◌, not, cond, Option, Some, None, ◌⊎◌, zero, suc, length, map, take, get_or, refl, ap, sym, ◌∙◌, arith, inl, inr, append-nil, append_assoc}
-use Rattle.std.specs.Prelude.{IfSome, slice_get, filter, fold, nat_lt, is_some, unwrap_or, option_map}
+use Rattle.std.proofs.Common.{◌≡◌, ℕ, ℤ, ◌+◌, ◌<◌, ◌≤◌, ◌≤ℤ◌, ◌<ℤ◌, List, [], ◌∷◌, ◌++◌, Bool, true, false, ◌&&◌, ◌||◌, not, cond, Option, Some, None, Result, Ok, Err, ◌⊎◌, zero, suc, length, map, take, get_or, refl, ap, subst, sym, ◌∙◌, arith, inl, inr, append-nil, append_assoc}
+use Rattle.std.specs.Prelude.{Contains, IfOk, IfSome, OnOk, is_ok, slice_get, filter, fold, nat_lt, is_some, unwrap_or, option_map}
 use Rattle.std.specs.Int.{cast_unsigned, w64}
 use Rattle.std.specs.List.{list_any}
+use Rattle.std.specs.Result.{result_ok}
 use Rattle.std.specs.List.Sorted.{IsStrictlySortedBy}
 use Rattle.std.specs.declared.ops.Bound.TheVariants.{Excluded, Unbounded}
 use Rattle.std.specs.Ordering.{is_eq, is_le}
@@ -10,13 +11,14 @@ use Rattle.std.specs.declared.cmp.Ordering.TheVariants.{Less, Equal, Greater}
 use Rattle.std.specs.BTreeMap.{is_at}
 use Rattle.std.specs.BTreeMap.Range.{range_contains}
 use Rattle.std.specs.BTreeSet.{contains, Updates}
-use Rattle.std.proofs.lemmas.Bool.{and_parts, cases_eq, ltb-true, or_from, or_parts}
+use Rattle.std.proofs.lemmas.Bool.{and_parts, cases_Bool, cases_eq, ltb-true, or_from, or_parts}
 use Rattle.std.proofs.Math.Bool.{or-true}
 use Rattle.std.proofs.lemmas.Int.{ints}
 use Rattle.std.proofs.lemmas.List.{length-take-le, take_more}
 use Rattle.std.proofs.lemmas.List.Sums.{fold-append}
 use Rattle.std.proofs.lemmas.Option.{slice_get-map}
 use Rattle.std.proofs.lemmas.List.Folds.{list_any-append}
+use Rattle.list_core.proofs.RisingLemmas.{Contains-none}
 use Rattle.period_core.specs.Period.{meet}
 use Rattle.period_core.specs.declared.period.Period.{Period}
 use Rattle.row_core.specs.declared.draft.Draft.{Draft}
@@ -28,10 +30,10 @@ use Rattle.key_core.specs.Keys.{collide, have_collision, have_pair, same_key}
 use Rattle.key_core.proofs.Replaced.{append-parts}
 use Rattle.key_core.proofs.Collisions.{collide-flips, meet-between, shared}
 use Rattle.version_core.specs.Finding.{passes}
-use Rattle.version_core.specs.KeyIndex.{IsKeyIndex, IsLastNear, entry_cmp, entry_of, key_number, mixed, number_in, number_of, number_of_bytes}
+use Rattle.version_core.specs.KeyIndex.{HasOnlyOpen, IsEntryOf, IsKeyIndex, IsLastNear, entry_cmp, entry_of, key_number, mixed, number_in, number_of, number_of_bytes}
 use Rattle.version_core.specs.Keys.{collides_left, is_left}
 use Rattle.version_core.specs.Made.{draft_of}
-use Rattle.version_core.specs.OpenVersions.{closed, current, is_open}
+use Rattle.version_core.specs.OpenVersions.{closed, current, is_open, is_taken, places_from}
 use Rattle.version_core.specs.Rows.{removes}
 use Rattle.table_core.specs.Numbered.{unnumbered}
 use Rattle.version_core.specs.declared.change.RowsChange.{RowsChange}
@@ -335,6 +337,192 @@ key_index-closed n goes vs index h place v at opened =
         ap (λ (r : Row). contains entry_cmp index.entries
         (record { number = key_number index.columns.items r.values; from = r.period.from; place = place })) (sym row)
         ∙ h place u there before
+
+-- entries of open versions only
+
+-- a version keeps its index when another is added at the end
+pushed-stays : (vs : List Version) (v : Version) (q : ℕ) (u : Version) → slice_get vs q ≡ Some u
+    → slice_get (vs ++ v ∷ []) q ≡ Some u
+pushed-stays [] v q u at = absurd (cc)
+pushed-stays (w ∷ ws) v zero u at = at
+pushed-stays (w ∷ ws) v (suc q) u at = pushed-stays ws v q u at
+
+-- the added version is the last
+pushed-last : (vs : List Version) (v : Version) → slice_get (vs ++ v ∷ []) (length vs) ≡ Some v
+pushed-last [] v = refl
+pushed-last (w ∷ ws) v = pushed-last ws v
+
+-- one version more
+module _ (vs : List Version) (i : ℕ) (v : Version) (old new : KeyIndex) (inside : i < length vs)
+    (is : v ≡ get_or vs i v) (columns : new.columns.items ≡ old.columns.items) (gone : List ℕ)
+    (before : HasOnlyOpen (take i vs) gone old) where
+  longer : take (i + 1) vs ≡ take i vs ++ v ∷ []
+  longer = take_more vs i v inside ∙ ap (λ u. take i vs ++ u ∷ []) (sym is)
+
+  entry-kept : (e : Entry) → contains entry_cmp old.entries e ≡ true
+      → IsEntryOf (take (i + 1) vs) gone new.columns.items e
+  entry-kept e there =
+      let h = before e there in
+      record {
+        version = h.version;
+        at = ap (λ l. slice_get l e.place) longer ∙ pushed-stays (take i vs) v e.place h.version h.at;
+        is = h.is ∙ ap (λ key. entry_of key e.place h.version) (sym columns);
+        left = h.left;
+      }
+
+  -- that is open
+  pub only-added : is_open v ≡ true
+      → Updates entry_cmp old.entries new.entries (entry_of old.columns.items i v) true
+      → HasOnlyOpen (take (i + 1) vs) gone new
+  only-added opened added e there = by (is_at (entry_cmp mine) e) refl
+    where
+      mine : Entry
+      mine = entry_of old.columns.items i v
+
+      own : IsEntryOf (take (i + 1) vs) gone new.columns.items mine
+      own = record {
+        version = v;
+        at = ap (λ l. slice_get l i) longer
+            ∙ ap (slice_get (take i vs ++ v ∷ [])) (sym (length-take-le i vs (omega arith)))
+            ∙ pushed-last (take i vs) v;
+        is = ap (λ key. entry_of key i v) (sym columns);
+        left = inl opened;
+      }
+
+      by : (b : Bool) → is_at (entry_cmp mine) e ≡ b → IsEntryOf (take (i + 1) vs) gone new.columns.items e
+      by true same = subst (IsEntryOf (take (i + 1) vs) gone new.columns.items) (entry_exact mine e same) own
+      by false other = entry-kept e (sym (added.2 e other) ∙ there)
+
+  -- that is closed
+  pub only-skipped : new.entries ≡ old.entries → HasOnlyOpen (take (i + 1) vs) gone new
+  only-skipped entries e there = entry-kept e (ap (λ s. contains entry_cmp s e) (sym entries) ∙ there)
+
+-- an element of a list is its first or one of the rest
+first_or_later : (p : ℕ) (places : List ℕ) (x : ℕ) → Contains (p ∷ places) x → (p ≡ x) ⊎ Contains places x
+first_or_later p places x (zero, within, is) = inl is
+first_or_later p places x (suc k, within, is) = inr (k, omega (arith, within), is)
+
+-- an open version need not be removed
+pub only-stays : (vs : List Version) (place : ℕ) (gone : List ℕ) (index : KeyIndex)
+    → ((v : Version) → slice_get vs place ≡ Some v → is_open v ≡ true) → HasOnlyOpen vs (place ∷ gone) index
+    → HasOnlyOpen vs gone index
+only-stays vs place gone index opened before e there =
+    let h = before e there in
+    record {
+      version = h.version;
+      at = h.at;
+      is = h.is;
+      left = elim h.left [
+        | inl now ↦ inl now
+        | inr at ↦
+            elim (first_or_later place gone e.place at) [
+              | inl here ↦ inl (opened h.version (ap (slice_get vs) here ∙ h.at))
+              | inr later ↦ inr later
+            ]
+      ];
+    }
+
+-- a closed version is removed
+pub only-dropped : (vs : List Version) (place : ℕ) (w : Version) (gone : List ℕ) (old new : KeyIndex)
+    → slice_get vs place ≡ Some w → new.columns.items ≡ old.columns.items
+    → Updates entry_cmp old.entries new.entries (entry_of old.columns.items place w) false
+    → HasOnlyOpen vs (place ∷ gone) old → HasOnlyOpen vs gone new
+only-dropped vs place w gone old new at columns dropped before e there = by (is_at (entry_cmp mine) e) refl
+  where
+    mine : Entry
+    mine = entry_of old.columns.items place w
+
+    by : (b : Bool) → is_at (entry_cmp mine) e ≡ b → IsEntryOf vs gone new.columns.items e
+    by true same =
+        let never : true ≡ false =
+        sym there ∙ ap (contains entry_cmp new.entries) (sym (entry_exact mine e same)) ∙ dropped.1 in
+        absurd (cc)
+    by false other =
+        let h = before e (sym (dropped.2 e other) ∙ there) in
+        record {
+          version = h.version;
+          at = h.at;
+          is = h.is ∙ ap (λ key. entry_of key e.place h.version) (sym columns);
+          left = elim h.left [
+            | inl now ↦ inl now
+            | inr among ↦
+                elim (first_or_later place gone e.place among) [
+                  | inl here ↦
+                      let own : w ≡ h.version =
+                      same_some (slice_get vs place) w h.version at (ap (slice_get vs) here ∙ h.at) in
+                      let one : mine ≡ e =
+                      ap (λ p. entry_of old.columns.items p w) here
+                      ∙ ap (entry_of old.columns.items e.place) own ∙ sym h.is in
+                      let never : true ≡ false =
+                      sym (ap is_eq (entry_equal mine)) ∙ ap (λ x. is_at (entry_cmp mine) x) one ∙ other in
+                      absurd (cc)
+                  | inr later ↦ inr later
+                ]
+          ];
+        }
+
+-- the list contains the index of each version that passes the test
+places_from-holds : (test : Version → Bool) (at : ℕ) (vs : List Version) (q : ℕ) (v : Version)
+    → slice_get vs q ≡ Some v → test v ≡ true → Contains (places_from test at vs) (at + q)
+places_from-holds test at [] q v here passed = absurd (cc)
+places_from-holds test at (u ∷ us) zero v here passed =
+    let same : u ≡ v = cc in
+    let first : at ≡ at + 0 = omega arith in
+    subst (λ b. Contains (cond b (at ∷ places_from test (at + 1) us) (places_from test (at + 1) us)) (at + 0))
+    (sym (ap test same ∙ passed)) (0, omega arith, first)
+places_from-holds test at (u ∷ us) (suc q) v here passed =
+    let next : (at + 1) + q ≡ at + suc q = omega arith in
+    subst (Contains (places_from test at (u ∷ us))) next
+    (later (test u) (places_from test (at + 1) us) ((at + 1) + q)
+    (places_from-holds test (at + 1) us q v here passed))
+  where
+    later : (b : Bool) (places : List ℕ) (x : ℕ) → Contains places x → Contains (cond b (at ∷ places) places) x
+    later true places x (k, within, is) = (suc k, omega (arith, within), is)
+    later false places x there = there
+
+-- after the versions in a list of indexes are closed
+pub kept-only : (n : ℕ) (c : RowsChange) (vs front : List Version) (taken : List ℕ) (kept : Option KeyIndex)
+    → front ≡ map (closed n (removes c)) vs → taken ≡ places_from (is_taken c) 0 vs
+    → IfSome kept (HasOnlyOpen vs []) → IfSome kept (HasOnlyOpen front taken)
+kept-only n c vs front taken None e t before = tt
+kept-only n c vs front taken (Some index) e t before =
+    rw (e, t) (λ entry there.
+    let h = before entry there in
+    let v = h.version in
+    let row = row_closed n (removes c) v in record {
+      version = closed n (removes c) v;
+      at = slice_get-map (closed n (removes c)) vs entry.place ∙ ap (option_map (closed n (removes c))) h.at;
+      is = h.is ∙ ap (λ (r : Row). record {
+        number = key_number index.columns.items r.values;
+        from = r.period.from;
+        place = entry.place;
+      }) (sym row);
+      left = elim h.left [
+        | inl opened ↦
+            elim (cases_Bool (removes c v.row)) [
+              | inl goes ↦
+                  let first : 0 + entry.place ≡ entry.place = omega arith in
+                  inr (subst (Contains (places_from (is_taken c) 0 vs)) first
+                  (places_from-holds (is_taken c) 0 vs entry.place v h.at
+                  (ap (λ b. b && removes c v.row) opened ∙ goes)))
+              | inr stays ↦
+                  inl (open_closed n (removes c) v ∙ ap (λ b. b && not (removes c v.row)) opened
+                  ∙ ap (λ b. true && not b) stays)
+            ]
+        | inr none ↦ absurd (Contains-none entry.place none)
+      ];
+    })
+
+-- what a result says of its value
+pub ok-holds : {T E : Type 0} (P : Type 0) (r : Result T E) → is_ok r ≡ true → OnOk r P → P
+ok-holds P (Ok value) e holds = holds
+ok-holds P (Err error) e holds = absurd (cc)
+
+pub ok-kept : {T E : Type 0} (P : T → Type 0) (r : Result T E) → IfOk r P → IfSome (result_ok r) P
+ok-kept P (Ok value) holds = holds
+ok-kept P (Err error) holds = tt
+
+-- a walk over entries, from the last back
 
 -- the backwards search through the entries
 

@@ -17,17 +17,13 @@ use Rattle.version_core.specs.Keys.{collides_left, is_left, rows_left, break_key
 use Rattle.version_core.specs.Finding.{ListsOpen, any_row, passes}
 use Rattle.version_core.specs.Made.{draft_of}
 use Rattle.version_core.specs.OpenVersions.{current, is_open}
-use Rattle.table_core.specs.Numbered.{numbered, unnumbered}
+use Rattle.table_core.specs.Numbered.{unnumbered}
 use Rattle.version_core.specs.Rows.{removes}
 use Rattle.version_core.specs.declared.change.RowsChange.{RowsChange}
 use Rattle.version_core.specs.declared.version.Version.{Version}
 use Rattle.version_core.proofs.FindingLemmas.{filter-listed, places_from-agree}
 use Rattle.version_core.specs.Plans.{picked}
 use Rattle.version_core.proofs.OpenLemmas.{filter-more, picked-places_from}
-
-pub drafts-numbered : (used : ℕ) (ds : List Draft) → map unnumbered (numbered used ds) ≡ ds
-drafts-numbered used [] = refl
-drafts-numbered used (d ∷ ds) = ap (λ l. d ∷ l) (drafts-numbered (used + 1) ds)
 
 -- the kept rows, found among the versions
 left-current : (c : RowsChange) (vs : List Version)

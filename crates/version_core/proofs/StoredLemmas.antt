@@ -171,7 +171,7 @@ length-closed n rows system_periods place from same =
     (same ∙ sym (length-set system_periods place system_period))
     ∙ length-set system_periods place system_period ∙ sym (length-versions_of rows system_periods same)
 
-length-shown : (n : ℕ) (vs : List Version) → length (shown n vs) ≤ length vs
+pub length-shown : (n : ℕ) (vs : List Version) → length (shown n vs) ≤ length vs
 length-shown n [] = omega arith
 length-shown n (v ∷ vs) =
     let rest = length-shown n vs in

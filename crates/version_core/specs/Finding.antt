@@ -5,7 +5,7 @@ use Rattle.row_core.specs.declared.row.Row.{Row}
 use Rattle.row_core.specs.declared.value.Value.{Value}
 use Rattle.row_core.specs.declared.value.Value.TheVariants.{Int, Text}
 use Rattle.version_core.specs.Limits.{bucket_count}
-use Rattle.version_core.specs.KeyIndex.{IsKeyIndex}
+use Rattle.version_core.specs.KeyIndex.{HasOnlyOpen, IsKeyIndex}
 use Rattle.version_core.specs.Rows.{removes}
 use Rattle.version_core.specs.OpenVersions.{is_open, places_from, is_taken}
 use Rattle.version_core.specs.declared.change.RowsChange.{RowsChange}
@@ -87,6 +87,7 @@ pub record AreBeside
     (vs : List Version) (places : List ℕ) (indexes : List Index) (key_index : Option KeyIndex) : Type 0 where
   pub found : AreFound vs places indexes
   pub by_key : IfSome key_index (IsKeyIndex vs)
+  pub only : IfSome key_index (HasOnlyOpen vs [])
 
 -- the change of a portion, unless it is a load
 abbrev pub portion_of : RowsChange → Option PortionChange

@@ -1,5 +1,5 @@
 -- The open versions by key and start.
-use Rattle.std.specs.Prelude.{◌≡◌, ℕ, ◌+◌, ◌*◌, ◌%◌, ◌^◌, List, true, Some, fold, option_map, slice_get, unwrap_or}
+use Rattle.std.specs.Prelude.{◌≡◌, ◌⊎◌, ℕ, ◌+◌, ◌*◌, ◌%◌, ◌^◌, List, true, Some, Contains, fold, option_map, slice_get, unwrap_or}
 use Rattle.std.specs.Int.{cast_unsigned, w64}
 use Rattle.std.specs.declared.cmp.Ordering.{Ordering}
 use Rattle.std.specs.declared.cmp.Ordering.TheVariants.{Less}
@@ -50,6 +50,18 @@ abbrev pub IsKeyIndex : List Version → KeyIndex → Type 0
 IsKeyIndex vs index =
     (place : ℕ) (v : Version) → slice_get vs place ≡ Some v → is_open v ≡ true
     → contains entry_cmp index.entries (entry_of index.columns.items place v) ≡ true
+
+-- the entry of a version that is open, or whose index is in the list
+pub record IsEntryOf (vs : List Version) (gone key : List ℕ) (entry : Entry) : Type 0 where
+  pub version : Version
+  pub at : slice_get vs entry.place ≡ Some version
+  pub is : entry ≡ entry_of key entry.place version
+  pub left : (is_open version ≡ true) ⊎ Contains gone entry.place
+
+-- each entry is that of an open version, or of a version whose index is in the list
+abbrev pub HasOnlyOpen : List Version → List ℕ → KeyIndex → Type 0
+HasOnlyOpen vs gone index =
+    (entry : Entry) → contains entry_cmp index.entries entry ≡ true → IsEntryOf vs gone index.columns.items entry
 
 -- no open version whose entry comes before `entry` collides with the row
 abbrev pub IsLastNear : List ℕ → Draft → List Version → Entry → Type 0

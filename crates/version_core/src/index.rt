@@ -1,12 +1,13 @@
 //! Indexes of open versions by the values of a column, and the lookups of a change in them.
 
-ghost use Rattle.std.specs.Prelude.{◌≡◌, ℕ, ◌==◌, ◌+◌, ◌<◌, ◌≤◌, [], true, false, find, length, option_map, position, take, unwrap_or, All, IfOk, IfSome, IsSome, OnOk, ◌⊎◌};
+ghost use Rattle.std.specs.Prelude.{◌≡◌, ℕ, ◌==◌, ◌+◌, ◌<◌, ◌≤◌, [], true, false, find, length, get_or, option_map, position, take, unwrap_or, All, IfOk, IfSome, IsSome, OnOk, ◌⊎◌};
 ghost use Rattle.std.specs.Option.{option_copied};
 ghost use Rattle.row_core.specs.Lent.{lent_value};
 ghost use Rattle.row_core.specs.declared.row.Row.{Row};
 ghost use Rattle.table_core.specs.Lent.{lent_row};
-ghost use Rattle.version_core.specs.Finding.{AreNoMore, IsIndex, IsLookupOf, bucket_at, bucket_in, bucket_of, bucket_of_bytes, falls_into, led_to, lookup_at};
+ghost use Rattle.version_core.specs.Finding.{AreNoMore, IsIndex, IsLookupOf, bucket_at, bucket_in, bucket_of, bucket_of_bytes, falls_into, led_to, lookup_at, passes};
 ghost use Rattle.version_core.specs.Limits.{bucket_count, version_limit};
+ghost use Rattle.version_core.specs.OpenVersions.{is_open};
 ghost use Rattle.version_core.specs.declared.change.RowsChange.TheVariants.{Portion};
 ghost use Rattle.portion_core.specs.Wanted.{are_wanted};
 ghost use Rattle.version_core.specs.Stored.{version_of};
@@ -89,7 +90,10 @@ impl Index {
     fn drop_closed(&mut self, versions: &StoredVersions, bucket: usize)
         requires index { IsIndex versions.now self.old }
         requires few { bucket < bucket_count }
-        ensures { IsIndex versions.now self.new }
+        ensures index { IsIndex versions.now self.new }
+        ensures column { self.new.column ≡ self.old.column }
+        ensures open { All (λ place. passes versions.now is_open place ≡ true)
+            (get_or self.new.buckets.items bucket []) }
     {
         self.buckets[bucket].drop_closed(versions);
     }
@@ -301,7 +305,8 @@ pub(crate) fn make_indexes(
 )
     requires few { length versions.now ≤ version_limit }
     requires before { All (IsIndex versions.now) indexes.old.items }
-    ensures { All (IsIndex versions.now) indexes.new.items }
+    ensures indexes { All (IsIndex versions.now) indexes.new.items }
+    ensures kept { take (length indexes.old.items) indexes.new.items ≡ indexes.old.items }
 {
     if versions.len() < FEW {
         return;
@@ -317,7 +322,10 @@ pub(crate) fn make_indexes(
 fn make_index(alloc: Global, indexes: &mut Vec<Index>, versions: &StoredVersions, column: u32)
     requires few { length versions.now ≤ version_limit }
     requires before { All (IsIndex versions.now) indexes.old.items }
-    ensures { All (IsIndex versions.now) indexes.new.items }
+    ensures indexes { All (IsIndex versions.now) indexes.new.items }
+    ensures kept { take (length indexes.old.items) indexes.new.items ≡ indexes.old.items }
+    ensures there { IsSome (find (λ index. index.column == column) indexes.old.items)
+        → indexes.new.items ≡ indexes.old.items }
 {
     if index_of(indexes, column).is_some() {
         return;
@@ -331,7 +339,9 @@ fn make_index(alloc: Global, indexes: &mut Vec<Index>, versions: &StoredVersions
 pub(crate) fn drop_closed_at(indexes: &mut [Index], versions: &StoredVersions, lookup: Lookup)
     requires lookup { lookup.bucket < bucket_count }
     requires before { All (IsIndex versions.now) indexes.old }
-    ensures { All (IsIndex versions.now) indexes.new }
+    ensures indexes { All (IsIndex versions.now) indexes.new }
+    ensures open { IfSome (bucket_at indexes.new lookup)
+        (All (λ place. passes versions.now is_open place ≡ true)) }
 {
     if let Some(i) = place_of_index(indexes, lookup.column) {
         indexes[i].drop_closed(versions, lookup.bucket);

@@ -1,12 +1,12 @@
 //! The index of open versions by key and start, used to test the key of a new row.
 
-ghost use Rattle.std.specs.Prelude.{◌≡◌, ◌≢◌, ◌↔◌, ◌+◌, ◌≤◌, ◌<◌, ◌≤ℤ◌, true, false, Some, length, map, take, IfOk, IfSome, IsTrue, MatchOption, OnOk};
+ghost use Rattle.std.specs.Prelude.{◌≡◌, ◌≢◌, ◌↔◌, ℕ, ◌+◌, ◌≤◌, ◌<◌, ◌≤ℤ◌, List, [], ◌∷◌, true, false, Some, length, map, take, IfOk, IfSome, IsTrue, MatchOption, OnOk};
 ghost use Rattle.std.specs.List.{list_any};
 ghost use Rattle.key_core.specs.Keys.{collide, have_collision, same_key};
 ghost use Rattle.draft_core.specs.Lent.{lent_draft};
 ghost use Rattle.row_core.specs.Lent.{lent_value};
 ghost use Rattle.table_core.specs.Lent.{lent_row};
-ghost use Rattle.version_core.specs.KeyIndex.{IsKeyIndex, IsLastNear, entry_of, key_number, mixed, number_in, number_of, number_of_bytes};
+ghost use Rattle.version_core.specs.KeyIndex.{HasOnlyOpen, IsKeyIndex, IsLastNear, entry_of, key_number, mixed, number_in, number_of, number_of_bytes};
 ghost use Rattle.version_core.specs.Keys.{rows_left};
 ghost use Rattle.version_core.specs.OpenVersions.{current, is_open};
 ghost use Rattle.table_core.specs.Numbered.{unnumbered};
@@ -52,7 +52,8 @@ impl KeyIndex {
         versions: &StoredVersions,
         key: &[u32],
     ) -> Result<KeyIndex, NoMemory>
-        ensures { IfOk result (IsKeyIndex versions.now) }
+        ensures index { IfOk result (IsKeyIndex versions.now) }
+        ensures only { IfOk result (HasOnlyOpen versions.now []) }
     {
         let mut index = KeyIndex {
             columns: Vec::from_slice(alloc, key)?,
@@ -73,7 +74,9 @@ impl KeyIndex {
     pub(crate) fn extend(&mut self, versions: &StoredVersions, from: usize) -> Result<(), NoMemory>
         requires inside { from ≤ length versions.now }
         requires before { IsKeyIndex (take from versions.now) self.old }
-        ensures { OnOk result (IsKeyIndex versions.now self.new) }
+        ensures index { OnOk result (IsKeyIndex versions.now self.new) }
+        ensures only { (gone : List ℕ) → HasOnlyOpen (take from versions.now) gone self.old
+            → OnOk result (HasOnlyOpen versions.now gone self.new) }
     {
         for place in from..versions.len() {
             self.add(versions, place)?;
@@ -85,7 +88,9 @@ impl KeyIndex {
     fn add(&mut self, versions: &StoredVersions, place: usize) -> Result<(), NoMemory>
         requires inside { place < length versions.now }
         requires before { IsKeyIndex (take place versions.now) self.old }
-        ensures { OnOk result (IsKeyIndex (take (place + 1) versions.now) self.new) }
+        ensures index { OnOk result (IsKeyIndex (take (place + 1) versions.now) self.new) }
+        ensures only { (gone : List ℕ) → HasOnlyOpen (take place versions.now) gone self.old
+            → OnOk result (HasOnlyOpen (take (place + 1) versions.now) gone self.new) }
     {
         let version = versions.at(place);
         if version.system_period.is_open() {
@@ -99,8 +104,10 @@ impl KeyIndex {
 
     /// Removes the closed versions at these positions.
     pub(crate) fn drop_closed(&mut self, versions: &StoredVersions, places: &[u32])
-        requires { IsKeyIndex versions.now self.old }
-        ensures { IsKeyIndex versions.now self.new }
+        requires index { IsKeyIndex versions.now self.old }
+        requires only { HasOnlyOpen versions.now places.now self.old }
+        ensures index { IsKeyIndex versions.now self.new }
+        ensures only { HasOnlyOpen versions.now [] self.new }
     {
         for place in places {
             self.drop_closed_at(versions, *place as usize);
@@ -110,7 +117,9 @@ impl KeyIndex {
     /// Removes the version at the given position, if it is closed.
     fn drop_closed_at(&mut self, versions: &StoredVersions, place: usize)
         requires { IsKeyIndex versions.now self.old }
-        ensures { IsKeyIndex versions.now self.new }
+        ensures index { IsKeyIndex versions.now self.new }
+        ensures only { (gone : List ℕ) → HasOnlyOpen versions.now (place ∷ gone) self.old
+            → HasOnlyOpen versions.now gone self.new }
     {
         if let Some(version) = versions.get(place) {
             if !version.system_period.is_open() {
@@ -197,7 +206,8 @@ fn is_last_near(
 ) -> bool
     requires number { number ≡ key_number key.now (lent_draft new).values }
     requires unbroken { have_collision key.now (map unnumbered (current versions.now)) ≡ false }
-    ensures { result ≡ true → IsLastNear key.now (lent_draft new.entry) versions.now entry.now }
+    ensures last { result ≡ true → IsLastNear key.now (lent_draft new.entry) versions.now entry.now }
+    ensures others { result ≡ false → number ≤ entry.now.number }
 {
     if entry.number != number {
         return entry.number < number;

@@ -1,10 +1,10 @@
 //! Keys of tables: which changes must be tested, and the rows that are tested.
 
-ghost use Rattle.std.specs.Prelude.{◌≡◌, ◌≢◌, ◌++◌, List, [], true, false, map, IfOk, OnOk};
+ghost use Rattle.std.specs.Prelude.{◌≡◌, ◌≢◌, ◌++◌, List, [], true, false, map, IfOk, IfSome, None, OnOk};
 ghost use Rattle.std.specs.List.{list_any};
 ghost use Rattle.key_core.specs.Keys.{collide, have_collision};
 ghost use Rattle.draft_core.specs.Lent.{lent_draft};
-ghost use Rattle.version_core.specs.Finding.{ListsOpen, any_row, passes};
+ghost use Rattle.version_core.specs.Finding.{ListsOpen, any_row, passes, portion_of};
 ghost use Rattle.version_core.specs.Keys.{collides_left, is_set, overlap_after, rows_left, break_key};
 ghost use Rattle.version_core.specs.OpenVersions.{current};
 ghost use Rattle.table_core.specs.Numbered.{unnumbered};
@@ -34,6 +34,8 @@ pub(crate) fn may_overlap(change: &RowsChange<'_>, key: &[u32]) -> bool
     ensures never { result ≡ false → (versions : List Version)
         → break_key key.now (map unnumbered (current versions)) ≡ false
         → overlap_after change.now key.now versions ≡ false }
+    ensures deletes { IfSome (portion_of change.now) (λ change. change.sets ≡ None
+        → result ≡ false) }
 {
     if key.is_empty() {
         return false;

@@ -1,14 +1,14 @@
 //! All versions of a table, and the positions of the open ones.
 
-ghost use Rattle.std.specs.Prelude.{◌≡◌, ◌≢◌, ◌+◌, ◌≤◌, ◌<◌, ◌++◌, List, [], true, false, length, map, filter, fold, take, count_by, All, IfOk, IfErr, IfSome, OnErr, OnOk, slice_get};
+ghost use Rattle.std.specs.Prelude.{◌≡◌, ◌≢◌, ℕ, ◌+◌, ◌≤◌, ◌<◌, ◌++◌, List, [], true, false, length, map, filter, fold, take, count_by, All, IfOk, IfErr, IfSome, OnErr, OnOk, slice_get};
 ghost use Rattle.std.specs.List.{list_any, range_with_len};
 ghost use Rattle.key_core.specs.Keys.{collide, have_collision};
 ghost use Rattle.period_core.specs.Period.{holds_at};
 ghost use Rattle.row_core.specs.declared.failure.Failure.TheVariants.{NoMemory};
 ghost use Rattle.row_core.specs.declared.row.Row.{Row as AnyRow};
 ghost use Rattle.table_core.specs.Numbered.{numbered, unnumbered};
-ghost use Rattle.version_core.specs.Finding.{IsIndex, IsLookupOf};
-ghost use Rattle.version_core.specs.KeyIndex.{IsKeyIndex};
+ghost use Rattle.version_core.specs.Finding.{AreNoMore, IsIndex, IsLookupOf, led_to, lookup_at, portion_of};
+ghost use Rattle.version_core.specs.KeyIndex.{HasOnlyOpen, IsKeyIndex};
 ghost use Rattle.version_core.specs.Keys.{overlap_after, rows_left, break_key};
 ghost use Rattle.version_core.specs.Limits.{bucket_count, version_limit};
 ghost use Rattle.version_core.specs.Made.{made};
@@ -203,7 +203,7 @@ impl Versions {
         ensures overlap { IfErr result (λ failure. failure ≢ NoMemory
             → overlap_after change.now key.now self.old ≡ true) }
     {
-        let lookup = self.look_up(alloc, change);
+        let lookup = Self::look_up(alloc, &mut self.indexes, &self.items, change);
         self.drop_closed(lookup);
         let plan = self.find_rows(alloc, change, lookup)?;
         self.prepare_key_index(alloc, change, key, &plan);
@@ -214,15 +214,24 @@ impl Versions {
     }
 
     /// Returns the lookup for the rows that the change removes. Indexes that help to find them are built.
-    fn look_up(&mut self, alloc: Global, change: &RowsChange<'_>) -> Option<Lookup>
-        requires { length self.old ≤ version_limit }
-        ensures same { self.new ≡ self.old }
+    fn look_up(
+        alloc: Global,
+        indexes: &mut Vec<Index>,
+        versions: &StoredVersions,
+        change: &RowsChange<'_>,
+    ) -> Option<Lookup>
+        requires few { length versions.now ≤ version_limit }
+        requires before { All (IsIndex versions.now) indexes.old.items }
+        ensures indexes { All (IsIndex versions.now) indexes.new.items }
         ensures few { IfSome result (λ lookup. lookup.bucket < bucket_count) }
         ensures lookup { IfSome result (IsLookupOf change.now) }
+        ensures shortest { IfSome (portion_of change.now) (λ change. (column : ℕ)
+            → column < length change.conds → AreNoMore (led_to indexes.new.items result)
+            (led_to indexes.new.items (lookup_at change.conds column))) }
     {
         let change = change.portion()?;
-        make_indexes(alloc, &mut self.indexes, &self.items, &change.conds);
-        lookup_of(&self.indexes, change)
+        make_indexes(alloc, indexes, versions, &change.conds);
+        lookup_of(indexes, change)
     }
 
     /// Removes the positions of closed versions that a change with that lookup would examine: those in its bucket.
@@ -390,8 +399,10 @@ fn keep_indexes(
     requires inside { from ≤ length versions.now }
     requires by_value { All (IsIndex (take from versions.now)) indexes.old.items }
     requires by_key { IfSome key_index.old (IsKeyIndex (take from versions.now)) }
+    requires only { IfSome key_index.old (HasOnlyOpen (take from versions.now) taken.now) }
     ensures by_value { All (IsIndex versions.now) indexes.new.items }
     ensures by_key { IfSome key_index.new (IsKeyIndex versions.now) }
+    ensures only { IfSome key_index.new (HasOnlyOpen versions.now []) }
 {
     extend_indexes(indexes, versions, from);
     keep_key_index(key_index, versions, from, taken);
@@ -407,7 +418,9 @@ fn keep_key_index(
 )
     requires inside { from ≤ length versions.now }
     requires before { IfSome key_index.old (IsKeyIndex (take from versions.now)) }
-    ensures { IfSome key_index.new (IsKeyIndex versions.now) }
+    requires only { IfSome key_index.old (HasOnlyOpen (take from versions.now) taken.now) }
+    ensures index { IfSome key_index.new (IsKeyIndex versions.now) }
+    ensures only { IfSome key_index.new (HasOnlyOpen versions.now []) }
 {
     let Some(mut index) = key_index.take() else {
         return;

@@ -13,11 +13,11 @@ are_enough-requires-clause-rights g c =
     (AreMade-few c.args.left.now c.args.right.now c.args.advances c.requires.made c.requires.left_few
     c.requires.right_few).1
 
-pub returns-then-are_enough : goal.returns-then-are_enough
-returns-then-are_enough g c =
+pub returns-then-are_enough-clause-within : goal.returns-then-are_enough-clause-within
+returns-then-are_enough-clause-within g c =
     IsWithin-enough c.args.left.now c.args.right.now c.args.advances c.requires.made (c.if-are_enough.ensures refl)
 
-pub returns : goal.returns
-returns g c =
+pub returns-clause-within : goal.returns-clause-within
+returns-clause-within g c =
     IsWithin-greater c.args.left.now c.args.right.now c.args.advances c.requires.made c.in_ok-lefts.lefts
     c.in_ok-rights.rights c.max.result c.in_ok-lefts.ensures.least c.in_ok-rights.ensures.least c.max.ensures

@@ -19,7 +19,7 @@ loop-i-preserved c =
     elim c.if-holds_at.branch [
       | then-holds_at+in_ok-as_place+in_ok-push w ↦
           let place = w.in_ok-as_place.field-0 in
-          let is : w.in_ok-as_place.field-0 ≡ w.place_among.result = w.in_ok-as_place.ensures in
+          let is : w.in_ok-as_place.field-0 ≡ w.place_among.result = w.in_ok-as_place.ensures.index in
           let grown = ap (λ (v : Vec ℕ Global). v.items) w.held-is ∙ w.in_ok-push.ensures.items in
           let there : slice_get rows place ≡ Some row =
           ap (slice_get rows) is ∙ w.place_among.ensures.row ∙ c.row_at.ensures in

@@ -33,7 +33,7 @@ loop-i-preserved c =
     elim c.if-is_listed.branch [
       | then-is_listed+in_ok-as_place+in_ok-push w ↦
           let grown = ap (λ (u : Vec ℕ Global). u.items) w.places-is ∙ w.in_ok-push.ensures.items
-          ∙ ap (λ place. c.loop-i.places.items ++ place ∷ []) w.in_ok-as_place.ensures in
+          ∙ ap (λ place. c.loop-i.places.items ++ place ∷ []) w.in_ok-as_place.ensures.index in
           record {
             within = subst (All (λ place. place < length vs)) (sym grown)
                 (All-push (λ place. place < length vs) c.loop-i.places.items i c.loop-i.invariant.within inside);

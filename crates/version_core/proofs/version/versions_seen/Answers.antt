@@ -40,7 +40,7 @@ loop-i-preserved c =
     elim c.if-is_seen.branch [
       | then-is_seen+in_ok-as_place+in_ok-push+in_ok-push-2 w ↦
           let grown = ap (λ (u : Vec ℕ Global). u.items) w.places-is ∙ w.in_ok-push.ensures.items
-          ∙ ap (λ place. places ++ place ∷ []) w.in_ok-as_place.ensures in
+          ∙ ap (λ place. places ++ place ∷ []) w.in_ok-as_place.ensures.index in
           let more = ap (λ (u : Vec SystemPeriod Global). u.items) w.seen-is ∙ w.in_ok-push-2.ensures.items in
           record {
             within = subst (All (λ place. place < length vs)) (sym grown)

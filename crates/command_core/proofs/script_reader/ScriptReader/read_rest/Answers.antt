@@ -15,7 +15,7 @@ of-requires g c =
     countable (front ++ text) (joined c.add_batches.new.batches.items)
     (omega (arith, few, length-append front text))
     (subst (AreScriptRecords (front ++ text)) (sym all)
-    (front-rest front text c.args.self (joined read) of c.in_ok-read.ensures))
+    (front-rest front text c.args.self (joined read) of c.in_ok-read.ensures.records))
 
 pub returns : goal.returns
 returns g c front of =
@@ -24,4 +24,4 @@ returns g c front of =
     let all : joined c.add_batches.new.batches.items ≡ c.args.self ++ joined read =
     c.in_ok-add_batches.ensures ∙ ap (λ (l : List Record). l ++ joined read) c.self.view_is in
     subst (AreScriptRecords (front ++ text)) (sym (c.of.ensures ∙ all))
-    (front-rest front text c.args.self (joined read) of c.in_ok-read.ensures)
+    (front-rest front text c.args.self (joined read) of c.in_ok-read.ensures.records)

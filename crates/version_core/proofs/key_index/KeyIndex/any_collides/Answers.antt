@@ -49,7 +49,7 @@ returns-then-is_last_near c =
     (lent_draft c.args.new) c.args.versions.now c.args.self.now
     c.end_of-end.result c.into_iter-entry-iterator.result.iter c.requires.index number c.end_of-end.ensures.from near
     c.loop-entry.entry-iterator.iter c.next.new.self.iter c.in-Some.entry.now c.in-Some.ensures.steps miss
-    (rw c.as_slice-key.ensures.value at (c.is_last_near.ensures c.if-is_last_near.true)) up c.loop-entry.invariant)
+    (rw c.as_slice-key.ensures.value at (c.is_last_near.ensures.last c.if-is_last_near.true)) up c.loop-entry.invariant)
     ∙ any-left c.args.change.now key
     (lent_draft c.args.new) c.args.versions.now
 

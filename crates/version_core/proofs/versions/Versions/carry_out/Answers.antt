@@ -7,7 +7,7 @@ use Rattle.table_core.specs.Numbered.{numbered}
 use Rattle.version_core.specs.Rows.{drafts_of, removes}
 use Rattle.version_core.proofs.FindingLemmas.{all-versions_after, versions_after-few, versions_after-front}
 use Rattle.version_core.proofs.IndexLemmas.{indexes-closed}
-use Rattle.version_core.proofs.KeyIndexLemmas.{kept-closed}
+use Rattle.version_core.proofs.KeyIndexLemmas.{kept-closed, kept-only}
 use Rattle.version_core.proofs.OpenLemmas.{length-fresh, length-taken, newly, places_from-bounded, versions_after-by}
 use Rattle.version_core.proofs.versions.Versions.carry_out.Goals as goal
 
@@ -77,6 +77,14 @@ keep_indexes-requires-clause-by_key c =
     kept-closed c.args.commit (removes c.args.change.now) c.self.inside.items _ c.self.inside.key_index
     (front c) c.self.invariant.by_key
 
+pub keep_indexes-requires-clause-only : goal.keep_indexes-requires-clause-only
+keep_indexes-requires-clause-only c =
+    let vs = c.self.inside.items in
+    let places : c.deref-2.result.now ≡ places_from (is_taken c.args.change.now) 0 vs =
+    c.deref-2.ensures.value ∙ (rw c.self.view_is c.requires.plan.taken) in
+    kept-only c.args.commit c.args.change.now vs _ c.deref-2.result.now c.self.inside.key_index (front c) places
+    c.self.invariant.only
+
 -- the versions afterwards
 whole : (c : goal.After-drop-taken-2)
     → c.close_all.new.versions ≡ versions_after c.args.commit c.args.change.now c.self.inside.items
@@ -106,6 +114,7 @@ invariant_of-self-2 c =
         by_value = c.keep_indexes.ensures.by_value;
       };
       by_key = c.keep_indexes.ensures.by_key;
+      only = c.keep_indexes.ensures.only;
     }
 
 pub returns-clause-ok : goal.returns-clause-ok

@@ -11,4 +11,5 @@ invariant_of-self-then-self-len c =
         by_value = c.sweep_indexes.ensures;
       };
       by_key = c.self.invariant.by_key;
+      only = c.self.invariant.only;
     }
