@@ -1,5 +1,5 @@
 //! Finds where statements end among the bytes of a script that arrives in portions.
-ghost use Rattle.std.specs.Prelude.{◌≡◌, ◌≤◌, [], length, true, IfOk};
+ghost use Rattle.std.specs.Prelude.{◌≡◌, ◌≤◌, [], false, length, true, IfOk};
 ghost use Rattle.live_core.specs.Scanning.{IsCutAt, Knows, Reading, ends_statement, first_of, is_first, is_outside, line_at_hand, next_block};
 ghost use Rattle.live_core.specs.Scanning.{nothing_read, read_byte, read_bytes};
 
@@ -71,11 +71,22 @@ impl Scan {
         self.block == Block::Outside
     }
 
+    /// Returns whether the byte changes nothing: it belongs to a later field of a record, and ends neither.
+    fn is_passed(&self, byte: u8) -> bool
+        ensures { result ≡ true → (r : Reading) → Knows self.now r
+            → Knows self.now (read_byte r byte) × (false ≡ ends_statement r byte) }
+    {
+        self.spot == Spot::InField && !self.is_first && !matches!(byte, b',' | b'\r' | b'\n')
+    }
+
     /// Reads one byte. Returns whether a statement ends with it.
     fn read(&mut self, byte: u8) -> Result<bool, NoMemory>
         ensures { IfOk result (λ ends. (r : Reading) → Knows self.old r
             → Knows self.new (read_byte r byte) × (ends ≡ ends_statement r byte)) }
     {
+        if self.is_passed(byte) {
+            return Ok(false);
+        }
         let (spot, moves) = step(self.spot, byte);
         self.spot = spot;
         match moves {

@@ -46,7 +46,7 @@ returns-clause-turns g c k m lk lm =
     let right = c.in_ok-lefts.ensures.1.right in
     let bounded : AreBounded turns c.in_ok-lefts.lefts.items c.in_ok-lefts.rights.items =
     subst (λ (l : List Item). AreBounded turns l c.in_ok-lefts.rights.items) c.deref-3.ensures.value
-    (subst (AreBounded turns c.deref-3.result.now) c.deref-4.ensures.value c.in_ok-turns.ensures) in
+    (subst (AreBounded turns c.deref-3.result.now) c.deref-4.ensures.value c.in_ok-turns.ensures.within) in
     subst (λ (n : ℕ). IsWithin k m (length c.args.left.rows.now) n turns) right.count
     (subst (λ (n : ℕ). IsWithin k m n (length c.in_ok-lefts.rights.items) turns) left.count
     (bounded k m (left.least k lk) (right.least m lm)))
