@@ -171,12 +171,3 @@ print(ruzgalt.gaps(desk, by="Platz", **days))
 # | 0   D01 2024-03-09 2024-03-13
 # | 1   D02 2024-03-09 2024-03-10
 # | 2   D04 2024-03-06 2024-03-10
-
-# %% A plan is checked: the desks as they were booked are none, and the fewest are.
-plans = ruzgalt.Store()
-plans.table("desk", desk, **days)
-booked = plans.rows("desk").rename(columns={"Platz": "part"})[["part", "row_id"]]
-print(plans.check("desk", booked, count=5, instant="2024-03-07"))
-print(plans.check("desk", plans.dip("desk")))
-# | No: rows 7 and 8 are in one part, and overlap.
-# | Yes: no two rows of a part overlap, and fewer parts than 4 aren't enough: 4 rows hold on 2024-03-07.

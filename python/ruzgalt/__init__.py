@@ -29,17 +29,17 @@ from typing import TYPE_CHECKING, Any, List
 
 __all__ = [
     "join", "anti", "agg", "dip", "at", "during", "coalesce", "gaps", "overlaps", "spread",
-    "Store", "Script", "Picture", "Division", "Changed", "Verdict", "Refused", "Stopped", "Doubt",
+    "Store", "Script", "Picture", "Division", "Changed", "Refused", "Stopped", "Doubt",
     "frames", "__version__",
 ]
-OF_STORES = ("Store", "Script", "Picture", "Changed", "Verdict")
+OF_STORES = ("Store", "Script", "Picture", "Changed")
 
 if TYPE_CHECKING:
     from ruzgalt import frames
     from ruzgalt.frames import (
         Division, Doubt, Refused, Stopped, agg, anti, at, coalesce, dip, during, gaps, join, overlaps, spread,
     )
-    from ruzgalt.store import Changed, Picture, Script, Store, Verdict
+    from ruzgalt.store import Changed, Picture, Script, Store
     from ruzgalt.script import answers  # noqa: F401
 
     __version__: str

@@ -3,30 +3,26 @@
     Store                   changes, commits, questions
     Script                  a store's changes as a script, with the names of its columns
     Picture                 a picture of an answer
-    Changed, Verdict        a change that was done; a division that was checked
+    Changed                 a change that was done
 
-Each module is above the modules that use it:
+Each module imports only from modules above it:
 
+    docstrings              parts of docstrings that several calls have
     script                  a store's commands as bytes
-    answers                 a program's answers as columns
-    live                    the program that a store keeps
-    singles, stand_ins      single values; values that stand for missing cells
-    tables                  a table of a store
-    diaries                 labels and days of commits
-    changes, mistakes       the commands of a change; possible mistakes in it
-    keys                    the rows because of which a key refuses a change
-    book                    all that a store holds
-    unmatched, past         joins with unmatched rows; what commits changed
-    questions, divisions    answers as frames
-    asking                  the questions of a store
+    answers, live           answers of the program as columns; the program
+    tables                  a table's columns, their names and cells
+    labels                  labels and days of commits
+    changes                 the commands of a change, and possible mistakes in it
+    state                   tables, commands and program together
+    history                 what commits changed
+    queries                 the questions of a store
     opening                 a script as a store
-    written, raising        script, page and pictures; raises
-    store                   the store
+    export                  script, page and pictures
+    store                   the store, and its changes
 """
 from ruzgalt.store.changes import Changed
-from ruzgalt.store.divisions import Verdict
+from ruzgalt.store.export import Picture
 from ruzgalt.store.script import Script
 from ruzgalt.store.store import Store
-from ruzgalt.store.written import Picture
 
-__all__ = ["Store", "Script", "Picture", "Changed", "Verdict"]
+__all__ = ["Store", "Script", "Picture", "Changed"]

@@ -1,11 +1,13 @@
-"""The changes of a store: their commands, and their counts."""
+"""The changes of a store: their commands, counts and possible mistakes."""
 from __future__ import annotations
 
-from dataclasses import dataclass, field, replace
-from typing import Any, Callable, List, Optional, Sequence, Tuple
+from dataclasses import dataclass, field
+from typing import TYPE_CHECKING, Any, Callable, Collection, Iterator, List, NamedTuple, Optional, Sequence, Tuple
 
 import numpy as np
+import pandas as pd
 
+from ruzgalt.errors import Misfit
 from ruzgalt.frames import checks, doubts, points, values
 from ruzgalt.frames.arrays import NO_INTS, Ints
 from ruzgalt.frames.errors import REMEDIES, Refused
@@ -13,14 +15,21 @@ from ruzgalt.frames.named import names_of, same
 from ruzgalt.frames.options import Names, Options
 from ruzgalt.frames.sides import Side
 from ruzgalt.frames.values import Values
-from ruzgalt.script import forms
-from ruzgalt.store import script
-from ruzgalt.store.diaries import COLUMNS
+from ruzgalt.lint import rows as of_rows
+from ruzgalt.lint import scripts as marks
+from ruzgalt.periods.rounding import ROUNDINGS
+from ruzgalt.script import commands, fields, forms, raises
+from ruzgalt.script.answers import Answer
+from ruzgalt.script.records import Record, visible
+from ruzgalt.store import labels, script
 from ruzgalt.store.script import Command
 from ruzgalt.store.tables import Table, side_of, table_of
 
-# How many versions were added, and how many closed, once that is asked.
-Later = Callable[[], Tuple[int, int]]
+if TYPE_CHECKING:
+    from ruzgalt.store.state import State
+
+# The remedy for a raise of a column that may have missing cells.
+OF_ROWS = "take rows(), .dropna() to leave such rows out, and give update_rows the new amounts"
 
 
 class Changed:
@@ -49,13 +58,13 @@ class Changed:
     added: int
     closed: int
 
-    def __init__(self, commit: int, *counts: int, later: Optional[Later] = None) -> None:
+    def __init__(self, commit: int, *counts: int, later: Optional[Callable[[], Tuple[int, int]]] = None) -> None:
         self.commit, self._later = commit, later
         if counts:
             self.added, self.closed = counts
 
     def __getattr__(self, name: str) -> Any:
-        """Asks for both counts when one of them is needed."""
+        """Counts when the counts are first needed."""
         if name not in ("added", "closed") or self._later is None:
             raise AttributeError(name)
         (self.added, self.closed), self._later = self._later(), None
@@ -89,25 +98,31 @@ class Change:
     side: Optional[Side] = None
     portion: Ints = field(default_factory=lambda: NO_INTS)
 
-    @property
-    def is_empty(self) -> bool:
-        """Whether it is a load, or an update by rows, of no row."""
-        return self.made is None and (self.side is not None and not len(self.side) or not self.commands)
 
+class Done(NamedTuple):
+    """A change that was accepted: the commit before it, its last commit, and whether its rows were loaded before."""
+
+    change: Change
+    before: int
+    last: int
+    is_repeated: bool
+
+
+# Commands.
 
 def making(name: Any, frame: Any, key: Names, options: Options) -> Change:
-    """A table of a frame's columns, and its rows."""
+    """Returns the change that makes a table of a frame's columns, and loads its rows. Raises Refused."""
     if not isinstance(name, str) or not forms.is_name(name):
         reason = "it is a word of the language" if name in forms.RESERVED else REMEDIES["BadName"]
         raise Refused("BadName", f"{checks.shown(name)} can't be the name of a table: {reason}")
     names = [column for column in names_of(frame) if column not in options.period]
     side = side_of(frame, names, options)
     doubts.of_decimals(options.decimals, frame)
-    made = replace(table_of(name, side, checks.names("key", key) or (), options), kind=side.kind)
+    made = table_of(name, side, checks.names("key", key) or (), options)
     warn_of_ends(made, side)
     keys = [made.word(column) for column in made.key]
-    commands = [script.make(name, list(made.words.values()), side.columns, keys)]
-    return Change(name, [*commands, *([script.load(name, side)] if len(side) else [])], made, side)
+    command = script.make(name, list(made.words.values()), side.columns, keys)
+    return Change(name, [command, *([script.load(name, side)] if len(side) else [])], made, side)
 
 
 def loading(table: Table, frame: Any) -> Change:
@@ -116,48 +131,151 @@ def loading(table: Table, frame: Any) -> Change:
     return Change(table.name, [script.load(table.name, side)], side=side)
 
 
-def changing(word: str, table: Table, portion: Ints, fields: Sequence[str]) -> Change:
-    """An update, or a delete."""
-    made = script.command(word, table.name, *map(points.text_of, portion), *fields)
+def changing(word: str, table: Table, start: Any, end: Any, condition: Sequence[str]) -> Change:
+    """Returns an update or a delete."""
+    portion = table.portion(start, end)
+    made = script.command(word, table.name, *map(points.text_of, portion), *condition)
     return Change(table.name, [made], portion=portion)
 
 
 def updating(table: Table, frame: Any, where: Names) -> Change:
-    """An update for each row of a frame, of the rows that are equal in the columns `where`."""
+    """Returns an update for each row of a frame, for the rows of the table with equal values in `where`."""
     equal = checks.names("where", where) or table.key
     if not equal:
-        raise Refused("BadCommand", f"{table.name} has no key: give by where= the columns by which rows are found")
+        raise Refused("BadCommand", f"{table.name} has no key: give by where= the columns that find rows")
     for name in equal:
         table.column(name)
-    own = [*table.period, *equal]
-    set_to = [column for column in names_of(checks.frame("frame", frame)) if column not in own]
+    set_to = [one for one in names_of(checks.frame("frame", frame)) if one not in table.period and one not in equal]
     side = table.side_of(frame, [*set_to, *equal])
     if not set_to:
-        raise Refused("BadCommand", "the frame has no column to set except those of the period and of where=")
+        raise Refused("BadCommand", "the frame has no column to set besides the period and where=")
     warn_of_ends(table, side)
-    rows = zip(*([(table.word(column.name), text) for text in column_texts(column)] for column in side.columns))
-    pairs = [[text for pair in row for text in pair] for row in rows]
-    times = zip(points.texts_of(side.start), points.texts_of(side.end))
-    cut = 2 * len(set_to)
-    fields = [["update", table.name, *time, "set", *row[:cut], "where", *row[cut:]] for time, row in zip(times, pairs)]
-    commands = [script.command(*one, label=label) for one, label in zip(fields, frame.index)]
-    return Change(table.name, commands, portion=np.concatenate([side.start, side.end]))
+    columns = [[(table.word(column.name), text) for text in texts_of(column)] for column in side.columns]
+    made, cut = [], len(set_to)
+    for start, end, label, *pairs in zip(
+        points.texts_of(side.start), points.texts_of(side.end), frame.index, *columns
+    ):
+        set_pairs, where_pairs = ([text for pair in some for text in pair] for some in (pairs[:cut], pairs[cut:]))
+        made.append(script.command(
+            "update", table.name, start, end, "set", *set_pairs, "where", *where_pairs, label=label
+        ))
+    return Change(table.name, made, portion=np.concatenate([side.start, side.end]))
 
 
 def warn_of_ends(table: Table, side: Side) -> None:
-    """Warns of ends that look like last days, or the other way round, except in a diary, which may have each day."""
-    if tuple(table.columns) == COLUMNS:
-        return
-    key = [one for one in side.columns if same(one.name) in table.key]
-    doubts.of_ends(side, key, table.period[-1], table.form.has_last_days)
+    """Warns of ends that look like last days, or the other way round. A diary may have each day."""
+    if tuple(table.columns) != labels.COLUMNS:
+        key = [one for one in side.columns if same(one.name) in table.key]
+        doubts.of_ends(side, key, table.period[-1], table.form.has_last_days)
 
 
-def column_texts(column: Values) -> List[str]:
-    """The fields as they are before they are quoted."""
+def texts_of(column: Values) -> List[str]:
+    """Returns the cells as texts without quotes."""
     if column.kind == "int":
         return values.fields_of(column)
     return [column.texts.cells[code] for code in column.codes.tolist()]
 
 
-def condition(table: Table, where: Any) -> List[str]:
-    return [] if where is None else ["where", *table.pairs("where", where)]
+# Raises.
+
+def raise_of(state: State, table: Table, column: Any, how: Tuple[Any, ...], is_again: bool) -> raises.Raise:
+    """Returns the steps of a raise. Raises Refused, also if the same amounts were raised from that start on.
+
+    how: the percentage, the start, the end, where= and round=.
+    """
+    percent, start, end, where, rounding = how
+    first, last = map(points.text_of, table.portion(start, end))
+    pairs = table.condition(where)[1:]
+    table.refuse_missing(column, "would be raised too", OF_ROWS)
+    if rounding is not None:
+        checks.one_of("round", rounding, ROUNDINGS)
+    wish = raises.Wish(
+        table.name, table.word(column), str(percent), first, None if end is None else last,
+        list(zip(pairs[::2], pairs[1::2])), rounding,
+    )
+    rows = state.answer_to(f"rows,{table.name}")
+    try:
+        made = raises.Raise(rows, wish)
+        if not is_again:
+            made.refuse_again(list(updates_of(state, table.name)))
+    except Misfit as misfit:
+        # The tools name a line of a script, and options of theirs.
+        reason = str(misfit).replace("(line ", "(commit ")
+        for word, parameter in (("--again", "again=True"), ("--round half-up", "round='half-up'"), ("--", "")):
+            reason = reason.replace(word, parameter)
+        raise Refused("BadCommand", reason) from None
+    raised = np.array([one.raised for one in made.steps], np.int64)
+    values.refuse_unheld(raised, table.column(column), "a raised amount is")
+    return made
+
+
+def updates_of(state: State, name: str) -> Iterator[Answer]:
+    """Yields the accepted updates of a table."""
+    for number, one in enumerate(state.commands, 1):
+        if one.word == "update" and one.fields[1] == name:
+            yield Answer(number, commands.Command(Record(number, number, one.fields), []), number, {})
+
+
+# Possible mistakes.
+
+def mistakes_in(done: Done, table: Table, closed: Optional[Sequence[int]]) -> Iterator[str]:
+    """Yields the possible mistakes in a change that was accepted.
+
+    closed: how many versions each of its commits closed, or None if they weren't counted.
+    """
+    change, side = done.change, done.change.side
+    is_load = side is not None and change.made is None
+    if side is not None and len(side):
+        yield from mistakes_in_load(change.name, side, done.is_repeated)
+    elif is_load or not change.commands:
+        yield f"{change.name}: the frame has no rows, so nothing was changed"
+    elif change.commands[-1].label is not None:
+        yield from mistakes_in_rows(change, closed or ())
+    elif closed and change.commands[-1].word in marks.PORTIONS:
+        yield from mistakes_in_portion(change, table, closed[-1])
+
+
+def mistakes_in_load(name: str, side: Side, is_repeated: bool) -> Iterator[str]:
+    is_twin = pd.Series(side.hashes).duplicated().to_numpy()
+    if is_twin.any():
+        row = int(is_twin.argmax())
+        one, other = two_rows(side.labels, row, int((side.hashes == side.hashes[row]).argmax()))
+        yield f"load of {name}: {of_rows.of_twins(one, other, int(is_twin.sum()))}"
+    if is_repeated:
+        yield f"load of {name}: all its rows were loaded before, so each occurs twice unless changed since"
+
+
+def two_rows(row_labels: Sequence[Any], *numbers: int) -> List[str]:
+    """Returns two rows' names: their labels, or if these are equal their positions."""
+    names = [f"row {row_labels[number]!r}" for number in numbers]
+    return names if names[0] != names[1] else [f"row {number} by position" for number in numbers]
+
+
+def mistakes_in_portion(change: Change, table: Table, closed: int) -> Iterator[str]:
+    command = change.commands[-1]
+    reason = marks.of_touched(command.fields, closed)
+    if reason:
+        # It names the change, since there may be many.
+        indices = fields.where_places(command.fields)
+        pairs = [f"{command.fields[index]} is '{visible(command.fields[index + 1])}'" for index in indices]
+        where = f" where {' and '.join(pairs)}" if pairs else ""
+        yield f"{command.word} of {change.name}{where}: {reason}"
+    reason = None if table.form.has_last_days else marks.of_end(command.fields[3])
+    if reason and closed and int(change.portion[-1]) < table.last:
+        yield f"{command.word} of {change.name}: {reason}"
+
+
+def mistakes_in_rows(change: Change, closed: Collection[int]) -> Iterator[str]:
+    """Yields the possible mistakes in updates by rows of a frame."""
+    idle = [one for one, count in zip(change.commands, closed) if not count]
+    if idle:
+        more = f"; {len(idle) - 1} more rows do so" if len(idle) > 1 else ""
+        yield f"update of {change.name}: row {idle[0].label!r}: {marks.of_touched(idle[0].fields, 0)}{more}"
+    updated = [(one.fields[2], *one.fields[fields.where_place(one.fields):]) for one in change.commands]
+    is_later = pd.Series(updated).duplicated().to_numpy()
+    if is_later.any():
+        number = int(is_later.argmax())
+        one, other = two_rows([one.label for one in change.commands], number, updated.index(updated[number]))
+        more = f"; {int(is_later.sum()) - 1} more rows do so" if is_later.sum() > 1 else ""
+        reason = f"{one} updates the same rows from the same point on as {other}, and the later one counts"
+        yield f"update of {change.name}: {reason}{more}"

@@ -22,17 +22,17 @@ from ruzgalt.script.answers import Answer
 from ruzgalt.script.language import CHANGES
 from ruzgalt.script.reader import Block, Source, long_fields
 from ruzgalt.script.schemas import Kind, Schema
-from ruzgalt.store import diaries, script
+from ruzgalt.store import labels, script
 from ruzgalt.store.answers import unreadable
-from ruzgalt.store.book import Book
+from ruzgalt.store.state import State
 from ruzgalt.store.script import Command, Script
 from ruzgalt.store.tables import Table, listed, refuse_stand_ins
 
 # A script, or the file that has it.
 Given = Union[bytes, str, "os.PathLike[str]"]
-# So many refused changes are named.
+# The most refused changes that a warning names.
 NAMED = 10
-# A command that is refused, and no part of one before it, if all of these are complete.
+# A command that is refused. If it is answered by itself, all commands before it are complete.
 LAST_OF_ALL = b"rows\n"
 # A row or a change whose start or end isn't midnight, nor the last second that there is.
 TIMES = re.compile(
@@ -41,26 +41,26 @@ TIMES = re.compile(
 )
 
 
-def read(book: Book, given: Given, options: Any, diary: Any) -> None:
-    """Gives an empty book a script's accepted changes, with the labels and days of a diary's table, if one is named.
+def read(state: State, given: Given, options: Any, diary: Any) -> None:
+    """Fills an empty state with a script's accepted changes, and with the labels and days of a diary, if it is named.
 
     Raises Refused, Stopped; warns of refused changes.
     """
-    found = answers_of(book, bytes_of(given))
-    book.commands = [command_of(one) for one in found if one.command.word in CHANGES and not one.refusal]
-    book.loads = {one.data for one in book.commands if one.word == "load"}
+    found = answers_of(state, bytes_of(given))
+    state.commands = [command_of(one) for one in found if one.command.word in CHANGES and not one.refusal]
+    state.loads = {one.data for one in state.commands if one.word == "load"}
     schemas = found[-1].tables if found else {}
     refuse_options(options, schemas)
     names = given.names if isinstance(given, Script) else {}
     for name, schema in schemas.items():
         of_table = {"names": names.get(name, {}), **options.get(name, {})}
-        book.tables[name] = table_of(schema, of_table, has_times(book.commands, name))
+        state.tables[name] = table_of(schema, of_table, has_times(state.commands, name))
     if diary is not None:
-        book.diary = diaries.read(book, diary, schemas)
+        state.diary = labels.read(state, diary, schemas)
 
 
-def answers_of(book: Book, data: bytes) -> List[Answer]:
-    """Has the program read a script once, and returns its commands with their answers. Warns of refused changes.
+def answers_of(state: State, data: bytes) -> List[Answer]:
+    """Returns the commands of a script with their answers. The program reads it once. Warns of refused changes.
 
     A last command shows that all before it are complete, and their answers too. Raises Refused (Unended), Stopped.
     """
@@ -75,14 +75,16 @@ def answers_of(book: Book, data: bytes) -> List[Answer]:
         return len(begun)
 
     with long_fields():
-        output = book.live.answers([], text, count)
+        output = state.live.answers([], text, count)
         try:
             found = answers.of_commands(begun, bytes(output))[:-1]
         except Misfit as misfit:
             raise unreadable(misfit) from None
-        reason = reason_of([one for one in found if one.refusal and not one.command.form.is_query])
-    if reason:
-        doubt(reason)
+        refused = [one for one in found if one.refusal and not one.command.form.is_query]
+        reasons = "; ".join(map(refusals.described, refused[:NAMED]))
+    if refused:
+        more = f"; and {len(refused) - NAMED} more" if len(refused) > NAMED else ""
+        doubt(f"refused changes are left out: {reasons}{more}")
     return found
 
 
@@ -96,13 +98,6 @@ def bytes_of(given: Given) -> bytes:
         return Path(given).read_bytes()
     except (OSError, ValueError) as error:
         raise checks.wrong("script", given, f"{getattr(error, 'strerror', None) or error}; {wanted}") from None
-
-
-def reason_of(refused: Sequence[Answer]) -> str:
-    """Returns a warning of refused changes, or an empty text."""
-    more = f"; and {len(refused) - NAMED} more" if len(refused) > NAMED else ""
-    reasons = "; ".join(map(refusals.described, refused[:NAMED]))
-    return f"refused changes are left out: {reasons}{more}" if refused else ""
 
 
 def command_of(answer: Answer) -> Command:
@@ -134,14 +129,17 @@ def table_of(schema: Schema, given: Mapping[str, Any], has_times: bool) -> Table
     for name in options.decimals:
         if kind_of.get(name) is not Kind.INT:
             raise Refused("NoColumn", f"decimals= needs a column of numbers; {schema.name} has none of this name", name)
-    columns = {name: column_of(name, kind, options.decimals.get(name)) for name, kind in kind_of.items()}
+    columns = {}
+    for name, kind in kind_of.items():
+        digits = options.decimals.get(name)
+        dtype = np.dtype("int64") if kind is Kind.INT and digits is None else np.dtype(object)
+        columns[name] = Values(name, kind.value, NO_INTS, Texts(), dtype, digits)
     key = [names[place] for place in schema.key]
     if has_times and options.form.has_last_days:
         reason = f"{schema.name} has points with times, so its ends can't be last days: leave out last_day=True"
         raise Refused("BadPoint", reason)
-    bounds = {"first": points.FIRST, "last": points.NO_END}
-    words, kind = dict(zip(names, schema.names)), kinds.Kind("S" if has_times else "D")
-    made = Table(schema.name, columns, key, options, words, kind, **bounds)
+    words, kind_of_points = dict(zip(names, schema.names)), kinds.Kind("S" if has_times else "D")
+    made = Table(schema.name, columns, key, options, words, kind_of_points, points.FIRST, points.NO_END)
     refuse_stand_ins(made)
     return made
 
@@ -164,8 +162,3 @@ def names_of(schema: Schema, given: Any) -> List[Any]:
     for name in naming.twice(names):
         raise Refused("TwiceNamed", f"names= of {schema.name}: two columns would have this name", name)
     return names
-
-
-def column_of(name: Any, kind: Kind, digits: Any) -> Values:
-    dtype = np.dtype("int64") if kind is Kind.INT and digits is None else np.dtype(object)
-    return Values(name, kind.value, NO_INTS, Texts(), dtype, digits)

@@ -63,10 +63,6 @@ def command(*fields: str, label: Any = None) -> Command:
     return Command(fields, record(fields), label)
 
 
-def block(fields: Sequence[str], inner: Sequence[Sequence[str]]) -> Command:
-    return Command(fields, b"".join([record(fields), *map(record, inner), b"end\n"]))
-
-
 def load(table: str, side: Side) -> Command:
     fields = ("load", table)
     return Command(fields, b"".join([record(fields), rows_of(side), b"end\n"]))

@@ -1,15 +1,17 @@
 """A store: tables with a past, from frames and in frames.
 
-A program holds it and does each change. The script is kept too: for files, and for another program, if the first one
-was killed, or did changes that must be undone.
+A program holds the tables and does each change. The script is kept too: for files, and for another program if the first
+one was killed, or did changes that must be undone.
 """
 from __future__ import annotations
 
 import copy
+import os
+import weakref
 from contextlib import contextmanager
 from functools import partial
 from threading import RLock
-from typing import Any, ContextManager, Dict, Iterator, List, Mapping, NamedTuple, Optional, Sequence, Tuple
+from typing import Any, ContextManager, Dict, Iterator, List, Mapping, Optional, Sequence, Tuple, Union
 
 import pandas as pd
 
@@ -19,31 +21,26 @@ from ruzgalt.frames.options import (
     NO_DECIMALS, NO_STAND_INS, PERIOD, WORKERS, Names, PeriodNames, options_of, workers_of,
 )
 from ruzgalt.frames.progress import OfCall
-from ruzgalt.store import changes, mistakes, opening
-from ruzgalt.store.asking import Asking
-from ruzgalt.store.book import Book
-from ruzgalt.store.changes import Change, Changed
-from ruzgalt.store.diaries import NO_NOTE, Note, note_of
+from ruzgalt.script import naming
+from ruzgalt.store import changes, opening, script as scripts
+from ruzgalt.store.changes import Change, Changed, Done
+from ruzgalt.store.docstrings import described
+from ruzgalt.store.export import Export
+from ruzgalt.store.labels import NO_NOTE, Note, note_of
 from ruzgalt.store.opening import Given
-from ruzgalt.store.raising import Raising
+from ruzgalt.store.queries import Queries
+from ruzgalt.store.state import State
 from ruzgalt.store.tables import Table
-from ruzgalt.store.written import Written
 
 
 # A store of at most this number of commits counts each change at once. The answer to `log` lists all commits.
 COUNTED = 1_000
+# All stores, for forks.
+STORES: "weakref.WeakSet[Store]" = weakref.WeakSet()
 
 
-class Done(NamedTuple):
-    """A change that was accepted: its first and last commit, and whether its rows were loaded before."""
-
-    change: Change
-    before: int
-    last: int
-    is_repeated: bool
-
-
-class Store(Asking, Raising, Written):
+@described
+class Store(Queries, Export):
     """Tables with a past, in memory: each change is a commit, and each question may be asked as of any of them.
 
     A commit is named by its number, by the label of its change, or by a day on which it was the newest. Threads may
@@ -52,23 +49,21 @@ class Store(Asking, Raising, Written):
 
     Parameters
     ----------
-    workers : int, default 4
-        Threads of the program, 1 to 64.
-    progress : bool, optional
-        Shows the seconds while the program works, as in ruzgalt.join.
+    {store}
 
     Raises
     ------
     Refused
-        By each call, if a table, a column or a commit doesn't exist, a value or an option can't be taken, or two rows
-        of one key would overlap. Nothing is changed then.
+        By each call, if a table, a column or a commit doesn't exist, an argument is invalid, or two rows of one key
+        would overlap. Nothing is changed then. Also by script, save, page, copies and pickle within a batch.
     Stopped
         By each call, if the program ended without all answers.
 
     Warns
     -----
     Doubt
-        Of possible mistakes in changes and questions.
+        If a change touches no row, or all rows without `where`; if rows are loaded twice; if ends look like last days,
+        or don't and should; if keys or groups look alike, or `on` is missing; if a script or a diary has mistakes.
 
     Examples
     --------
@@ -89,10 +84,13 @@ class Store(Asking, Raising, Written):
     def __init__(self, *script: Any, workers: int = WORKERS, progress: Optional[bool] = None) -> None:
         if script:
             raise checks.wrong("script", script[0], "a store begins empty; Store.from_script(..) opens a script")
-        self.book = Book(workers_of("workers", workers), options_of(progress=progress).progress)
-        self.lock = RLock()
-        # The label and day of a batch, and its changes; no list outside of one.
-        self.note, self.done = NO_NOTE, None  # type: Note, Optional[List[Done]]
+        self._begin(State(workers_of("workers", workers), options_of(progress=progress).progress))
+
+    def _begin(self, state: State) -> None:
+        # The label and day of a batch, and its changes; outside of a batch no list.
+        self.state, self.lock, self.note = state, RLock(), NO_NOTE
+        self.done: Optional[List[Done]] = None
+        STORES.add(self)
 
     @classmethod
     def from_script(cls, script: Given, *, workers: int = WORKERS, progress: Optional[bool] = None,
@@ -104,13 +102,10 @@ class Store(Asking, Raising, Written):
         ----------
         script : bytes or path
             A script, such as ./dipq reads and Store.script() returns; or its file.
-        workers : int, default 4
-            Threads of the program, 1 to 64.
-        progress : bool, optional
-            Shows the seconds while the program works, as in ruzgalt.join.
+        {store}
         options : dict, optional
             For each table's name a dict of options of `table`: period, open_end, last_day, decimals, missing. With
-            decimals, numbers become Decimals. `names` are those of a Script, for a script from a file.
+            decimals, numbers become Decimals. `names` is Script.names, for a script from a file.
         diary : str, optional
             The table with the commits' labels and days, made by `diary()`, or as the tools read it: its first column
             has the newest commit from a row's start on.
@@ -124,13 +119,6 @@ class Store(Asking, Raising, Written):
         ------
         Refused
             If the file, a table or column of options, or the diary doesn't exist, or the script isn't complete.
-        Stopped
-            If the program ended without all answers.
-
-        Warns
-        -----
-        Doubt
-            If the program refuses changes, or the diary has a gap.
 
         Examples
         --------
@@ -138,13 +126,13 @@ class Store(Asking, Raising, Written):
         <Store of 3 commits, tables: pay>
         """
         store = cls(workers=workers, progress=progress)
-        with OfCall("Store", store.book.progress):
-            opening.read(store.book, script, {} if options is None else options, diary)
+        with OfCall("Store", store.state.progress):
+            opening.read(store.state, script, {} if options is None else options, diary)
         return store
 
     def __repr__(self) -> str:
         with self.lock:
-            return f"<Store of {self.book.newest} commits, tables: {', '.join(self.book.tables) or 'none'}>"
+            return f"<Store of {self.state.newest} commits, tables: {', '.join(self.state.tables) or 'none'}>"
 
     def __deepcopy__(self, _: Any) -> Store:
         """Does what copy.copy does: commands and tables are never changed, so both stores may share them."""
@@ -152,10 +140,10 @@ class Store(Asking, Raising, Written):
 
     def __getstate__(self) -> Dict[str, Any]:
         with self.lock:
-            return {"book": copy.copy(self._settled())}
+            return {"state": copy.copy(self._settled())}
 
     def __setstate__(self, state: Mapping[str, Any]) -> None:
-        self.book, self.lock, self.note, self.done = state["book"], RLock(), NO_NOTE, None
+        self._begin(state["state"])
 
     @property
     def tables(self) -> Dict[str, Table]:
@@ -172,16 +160,14 @@ class Store(Asking, Raising, Written):
         {'pay': ['person', 'cents']}
         """
         with self.lock:
-            return dict(self.book.tables)
+            return dict(self.state.tables)
 
-    def _settled(self) -> Book:
-        """Returns the book to copy or to write. Raises Refused in a batch, whose changes may still be undone."""
+    def _settled(self) -> State:
+        """Returns the state to copy or to write. Raises Refused in a batch, whose changes may still be undone."""
         if self.done is not None:
             reason = "the batch hasn't ended, and its changes may still be undone"
             raise Refused("BadCommand", f"{reason}: copy, save and make pages after its end")
-        return self.book
-
-    # Changes. Each returns what it did, or None in a batch. It warns of possible mistakes (ruzgalt.Doubt).
+        return self.state
 
     def table(self, name: str, frame: pd.DataFrame, *, period: PeriodNames = PERIOD, key: Names = (),
               open_end: bool = False, last_day: bool = False, decimals: Mapping[Any, int] = NO_DECIMALS,
@@ -208,20 +194,9 @@ class Store(Asking, Raising, Written):
         missing : dict, optional
             A value that no cell has, which the store keeps for a missing cell, such as `{"note": "?"}`. It comes back
             as missing; such a column isn't compared, added up or raised.
-        label : str, optional
-            A name of the change's last commit, for as_of=. No other commit has it.
-        day : str, date, datetime, Timestamp or Period, optional
-            The change's commits are there from this midnight on. Days can't go back.
+        {note}
 
-        Returns
-        -------
-        Changed
-            The counts of the load, whose commit is the one after the table's; in a batch None.
-
-        Warns
-        -----
-        Doubt
-            If ends look like last days, or with last_day=True don't; if rows come twice.
+        {changed}
 
         Examples
         --------
@@ -239,24 +214,11 @@ class Store(Asking, Raising, Written):
 
         Parameters
         ----------
-        name : str
-            The table.
-        frame : DataFrame
-            A frame of pandas with the period's columns and the table's.
-        label : str, optional
-            A name of the change's last commit, for as_of=. No other commit has it.
-        day : str, date, datetime, Timestamp or Period, optional
-            The change's commits are there from this midnight on. Days can't go back.
+        {table}
+        {frame}
+        {note}
 
-        Returns
-        -------
-        Changed
-            The commit and its counts; in a batch None.
-
-        Warns
-        -----
-        Doubt
-            If rows were loaded before or come twice, or ends look like last days.
+        {changed}
 
         Examples
         --------
@@ -264,7 +226,7 @@ class Store(Asking, Raising, Written):
         commit 4: 2 added, 0 closed
         """
         with self.lock:
-            return self._change(changes.loading(self.book.known(name), frame), note_of(label, day))
+            return self._change(changes.loading(self.state.known(name), frame), note_of(label, day))
 
     def update(self, name: str, start: Any, end: Any, set: Mapping[str, Any],
                where: Optional[Mapping[str, Any]] = None, *, label: Optional[str] = None,
@@ -273,28 +235,14 @@ class Store(Asking, Raising, Written):
 
         Parameters
         ----------
-        name : str
-            The table.
-        start, end : str, date, datetime, Timestamp or Period
-            In a table of last days `end` is the last day. With None as the end there is no end: 9999-12-31.
+        {table}
+        {portion}
         set : dict
             Columns with their new values.
-        where : dict, optional
-            Columns with the values that rows must have.
-        label : str, optional
-            A name of the change's last commit, for as_of=. No other commit has it.
-        day : str, date, datetime, Timestamp or Period, optional
-            The change's commits are there from this midnight on. Days can't go back.
+        {where}
+        {note}
 
-        Returns
-        -------
-        Changed
-            The commit and its counts; in a batch None.
-
-        Warns
-        -----
-        Doubt
-            If it changes no row, or all rows without a `where`; if an end cuts a row and looks like a last day.
+        {changed}
 
         Examples
         --------
@@ -302,10 +250,9 @@ class Store(Asking, Raising, Written):
         commit 4: 2 added, 1 closed
         """
         with self.lock:
-            table = self.book.known(name)
-            fields = ["set", *table.pairs("set", set), *changes.condition(table, where)]
-            made = changes.changing("update", table, table.portion(start, end), fields)
-            return self._change(made, note_of(label, day))
+            table = self.state.known(name)
+            fields = ["set", *table.pairs("set", set), *table.condition(where)]
+            return self._change(changes.changing("update", table, start, end, fields), note_of(label, day))
 
     def delete(self, name: str, start: Any, end: Any, where: Optional[Mapping[str, Any]] = None, *,
                label: Optional[str] = None, day: Any = None) -> Optional[Changed]:
@@ -313,26 +260,12 @@ class Store(Asking, Raising, Written):
 
         Parameters
         ----------
-        name : str
-            The table.
-        start, end : str, date, datetime, Timestamp or Period
-            In a table of last days `end` is the last day. With None as the end there is no end: 9999-12-31.
-        where : dict, optional
-            Columns with the values that rows must have.
-        label : str, optional
-            A name of the change's last commit, for as_of=. No other commit has it.
-        day : str, date, datetime, Timestamp or Period, optional
-            The change's commits are there from this midnight on. Days can't go back.
+        {table}
+        {portion}
+        {where}
+        {note}
 
-        Returns
-        -------
-        Changed
-            The commit and its counts; in a batch None.
-
-        Warns
-        -----
-        Doubt
-            If it changes no row, or all rows without a `where`; if an end cuts a row and looks like a last day.
+        {changed}
 
         Examples
         --------
@@ -340,9 +273,8 @@ class Store(Asking, Raising, Written):
         commit 4: 1 added, 1 closed
         """
         with self.lock:
-            table = self.book.known(name)
-            fields = changes.condition(table, where)
-            made = changes.changing("delete", table, table.portion(start, end), fields)
+            table = self.state.known(name)
+            made = changes.changing("delete", table, start, end, table.condition(where))
             return self._change(made, note_of(label, day))
 
     def update_rows(self, name: str, frame: pd.DataFrame, where: Names = None, *, label: Optional[str] = None,
@@ -351,27 +283,14 @@ class Store(Asking, Raising, Written):
 
         Parameters
         ----------
-        name : str
-            The table.
+        {table}
         frame : DataFrame
-            A frame of pandas: portions of time, the values by which rows are found, and new values. Columns may be left
-            out.
+            A frame of pandas: portions of time, values that find rows, and new values. Columns may be left out.
         where : name or list of names, optional
-            The columns by which rows are found, if not the table's key.
-        label : str, optional
-            A name of the change's last commit, for as_of=. No other commit has it.
-        day : str, date, datetime, Timestamp or Period, optional
-            The change's commits are there from this midnight on. Days can't go back.
+            The columns that find rows, if not the table's key.
+        {note}
 
-        Returns
-        -------
-        Changed
-            The counts of all updates together, and the last commit; in a batch None.
-
-        Warns
-        -----
-        Doubt
-            If an update changes no row, or ends look like last days.
+        {changed}
 
         Examples
         --------
@@ -380,7 +299,68 @@ class Store(Asking, Raising, Written):
         commit 5: 3 added, 3 closed
         """
         with self.lock:
-            return self._change(changes.updating(self.book.known(name), frame, where), note_of(label, day))
+            return self._change(changes.updating(self.state.known(name), frame, where), note_of(label, day))
+
+    def raise_by(self, name: str, column: Any, percent: Any, start: Any, end: Any = None, *,
+                 where: Optional[Mapping[str, Any]] = None, round: Optional[str] = None,
+                 dry_run: bool = False, again: bool = False, label: Optional[str] = None,
+                 day: Any = None) -> Union[Changed, pd.DataFrame, None]:
+        """Raises amounts by a percentage, exactly: an update for each amount that rows have.
+
+        Parameters
+        ----------
+        {table}
+        column : name
+            The column of amounts.
+        percent : str, int, float or Decimal
+            A raise such as 2.5, or a cut such as -3.
+        {portion}
+        {where}
+        round : str, optional
+            How a new amount is rounded to a number of the column: half-up, half-down, half-even, up, down, ceiling or
+            floor, as in Python's decimal.
+        dry_run : bool, default False
+            Changes nothing, and returns a frame of the updates.
+        again : bool, default False
+            Raises amounts once more that were already raised from the same start on.
+        {note}
+
+        Returns
+        -------
+        Changed or DataFrame
+            The counts of all updates together, in a batch None. With dry_run a frame of the number of rows, the amount
+            under its column's name, the exact new amount and the rounded one, in the column's smallest units.
+
+        Raises
+        ------
+        Refused
+            If the same rows were already raised from this start on, the column's floats don't hold a new amount, or it
+            has more decimals than the column and `round` isn't given.
+
+        Examples
+        --------
+        >>> store.raise_by("pay", "cents", "2.5", "2024-09-01", dry_run=True)
+           rows  cents exact  raised
+        0     1   5400  5535    5535
+        1     1   4800  4920    4920
+        >>> store.raise_by("pay", "cents", "2.5", "2024-09-01")
+        commit 5: 4 added, 2 closed
+        """
+        is_dry, is_again = checks.flag("dry_run", dry_run), checks.flag("again", again)
+        note = note_of(label, day)
+        with self.lock:
+            self.state.diary.refuse(note)
+            table = self.state.known(name)
+            made = changes.raise_of(self.state, table, column, (percent, start, end, where, round), is_again)
+            if is_dry:
+                names = naming.apart(["rows", "exact", "raised", column])
+                return pd.DataFrame(list(made.table().values()), columns=[names[0], names[3], *names[1:3]])
+            commands = [scripts.command(*fields) for fields in made.updates()]
+            if not commands:
+                note.refuse_without_commit()
+                doubt(f"raise of {name}: {'; '.join(made.notes())}")
+                return None
+            return self._change(Change(name, commands, portion=table.portion(start, end)), note)
 
     def batch(self, *, label: Optional[str] = None, day: Any = None) -> ContextManager[List[Changed]]:
         """The changes within are all kept, or none if one is refused or another exception ends the batch.
@@ -401,11 +381,6 @@ class Store(Asking, Raising, Written):
         context manager
             It gives a list, which has a Changed for each change at the end of the `with`.
 
-        Raises
-        ------
-        Refused
-            At the begin, if the store is in a batch; at the end, if a label has no commit.
-
         Examples
         --------
         >>> with store.batch() as changed:
@@ -423,33 +398,33 @@ class Store(Asking, Raising, Written):
         with self.lock:
             if self.done is not None:
                 raise Refused("BadCommand", "a batch can't begin within a batch: end the outer one first")
-            self.book.diary.refuse(note)
+            self.state.diary.refuse(note)
             try:
-                with self.book.whole():
+                with self.state.whole():
                     self.note, self.done = note, []
                     yield changed
                     if any(one.change.commands for one in self.done):
-                        self.book.diary = self.book.diary.behind(self.book.newest, Note(note.label))
+                        self.state.diary.add(self.state.newest, Note(note.label))
                     else:
                         note.refuse_without_commit()
                     changed += self._reported(self.done)
             finally:
                 self.note, self.done = NO_NOTE, None
 
-    def _change(self, change: Change, note: Note = NO_NOTE) -> Optional[Changed]:
+    def _change(self, change: Change, note: Note) -> Optional[Changed]:
         """Does a change, with its label and day. If it is refused, nothing is changed."""
         with self.lock:
-            book, note = self.book, note.within(self.note)
-            book.diary.refuse(note)
+            state, note = self.state, note.within(self.note)
+            state.diary.refuse(note)
             if not change.commands:
                 note.refuse_without_commit()
-            is_repeated = bool(change.commands) and change.commands[-1].data in book.loads
-            with book.whole():
-                before = book.newest
-                book.do(change, self.done is None and before < COUNTED)
+            is_repeated = bool(change.commands) and change.commands[-1].data in state.loads
+            with state.whole():
+                before = state.newest
+                state.do(change, self.done is None and before < COUNTED)
                 if change.commands:
-                    book.diary = book.diary.behind(book.newest, note)
-                done = Done(change, before, book.newest, is_repeated)
+                    state.diary.add(state.newest, note)
+                done = Done(change, before, state.newest, is_repeated)
                 if self.done is None:
                     return self._reported([done])[0]
             self.done.append(done)
@@ -457,24 +432,40 @@ class Store(Asking, Raising, Written):
 
     def _reported(self, changes_done: Sequence[Done]) -> List[Changed]:
         """Returns what changes did, and warns of possible mistakes in them."""
-        is_counted = self.book.newest <= COUNTED or self.done is not None
+        is_counted = self.state.newest <= COUNTED or self.done is not None
         found = []
-        for change, before, last, is_repeated in changes_done:
-            counts = self.book.counted(before, last) if is_counted else None
+        for done in changes_done:
+            counts = self.state.counted(done.before, done.last) if is_counted else None
             closed = None if counts is None else [one for _, one in counts]
-            for reason in mistakes.of_change(change, self.book.tables[change.name], closed, is_repeated):
+            for reason in changes.mistakes_in(done, self.state.tables[done.change.name], closed):
                 doubt(reason)
             if counts is None:
-                found.append(Changed(last, later=partial(self._counts, before, last)))
+                found.append(Changed(done.last, later=partial(self._counts, done.before, done.last)))
             else:
-                found.append(Changed(last, *sums(counts)))
+                found.append(Changed(done.last, *sums(counts)))
         return found
 
     def _counts(self, before: int, last: int) -> Tuple[int, int]:
         """Returns how many versions some commits added, and how many they closed."""
         with self.lock:
-            return sums(self.book.counted(before, last))
+            return sums(self.state.counted(before, last))
 
 
 def sums(counts: Sequence[Tuple[int, int]]) -> Tuple[int, int]:
     return sum(one for one, _ in counts), sum(one for _, one in counts)
+
+
+def free_stores() -> None:
+    """Frees the stores that other threads held when the process was forked: a child has none of these threads.
+
+    Their unfinished changes are undone in the child.
+    """
+    for store in list(STORES):
+        if store.lock.acquire(blocking=False):
+            store.lock.release()
+        else:
+            store.state.undo_all()
+            store._begin(store.state)
+
+
+os.register_at_fork(after_in_child=free_stores)

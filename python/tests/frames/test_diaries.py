@@ -53,8 +53,6 @@ class Case(unittest.TestCase):
         """That a commit is meant by its label or day, by all questions."""
         pd.testing.assert_frame_equal(made.at("t", "2024-06-01", as_of), made.at("t", "2024-06-01", number))
         pd.testing.assert_frame_equal(made.between("t", as_of, as_of), made.between("t", number, number))
-        later = len(made.log()) + 1
-        pd.testing.assert_frame_equal(made.fromto("t", as_of, later), made.fromto("t", number, later))
         for ask in (
             lambda commit: made.join("t", "t", "k", as_of=commit),
             lambda commit: made.anti("t", "t", "k", as_of=commit),
@@ -63,7 +61,6 @@ class Case(unittest.TestCase):
             lambda commit: made.dip("t", as_of=commit).parts,
         ):
             pd.testing.assert_frame_equal(ask(as_of), ask(number))
-        self.assertTrue(made.check("t", made.dip("t", number), as_of=as_of))
 
 
 class Labels(Case):
@@ -105,7 +102,7 @@ class Labels(Case):
 
     def test_a_batch_and_its_last_change_have_labels_of_their_own(self):
         made = store()
-        with self.assertRaisesRegex(ruzgalt.Refused, "'a' is that of commit 3"):
+        with self.assertRaisesRegex(ruzgalt.Refused, "'a' already names commit 3"):
             with made.batch(label="a"):
                 made.load("t", frame("c"), label="a")
         with made.batch(label="a", day="2024-03-01"):
@@ -137,7 +134,7 @@ class Labels(Case):
                      "and 2 more")
         self.refuses(lambda: made.at("t", "2024-02-01", "Payslip, week 5"), "NoLabel", "looks alike")
         self.refuses(lambda: made.between("t", "7", 9), "NoLabel", "a commit's number as a number: 7")
-        self.refuses(lambda: made.fromto("t", 1, "2024-02-30"), "NoLabel", "isn't a day")
+        self.refuses(lambda: made.between("t", 1, "2024-02-30"), "NoLabel", "isn't a day")
 
 
 class Days(Case):
@@ -236,8 +233,8 @@ class Kept(Case):
         again = ruzgalt.Store.from_script(made.script(), diary="diary")
         pd.testing.assert_frame_equal(again.diary(), made.diary())
         for as_of in ('"July"', "last", "c, without a day", "2024-02-10", "2024-01-11"):
-            wanted = made.rows("t", as_of, points_as="D").values.tolist()
-            self.assertEqual(again.rows("t", as_of, points_as="D").values.tolist(), wanted)
+            wanted = made.rows("t", as_of).astype({"from": "period[D]", "to": "period[D]"}).values.tolist()
+            self.assertEqual(again.rows("t", as_of).values.tolist(), wanted)
         more = frame("z").astype({"from": "period[D]", "to": "period[D]"})
         self.refuses(lambda: again.load("t", more, day="2024-02-09"), "BadPoint")
         self.refuses(lambda: again.load("t", more, label="last"), "TwiceNamed")

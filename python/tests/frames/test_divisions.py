@@ -98,28 +98,6 @@ class Divisions(unittest.TestCase):
         self.assertEqual(list(division.parts), ["part", "row_id"])
         self.assertEqual(division.parts["row_id"].tolist(), [1, 2])
         self.assertRaisesRegex(ruzgalt.Refused, "division.parts", lambda: division["row_id"])
-        self.assertTrue(store.check("t", division))
-        self.assertFalse(store.check("t", division, count=1))
-
-
-class Verdicts(unittest.TestCase):
-    def test_each_is_said_in_words(self):
-        store = ruzgalt.Store()
-        store.table("t", frame(FIRST, LAST))
-        parts = store.dip("t").parts
-        double = pd.concat([parts, parts.iloc[:1]])
-        for given, count, instant, wanted in (
-            (parts, 2, "2024-02-01", "Yes: no two rows of a part overlap, and fewer parts than 2 aren't enough: 2 "),
-            (parts, 3, "2024-02-01", "No: 3 parts are claimed, but there are 2."),
-            (parts.assign(row_id=[1, 9]), 2, "2024-02-01", "No: no row has the id 9."),
-            (double, 2, "2024-02-01", "No: row 1 occurs twice."),
-            (parts.iloc[:1], 1, "2024-02-01", "No: row 2 is in no part."),
-            (parts.assign(part=0), 1, "2024-01-01", "No: rows 1 and 2 are in one part, and overlap."),
-            (parts, 2, "2024-01-01", "No: 2 parts are enough, but 2024-01-01 needs only 1: it doesn't show"),
-        ):
-            with self.subTest(wanted):
-                verdict = store.check("t", given, count, instant)
-                self.assertEqual((repr(verdict)[:len(wanted)], bool(verdict)), (wanted, wanted.startswith("Yes")))
 
 
 if __name__ == "__main__":

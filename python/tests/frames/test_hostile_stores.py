@@ -172,8 +172,6 @@ class Stores(stateful.RuleBasedStateMachine):
         table = self.plain.tables[name]
         self.is_as(form, lambda: self.store.between(name, first, first + more),
                    plain_store.versions(table, first, first + more))
-        self.is_as(form, lambda: self.store.fromto(name, first, first + more) if more else self.store.rows(name, -1),
-                   plain_store.versions(table, first, first + more - 1) if more else REFUSED)
 
     def days_of(self, form, got, names):
         """How often each day of a change stands in a frame of changes, which has these names."""
@@ -234,10 +232,6 @@ class Stores(stateful.RuleBasedStateMachine):
         got = self.store.dip(name, as_of)
         parts, count = plain_store.dip(self.shown(name, as_of))
         assert (got.parts.values.tolist(), got.count) == (parts, count)
-        assert self.store.check(name, got, as_of=as_of)
-        assert self.store.check(name, got.parts.iloc[::-1], got.count, got.instant, as_of=as_of)
-        if parts:
-            assert not self.store.check(name, got.parts.iloc[1:], got.count, got.instant, as_of=as_of)
 
     # Wrong calls.
 
@@ -252,7 +246,7 @@ class Stores(stateful.RuleBasedStateMachine):
     def wrong_questions(self, data):
         store, (name, form) = self.store, self.some_table(data)
         given = {
-            "as_of": hostile.NO_COMMITS, "points_as": hostile.NO_KINDS, "on": hostile.NO_NAMES, "by": hostile.NO_NAMES,
+            "as_of": hostile.NO_COMMITS, "on": hostile.NO_NAMES, "by": hostile.NO_NAMES,
             "suffixes": hostile.NO_SUFFIXES, "point": hostile.NO_POINTS, "first": hostile.NO_COMMITS[:4],
             "left": ["T", "no_such", 5, None, ["t"]], "function": ["summ", None, 5, ["sum"]],
             "how": ["Left", "cross", None, 1, ["left"]],
@@ -260,8 +254,8 @@ class Stores(stateful.RuleBasedStateMachine):
         option = data.draw(st.sampled_from(sorted(given)))
         found = data.draw(st.sampled_from(given[option]))
         ask = {
-            "as_of": lambda: store.rows(name, found), "points_as": lambda: store.rows(name, points_as=found),
-            "on": lambda: store.join(name, name, on=found), "by": lambda: store.agg(name, "count", by=found),
+            "as_of": lambda: store.rows(name, found), "on": lambda: store.join(name, name, on=found),
+            "by": lambda: store.agg(name, "count", by=found),
             "suffixes": lambda: store.join(name, name, suffixes=found), "point": lambda: store.at(name, found),
             "first": lambda: store.between(name, found, 9), "left": lambda: store.anti(found, name),
             "function": lambda: store.agg(name, found, form.names[0]), "how": lambda: store.join(name, name, how=found),
@@ -287,7 +281,7 @@ class Stores(stateful.RuleBasedStateMachine):
             "load": lambda: store.load(name, spoiled), "there": lambda: store.table(name, form.frame(rows)),
             "name": lambda: store.table(bad, hostile.A_FRAME),
             "key": lambda: store.table("v", hostile.A_FRAME, key="T" if bad is None else bad),
-            "parts": lambda: store.check(name, no_frame, 1, "2024-01-01"),
+            "frame": lambda: store.load(name, no_frame),
             "columns": lambda: store.update_rows(name, others, form.names[:1]),
         }
         self.refuses(wrong[data.draw(st.sampled_from(sorted(wrong)))])

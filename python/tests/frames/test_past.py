@@ -95,7 +95,6 @@ class Past(unittest.TestCase):
                                ({"last": "first"}, {2}), ({"first": 7, "last": 8}, set()), ({}, {2, 3, 4, 5, 6, 9})):
             self.assertEqual(set(made.history("t", **words)["commit"]), commits, words)
         self.assertEqual(len(made.history("u", first="2024-04-02", last=8)), 4)
-        self.assertEqual(list(made.history("t", points_as="date")["from"])[0].isoformat(), "2024-01-01")
 
     def test_a_zero_byte_at_the_end_of_a_text_counts(self):
         made, texts_of_t = ruzgalt.Store(), ["a", "a\0"]

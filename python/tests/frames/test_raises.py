@@ -67,7 +67,7 @@ class Raises(unittest.TestCase):
         """Before it is kept: no question of the table could have it again."""
         store = store_of(hours=[1e8])
         for is_dry in (True, False):
-            with self.subTest(is_dry), self.assertRaisesRegex(ruzgalt.Refused, "column 'hours': an amount comes to"):
+            with self.subTest(is_dry), self.assertRaisesRegex(ruzgalt.Refused, "column 'hours': a raised amount is"):
                 store.raise_by("pay", "hours", 999999999, "2024-07-01", dry_run=is_dry)
         self.assertEqual(store.rows("pay")["hours"].tolist(), [1e8])
 

@@ -183,11 +183,6 @@ class RandomStores(unittest.TestCase):
         found = division.parts
         self.assertEqual(dict(zip(found.row_id, found.part)), dict(zip(rows["row_id"].tolist(), parts)))
         self.assertEqual(division.count, count)
-        self.assertTrue(case.store.check("t", division))
-        if len(found):
-            verdict = case.store.check("t", found.iloc[1:], division.count, division.instant)
-            self.assertFalse(verdict)
-            self.assertIn(verdict.reason, ("WrongCount", "Missing", "NotCrowded"))
 
     def test_random_stores_are_as_they_are_plainly(self):
         for seed in range(SEED, SEED + STORES):

@@ -81,7 +81,7 @@ class Points(unittest.TestCase):
             lambda point: ruzgalt.spread(frame, "n", amount="per month", within=(point, "2025-01-01")),
             lambda point: made.at("t", point), lambda point: made.rows("t", as_of=point),
             lambda point: made.delete("t", point, None), lambda point: made.update("t", "2024-01-01", point, {"n": 1}),
-            lambda point: made.load("t", frame, day=point), lambda point: made.check("t", made.dip("t"), instant=point),
+            lambda point: made.load("t", frame, day=point),
         ]
         for unit in "YMW":
             for asked in calls:

@@ -119,8 +119,8 @@ class Names(Case):
                 wanted = ruzgalt.agg(found, function, "price", **words)
                 pd.testing.assert_frame_equal(made.agg("t", function, "price", by=by), wanted)
             several = {"price": ["mean", "max"], "k": "count"}
-            wanted = ruzgalt.agg(found, several, mean_as="Fraction", **words)
-            pd.testing.assert_frame_equal(made.agg("t", several, by=by, mean_as="Fraction"), wanted)
+            wanted = ruzgalt.agg(found, several, **words)
+            pd.testing.assert_frame_equal(made.agg("t", several, by=by), wanted)
 
     def test_numbers_of_other_units_are_not_compared(self):
         made = store(frame(price=[0.1, 0.2]), "l", decimals={"price": 2})
@@ -129,28 +129,29 @@ class Names(Case):
         self.refuses(lambda: made.anti("l", "r", on="price"), "WrongKind", "'price'")
 
     def test_columns_have_any_names_and_the_store_names_like_them(self):
-        nan = float("nan")
-        names = ["Person", "person", "Löhne €", "", "a,\"b\"\n", "where", 2024, ("a", 1), None, nan, "x" * 4096]
+        names = ["Person", "person", "Löhne €", "", "a,\"b\"\n", "where", 2024, ("a", 1), None, "x" * 4096]
         found = frame(**{f"c{place}": [place, 7] for place in range(1, len(names))})
         found.columns = pd.Index(["from", "to", *names], dtype=object, tupleize_cols=False)
-        made = store(found, key=["Person", float("nan")])
-        made.update("t", "2024-01-10", None, {"Löhne €": 3, float("nan"): 5}, {"Person": "a", ("a", 1): 7})
+        made = store(found, key=["Person", None])
+        made.update("t", "2024-01-10", None, {"Löhne €": 3, None: 5}, {"Person": "a", ("a", 1): 7})
         made.update_rows("t", found.iloc[:1, [0, 1, 2, 4]], "Person")
         script = made.script()
         self.assertEqual(list(script.names["t"]), [
-            "person_", "person", "lohne", "c", "a_b", "where_", "c2024", "a_1", "none", "nan", "x" * 32,
+            "person_", "person", "lohne", "c", "a_b", "where_", "c2024", "a_1", "none", "x" * 32,
         ])
         self.assertEqual(list(map(repr, script.names["t"].values())), list(map(repr, names)))
-        self.assertIn(b",key,person_,nan\n", script)
+        self.assertIn(b",key,person_,none\n", script)
         again = ruzgalt.Store.from_script(script)
         for one in (made, again, pickle.loads(pickle.dumps(made))):
             self.assertEqual(list(map(repr, one.rows("t").columns[3:])), list(map(repr, names)))
-            for by in ([("a", 1)], [None], [float("nan"), ""]):
+            for by in ([("a", 1)], [None], [None, ""]):
                 groups = one.agg("t", "sum", 2024, by=by).columns[:len(by)]
                 self.assertEqual(list(map(repr, groups)), list(map(repr, by)))
-            pairs = one.join("t", "t", on=[None, float("nan"), ("a", 1), "x" * 4096])
+            pairs = one.join("t", "t", on=[None, ("a", 1), "x" * 4096])
             self.assertEqual(pairs["left_id"].tolist(), one.rows("t").sort_values("from")["row_id"].tolist())
-        self.refuses(lambda: made.load("t", found), "KeyOverlap", "Person 'a'", "nan ")
+        self.refuses(lambda: made.load("t", found), "KeyOverlap", "Person 'a'", "None ")
+        nan = found.set_axis(["from", "to", float("nan"), *names[1:]], axis=1)
+        self.refuses(lambda: store(nan), "BadName", "NaN")
         self.refuses(lambda: made.update("t", "2024-01-10", None, {"lohne": 3}), "NoColumn", "'lohne'", "'Löhne €'")
 
     def test_a_script_from_a_file_has_its_names_in_frames_by_an_option(self):
@@ -173,7 +174,6 @@ class Points(Case):
         made = store(frame(), open_end=True)
         for none in (None, pd.NaT, pd.NA, np.datetime64("NaT"), "", "x", 5, [1], float("nan")):
             for ask in (lambda: made.at("t", none), lambda: made.update("t", none, None, {"k": "c"}),
-                        lambda: made.check("t", made.dip("t"), 2, none) if none is not None else made.at("t", None),
                         lambda: made.delete("t", "2024-01-01", none if none is not None else pd.NaT)):
                 with self.assertRaises(ruzgalt.Refused) as caught:
                     ask()
@@ -230,10 +230,6 @@ class Points(Case):
         for got in (made.rows("t"), made.at("t", "2350-01-01"), made.agg("t", "count"), made.join("t", "t", on="k"),
                     made.between("t", 0, 3), made.anti("t", "t", on=[])):
             self.assertEqual(got["from"].dtype, SECONDS)
-        self.assertEqual(str(made.rows("t", points_as="D")["to"].dtype), "period[D]")
-        self.assertEqual(made.at("t", "2350-01-01", points_as="date")["from"].tolist(), [datetime.date(2300, 1, 1)])
-        self.refuses(lambda: made.rows("t", points_as="ns"), "BadPoint", "points_as")
-        self.refuses(lambda: made.rows("t", points_as="W"), "BadCommand", "points_as")
 
     def test_a_change_of_all_time_widens_no_kind(self):
         made = store(frame())
@@ -265,6 +261,14 @@ class Points(Case):
         for point in (np.datetime64("2024-01-15T00:00:00.5"), np.datetime64("30000-01-01"), np.datetime64("-1-01-01")):
             self.refuses(lambda: made.at("t", point), "BadPoint")
 
+    def test_the_text_of_a_timestamp_is_a_point(self):
+        made, day = store(frame()), str(DAYS("2024-01-15"))
+        made.update("t", day, str(DAYS("2024-01-16")), {"k": "c"}, {"k": "a"}, day=day)
+        self.assertEqual(made.at("t", day)["k"].tolist(), made.at("t", "2024-01-15")["k"].tolist())
+        self.assertEqual((len(made.rows("t", as_of=day)), made.picture("rows,t", start=day).svg[:4]), (4, "<svg"))
+        for wrong in ("2024-01-15 00:00", "2024-13-15 00:00:00", "2024-01-15  00:00:00"):
+            self.refuses(lambda: made.at("t", wrong), "BadPoint")
+
     def test_between_is_of_commits(self):
         made = store(frame())
         for first, last in ((0, True), (0.0, 2), (-1, 2), (None, 2)):
@@ -272,14 +276,13 @@ class Points(Case):
         for first, last in (("2024-01-01", "2024-02-01"), (DAYS("2024-01-01"), 2)):
             self.refuses(lambda: made.between("t", first, last), "NoDay", "day=")
         self.refuses(lambda: made.between("t", 2, 1), "BadPeriod")
-        self.refuses(lambda: made.fromto("t", 1, 1), "BadPeriod")
         self.assertEqual(len(made.between("t", np.int64(0), 9)), 2)
 
     def test_as_of_is_a_commit(self):
         made = store(frame())
         for as_of in (-1, 2.0, True, pd.NaT, np.datetime64("NaT"), [2]):
             for ask in (lambda: made.rows("t", as_of=as_of), lambda: made.join("t", "t", as_of=as_of),
-                        lambda: made.check("t", made.dip("t"), as_of=as_of)):
+                        lambda: made.dip("t", as_of=as_of)):
                 self.refuses(ask, "BadNumber", "0 to 2")
         self.refuses(lambda: made.rows("t", as_of=3), "Future", "0 to 2")
         self.assertEqual(len(made.rows("t", as_of=made.log()["commit"].min())), 0)
@@ -318,9 +321,9 @@ class Changes(Case):
             ("two updates from one point", lambda made: made.update_rows("t", frame(**twice), "k"),
              "row 'y' updates the same rows from the same point on as row 'x'"),
             ("two of one label", lambda made: made.update_rows("t", frame(**twice).set_axis([7, 7]), "k"),
-             "row 1 by place updates"),
+             "row 1 by position updates"),
             ("twice within, of one label", lambda made: made.load("t", pd.concat([frame(k="q", n=7).iloc[:1]] * 2)),
-             "row 1 by place makes the same row as row 0 by place"),
+             "row 1 by position makes the same row as row 0 by position"),
             ("twice within", lambda made: made.load("t", pd.concat([frame(k="q", n=7).iloc[:1]] * 3)), "1 more rows"),
         ]
         for what, change, note in cases:
@@ -419,22 +422,10 @@ class Changes(Case):
 
     def test_what_is_no_frame_is_refused_in_words(self):
         made = store(frame(n=[1, 2]), key=["k"])
-        division = made.dip("t")
-        parts = division.parts
         for given in (frame()["k"], [1], {"a": 1}, "pay.csv", None, Path("pay.csv"), b"x", 5):
             for call in (lambda: made.load("t", given), lambda: made.update_rows("t", given),
-                         lambda: made.table("u", given), lambda: made.check("t", given)):
+                         lambda: made.table("u", given)):
                 self.refuses(call, "BadCommand", "frame")
-        self.refuses(lambda: made.check("t", ruzgalt.dip(frame())), "BadCommand", "Store.dip")
-        self.refuses(lambda: made.check("t", parts.rename(columns={"part": "desk"})), "NoColumn", "'part'")
-        self.refuses(lambda: made.check("t", parts.astype("float64")), "WrongKind", "'row_id'")
-        floats = parts.astype({"part": "float64"})
-        self.assertNotIn("decimals", str(self.refuses(lambda: made.check("t", floats), "WrongKind", "'part'", "parts")))
-        self.refuses(lambda: made.check("t", parts, count=True), "BadCommand", "count")
-        self.refuses(lambda: made.check("t", parts.assign(part=[0, None])), "WrongKind", "'part'")
-        named = parts.assign(part=["desk b", "desk a"])
-        self.refuses(lambda: made.check("t", named), "BadCommand", "count=")
-        self.assertTrue(made.check("t", named, division.count, division.instant))
 
     def test_an_overlap_by_an_update_names_both_rows(self):
         made = store(frame(n=[1, 2]), key=["k"])
@@ -659,8 +650,8 @@ class Scripts(Case):
         again = ruzgalt.Store.from_script(first.script())
         self.assertEqual(again.script(), first.script())
         for name in ("t", "none"):
-            wanted = first.rows(name, points_as="S").astype({"from": SECONDS, "to": SECONDS})
-            pd.testing.assert_frame_equal(again.rows(name, points_as="S"), wanted)
+            kept = {"from": SECONDS, "to": SECONDS}
+            pd.testing.assert_frame_equal(again.rows(name).astype(kept), first.rows(name).astype(kept))
         self.assertIn("loaded before", quietly(lambda: ruzgalt.Store.from_script(store(frame()).script()).load("t", (
             frame(**{name: frame()[name].dt.to_period("D") for name in ("from", "to")}))))[1][0])
 

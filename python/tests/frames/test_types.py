@@ -36,7 +36,6 @@ second: dd.DataFrame = ruzgalt.anti(frame, spread, on="k")
 counts: dd.DataFrame = ruzgalt.agg(spread, "count")
 changed: Optional[ruzgalt.Changed] = store.table("pay", frame, key="k", open_end=True)
 rows: pd.DataFrame = store.rows("pay", as_of=2)
-verdict: ruzgalt.Verdict = store.check("pay", store.dip("pay"))
 version: str = ruzgalt.__version__
 ruzgalt.join(frame, frame, onn="k")  # refused
 ruzgalt.join(frame, frame, "k", ["k"])  # refused

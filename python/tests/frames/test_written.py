@@ -38,8 +38,10 @@ class Written(unittest.TestCase):
             self.store.save(self.folder / "none" / "pay.csv")
         with self.assertRaises(IsADirectoryError):
             self.store.save(self.folder)
-        with self.assertRaises(ruzgalt.Refused):
-            self.store.save(5)
+        for path in (5, None, "", b"pay.csv", "/"):
+            for call in (self.store.save, self.store.page):
+                with self.subTest(path), self.assertRaisesRegex(ruzgalt.Refused, "path="):
+                    call(path)
         self.assertEqual(os.listdir(self.folder), ["pay.csv"])
 
     def test_a_file_keeps_its_mode_and_its_links(self):

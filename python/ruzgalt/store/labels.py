@@ -1,15 +1,13 @@
-"""Labels and days of a store's commits, and the table that keeps them.
+"""Labels and days of a store's commits, and the table, a diary, that keeps them.
 
-A commit without a day counts with the next one that has a day, as to `tools/answers history --diary`: as of a day the
-newest commit is the last one whose day is that day or before. So days don't go back.
+A commit without a day counts with the next one that has a day. As of a day the newest commit is the last one whose day
+is that day or before, so days can't go back.
 """
 from __future__ import annotations
 
 import datetime
 import difflib
 from bisect import bisect_right
-from dataclasses import dataclass, field, replace
-from itertools import islice
 from typing import TYPE_CHECKING, Any, Dict, Iterator, List, Mapping, NamedTuple, Optional, Tuple
 
 import numpy as np
@@ -20,38 +18,37 @@ from ruzgalt.frames import checks, instants, points
 from ruzgalt.frames.arrays import Cells, Ints
 from ruzgalt.frames.errors import Refused, doubt
 from ruzgalt.frames.kinds import Kind
-from ruzgalt.lint.texts import fold
-from ruzgalt.script import changes as history, changes as diary
+from ruzgalt.script import changes as past
 from ruzgalt.script import forms
 from ruzgalt.script.schemas import Schema
 from ruzgalt.store import script
+from ruzgalt.store.tables import point_of
 
 if TYPE_CHECKING:
-    from ruzgalt.store.book import Book
+    from ruzgalt.store.state import State
 
 # The columns of a diary after its period. The tools read the first one, and Store.from_script all.
 NEWEST, COMMIT, LABEL = COLUMNS = ("newest", "commit", "label")
-# The most labels that a message lists, and the most among which it searches one that looks alike.
-LISTED, LOOKED_AT = 10, 1_000
-# So much of two labels that look alike is the same.
+# The most labels that a message lists, and the most among which it searches for one that looks alike.
+LISTED, COMPARED = 10, 1_000
+# The least ratio of characters that two labels share if they look alike.
 ALIKE = 0.75
-# What stands for a day; a text is one, or a label.
+# The types of a day; a text is a day or a label.
 DAYS = (datetime.date, np.datetime64, pd.Period)
 
 
-@dataclass(frozen=True)
-class Note:
+class Note(NamedTuple):
     """The label of a change's last commit, and the second of its day."""
 
     label: Optional[str] = None
     second: Optional[int] = None
 
     def within(self, batch: Note) -> Note:
-        """The same of a change in a batch, which has the batch's day where it has none."""
-        return replace(self, second=batch.second) if self.second is None else self
+        """Returns the note of a change in a batch: it has the batch's day unless it has its own."""
+        return self._replace(second=batch.second) if self.second is None else self
 
     def refuse_without_commit(self) -> None:
-        """Raises Refused where a label has no commit to name."""
+        """Raises Refused for a label of a change that makes no commit."""
         if self.label is not None:
             raise Refused("BadCommand", f"label={self.label!r} would name a commit, but this change makes none")
 
@@ -60,15 +57,11 @@ NO_NOTE = Note()
 
 
 def note_of(label: Any, day: Any) -> Note:
-    """Raises Refused if a label or a day can't be one."""
-    return Note(None if label is None else label_of(label), None if day is None else second_of(day))
-
-
-def second_of(day: Any) -> int:
-    second = instants.second_of(day)
-    if second >= points.NO_END:
+    """Returns a checked label and day. Raises Refused."""
+    second = None if day is None else instants.second_of(point_of(day))
+    if second is not None and second >= points.NO_END:
         raise Refused("BadPoint", f"day={day!r}: 9999-12-31 stands for no end, so it can't be the day of a commit")
-    return second
+    return Note(None if label is None else label_of(label), second)
 
 
 def label_of(given: Any) -> str:
@@ -79,9 +72,9 @@ def label_of(given: Any) -> str:
     if not label.strip():
         raise Refused("BadName", f"label={shown} is blank: give it some letters")
     if is_number(label):
-        raise Refused("BadName", f"label={shown} looks like a commit's number: add a word, as in 'run {label}'")
-    if forms.POINT.fullmatch(label.strip()):
-        raise Refused("BadName", f"label={shown} looks like a day: give that by day=, or add a word")
+        raise Refused("BadName", f"label={shown} looks like a commit's number: add a word, such as 'run {label}'")
+    if forms.POINT.fullmatch(point_of(label.strip())):
+        raise Refused("BadName", f"label={shown} looks like a day: give a day by day=, or add a word")
     if not forms.is_utf8(label):
         raise Refused("BadUtf8", f"label={shown} has half of a surrogate pair, so it isn't a text")
     if not forms.is_short(label):
@@ -97,50 +90,62 @@ def is_number(label: str) -> bool:
     return True
 
 
-@dataclass(frozen=True)
 class Diary:
-    """Labels with their commits, and days with the newest commit from each on. A diary is never changed.
+    """Labels with their commits, and days with the newest commit from each day on.
 
-    seconds  the days' midnights, or later seconds; they rise, and so do the commits
+    seconds  the days' midnights, or later seconds. They rise, and so do `commits`
     """
 
-    labels: Mapping[str, int] = field(default_factory=dict)
-    seconds: Tuple[int, ...] = ()
-    commits: Tuple[int, ...] = ()
+    def __init__(self) -> None:
+        self.labels: Dict[str, int] = {}
+        self.seconds: List[int] = []
+        self.commits: List[int] = []
 
-    def behind(self, commit: int, note: Note) -> Diary:
-        """Returns the diary with the label and day of a change's last commit. Raises Refused, as refuse does."""
-        if note == NO_NOTE:
-            return self
+    def add(self, commit: int, note: Note) -> None:
+        """Adds the label and day of a commit. Raises Refused, as refuse() does."""
         self.refuse(note)
-        made = self if note.label is None else replace(self, labels={**self.labels, note.label: commit})
-        if note.second is None:
-            return made
-        return replace(made, seconds=(*self.seconds, note.second), commits=(*self.commits, commit))
+        if note.label is not None:
+            self.labels[note.label] = commit
+        if note.second is not None:
+            self.seconds.append(note.second)
+            self.commits.append(commit)
+
+    @property
+    def size(self) -> Tuple[int, int]:
+        return len(self.labels), len(self.seconds)
+
+    def cut(self, size: Tuple[int, int]) -> None:
+        """Removes the labels and days that were added after the diary had this size."""
+        for label in list(self.labels)[size[0]:]:
+            del self.labels[label]
+        del self.seconds[size[1]:], self.commits[size[1]:]
 
     def refuse(self, note: Note) -> None:
         """Raises Refused if a commit has the label, or a later day."""
         if note.label is not None and note.label in self.labels:
-            reason = f"label={checks.shown(note.label)} is that of commit {self.labels[note.label]}"
+            reason = f"label={checks.shown(note.label)} already names commit {self.labels[note.label]}"
             raise Refused("TwiceNamed", f"{reason}: give another one; diary() lists them")
         if note.second is not None and self.seconds and note.second < self.seconds[-1]:
             last = f"{points.text_of(self.seconds[-1])}, the day of commit {self.commits[-1]}"
             raise Refused("BadPoint", f"day={points.text_of(note.second)} is before {last}: days can't go back")
 
     def commit_of(self, option: str, given: Any) -> int:
-        """The commit that has a label, or the newest one of a day. Raises Refused."""
+        """Returns the commit of a label, or the newest commit of a day. Raises Refused."""
         if not isinstance(given, str):
             return self.newest_at(option, given)
         if given in self.labels:
             return self.labels[given]
-        if forms.read_point(given) is not None:
-            return self.newest_at(option, given)
-        reason = f"{option}={checks.shown(given)} isn't a day, and no commit has this label{self.alike(given)}"
+        if forms.read_point(point_of(given)) is not None:
+            return self.newest_at(option, point_of(given))
+        near = {one.casefold(): one for one in list(self.labels)[-COMPARED:]}
+        alike = difflib.get_close_matches(given.strip().casefold(), near, 1, ALIKE)
+        reason = f"{option}={checks.shown(given)} isn't a day, and no commit has this label"
+        reason += f", but {near[alike[0]]!r} looks alike" if alike else ""
         reason += f"; give a commit's number as a number: {int(given)}" if is_number(given) else ""
         raise Refused("NoLabel", f"{reason}; {self.listed()}")
 
     def newest_at(self, option: str, day: Any) -> int:
-        commit = diary.newest_at(self.seconds, self.commits, instants.second_of(day))
+        commit = past.newest_at(self.seconds, self.commits, instants.second_of(day))
         if commit is not None:
             return commit
         given = f"{option}={str(day)!r}"
@@ -149,12 +154,6 @@ class Diary:
             raise Refused("NoDay", f"{given}: no commit has a day; {remedy}")
         raise Refused("NoDay", f"{given}: the first day of a commit is {points.text_of(self.seconds[0])}")
 
-    def alike(self, label: str) -> str:
-        """A label like this one, for a person."""
-        there = {fold(one): one for one in islice(reversed(list(self.labels)), LOOKED_AT)}
-        found = difflib.get_close_matches(fold(label), list(there), 1, ALIKE)
-        return f", but {there[found[0]]!r} looks alike" if found else ""
-
     def listed(self) -> str:
         if not self.labels:
             return "give labels by label= of changes, or by diary= of Store.from_script"
@@ -162,12 +161,12 @@ class Diary:
         more = f" and {len(self.labels) - LISTED} more" if len(self.labels) > LISTED else ""
         return f"the labels are {', '.join(map(checks.shown, newest))}{more}; diary() lists them"
 
-    def days(self) -> history.Days:
+    def days(self) -> past.Days:
         """Returns the days, each with the newest commit from then on, in the form of the tools."""
         return list(zip(points.texts_of(np.array(self.seconds, np.int64)), self.commits))
 
     def frame(self, after: int) -> pd.DataFrame:
-        """The rows of commits after this one, as Store.diary has them."""
+        """Returns the rows of commits after this one, as Store.diary describes them."""
         rows = [row for row in self.rows() if row.commit > after]
         times = np.array([(row.start, row.end) for row in rows], np.int64).reshape(-1, 2)
         kind = Kind("D" if points.has_all(Kind("D"), times) else "S")
@@ -183,17 +182,17 @@ class Diary:
             labels_of.setdefault(commit, []).append(label)
         for commit in sorted(set(labels_of) - set(self.commits)):
             yield from (Row(points.FIRST, points.NO_END, 0, commit, label) for label in labels_of[commit])
-        for place, (second, commit) in enumerate(zip(self.seconds, self.commits), 1):
+        for number, (second, commit) in enumerate(zip(self.seconds, self.commits), 1):
             later = bisect_right(self.seconds, second)
             end = self.seconds[later] if later < len(self.seconds) else points.NO_END
             # If a day has several commits, the last is the newest; others are listed only if they have labels. A
-            # diary that somebody made may have a commit on several days.
-            for label in labels_of.pop(commit, [""] if place == later else []):
+            # diary that a user made may have a commit on several days.
+            for label in labels_of.pop(commit, [""] if number == later else []):
                 yield Row(second, end, commit, commit, label)
 
 
 class Row(NamedTuple):
-    """A row of a diary. newest is 0 where the label's commit has no day: the row says nothing of days then."""
+    """A row of a diary. `newest` is 0 if the label's commit has no day: then the row says nothing about days."""
 
     start: int
     end: int
@@ -202,32 +201,33 @@ class Row(NamedTuple):
     label: str
 
 
-def read(book: Book, name: Any, schemas: Mapping[str, Schema]) -> Diary:
-    """Returns the diary in a table of the book. Raises Refused if it isn't one."""
-    table, schema, newest = book.known(name), schemas[name], book.newest
-    start, end, *cells = book.answer(script.command("rows", table.name)).block("-pp" + table.readers)
+def read(state: State, name: Any, schemas: Mapping[str, Schema]) -> Diary:
+    """Returns the diary in a table of the store. Raises Refused if the table isn't a diary."""
+    table, schema, newest = state.known(name), schemas[name], state.newest
+    start, end, *cells = state.answer(script.command("rows", table.name)).block("-pp" + table.readers)
     rows = zip(points.texts_of(start), points.texts_of(end), *([str(cell) for cell in one] for one in cells))
     try:
         # A commit of several labels has a row for each.
-        days = list(dict.fromkeys(history.days_of(schema, rows)))
+        days = list(dict.fromkeys(past.days_of(schema, rows)))
     except Misfit as misfit:
         raise Refused("WrongKind", str(misfit)) from None
     columns = {column.name: (column.kind.value, own) for column, own in zip(schema.columns, cells)}
     labels = list(labels_in(columns, cells[0]))
-    for reason in history.strange_commits([*days, *(("", commit) for _, commit in labels)], newest):
+    for reason in past.strange_commits([*days, *(("", commit) for _, commit in labels)], newest):
         raise Refused("Future", f"{schema.name}: {reason}")
-    for reason in diary.steps_back(days):
+    for reason in past.steps_back(days):
         raise Refused("BadNumber", f"{schema.name}: {reason}")
-    for time in unsaid(start, end, cells[0]):
+    for time in gaps_in(start, end, cells[0]):
         doubt(f"{schema.name}: no row holds {time}; as of a day then the commit before that is taken")
-    made = Diary({}, tuple(points.FIRST + forms.seconds(day) for day, _ in days), tuple(one for _, one in days))
+    made = Diary()
+    made.seconds, made.commits = [points.FIRST + forms.seconds(day) for day, _ in days], [one for _, one in days]
     for label, commit in labels:
         if made.labels.get(label) != commit:
-            made = made.behind(commit, Note(label_of(label)))
+            made.add(commit, Note(label_of(label)))
     return made
 
 
-def unsaid(starts: Ints, ends: Ints, newest: Ints) -> Iterator[str]:
+def gaps_in(starts: Ints, ends: Ints, newest: Ints) -> Iterator[str]:
     """Yields the first gap in the rows of a diary that have a commit, if there is one."""
     rows = zip(starts.tolist(), ends.tolist(), newest.tolist())
     spans = sorted((start, end) for start, end, commit in rows if commit)

@@ -1,30 +1,24 @@
-"""The files of a store: its script, a page, a picture of an answer."""
+"""What a store writes: its script, a page, a picture of an answer."""
 from __future__ import annotations
 
 import copy
 import os
-import re
 import tempfile
-from contextlib import contextmanager
 from dataclasses import dataclass
 from pathlib import Path
-from typing import Any, Iterator, Mapping, Optional, Sequence, Union
+from typing import Any, Iterable, Mapping, Optional, Sequence, Union
 
 from ruzgalt import files
 from ruzgalt.cli import answers as answers_tool
 from ruzgalt.cli import sources
-from ruzgalt.errors import Misfit
 from ruzgalt.frames import checks, instants
 from ruzgalt.frames.errors import Refused
 from ruzgalt.report import contents, document, figures, svg
-from ruzgalt.script import commands, questions
-from ruzgalt.script.answers import Answer, Reading
-from ruzgalt.script.reader import Source, long_fields
 from ruzgalt.script.run import Versions, versions_of
-from ruzgalt.store import script
-from ruzgalt.store.answers import unreadable
-from ruzgalt.store.book import Book, refusal
-from ruzgalt.store.script import Command, Script
+from ruzgalt.store.docstrings import described
+from ruzgalt.store.script import Script
+from ruzgalt.store.state import State, from_program, refusing
+from ruzgalt.store.tables import point_of
 
 AnyPath = Union[str, "os.PathLike[str]"]
 Where = Optional[Mapping[str, Any]]
@@ -60,13 +54,14 @@ class Picture:
         return self.svg
 
 
-class Written:
-    """The files of a store."""
+@described
+class Export:
+    """What a store writes."""
 
-    book: Book
+    state: State
     lock: Any
 
-    def _settled(self) -> Book:
+    def _settled(self) -> State:
         raise NotImplementedError
 
     def script(self) -> Script:
@@ -76,11 +71,6 @@ class Written:
         -------
         Script
             Bytes: a script of the language, CSV in UTF-8. Its `names` say what its columns are called in frames.
-
-        Raises
-        ------
-        Refused
-            In a batch, as do save and page.
 
         Examples
         --------
@@ -109,11 +99,6 @@ class Written:
             An error of the system comes as Python's OSError; the file is complete then, or as it was. It keeps its
             mode. A symbolic link is followed. A device, a pipe or a file with a second hard link is written into.
 
-        Raises
-        ------
-        Refused
-            In a batch: save after its end.
-
         Examples
         --------
         >>> import tempfile
@@ -122,7 +107,7 @@ class Written:
         ...     ruzgalt.Store.from_script(f"{folder}/pay.csv")
         <Store of 3 commits, tables: pay>
         """
-        write(path, [self.script()])
+        write(path_of(path), [self.script()])
 
     def page(self, path: AnyPath, questions: Sequence[str] = (), *, title: str = "", note: str = "",
              diary: Optional[str] = None) -> None:
@@ -147,33 +132,29 @@ class Written:
         None
             As save() does.
 
-        Raises
-        ------
-        Refused
-            If the store is empty, a question can't be asked, or a batch hasn't ended.
-        Stopped
-            If the program ended without all answers.
-
         Examples
         --------
         >>> import tempfile
         >>> with tempfile.TemporaryDirectory() as folder:
         ...     store.page(f"{folder}/pay.html", ["agg,pay,sum,cents"])
         """
-        asked = checks.texts("questions", questions)
-        with self.lock:
-            book = copy.copy(self._settled())
-            self.book.answers()
-            for question in asked:
-                answered(self.book, question)
+        asked, target = checks.texts("questions", questions), path_of(path)
         given = {"title": title, "note": note, **({} if diary is None else {"diary": diary})}
         words = [f"--{option}={checks.text(option, one)}" for option, one in given.items()]
         words += [f"--ask={question}" for question in asked]
-        with kept(book, Path(path).with_suffix(".csv").name) as file, refusing():
-            options = answers_tool.options_of("page", [file, *words])
+        with self.lock:
+            state = copy.copy(self._settled())
+            for question in asked:
+                self.state.answer_to(question)
+        if not state.commands:
+            raise Refused("NoTable", "the store is empty, so there is nothing to show")
+        with tempfile.TemporaryDirectory() as folder, refusing():
+            file = Path(folder, target.with_suffix(".csv").name)
+            file.write_bytes(state.script)
+            options = answers_tool.options_of("page", [str(file), *words])
             with from_program():
                 found = sources.ask(options)
-            write(path, document.pieces(contents.of(found, diary)))
+            write(target, document.pieces(contents.of(found, diary)))
 
     def picture(self, question: str, *, by: Optional[str] = None, label: Optional[str] = None, where: Where = None,
                 start: Any = None, end: Any = None, width: Optional[int] = None) -> Picture:
@@ -189,7 +170,7 @@ class Written:
         label : str, optional
             The column whose values are shown in the bars.
         where : dict, optional
-            Columns with the values that records must have, as in the script: 1 for True.
+            Columns with the values that records must have, in the script's form: 1 for True.
         start, end : str, date, datetime, Timestamp or Period, optional
             The first point of the picture, and its end.
         width : int, optional
@@ -207,68 +188,24 @@ class Written:
         """
         if width is not None:
             width = checks.whole("width", width, 40, 100_000)
-        limits = [None if point is None else instants.text_of(point) for point in (start, end)]
+        limits = [None if point is None else instants.text_of(point_of(point)) for point in (start, end)]
         wanted = [] if where is None else checks.records("where", where)
         wish = figures.Wish(by, label, wanted, limits[0], limits[1])
         with self.lock, refusing():
-            return Picture(svg.draw(figures.of(answered(self.book, question), wish, self._versions), width, None))
+            return Picture(svg.draw(figures.of(self.state.answer_to(question), wish, self._versions), width, None))
 
     def _versions(self, name: str) -> Versions:
-        return Versions(answered(self.book, versions_of(name)))
+        return Versions(self.state.answer_to(versions_of(name)))
 
 
-def answered(book: Book, question: Any) -> Answer:
-    """Returns the answer to a question of the language after all changes. Raises Refused, Stopped."""
-    if not isinstance(question, str):
-        raise checks.wrong("question", question, "must be a question of the language, such as 'rows,pay'")
-    with refusing(), long_fields():
-        begun = list(commands.commands(Source(questions.line_of(questions.named(question)[1]))))
-    if len(begun) != 1 or not begun[0].form.is_query or not begun[0].is_ended:
-        raise checks.wrong("question", question, "must be one question, not a change")
-    records = [one.fields for one in (begun[0].record, *begun[0].block)]
-    command = Command(records[0], b"".join(map(script.record, records)))
-    output = bytes(book.bytes_of(command))
-    if output.startswith(b"error,"):
-        raise refusal(command, output.decode().strip().split(","))
-    reading = Reading(Source(output))
-    reading.tables, reading.commits = {name: table.schema for name, table in book.tables.items()}, book.newest
-    with from_program(), long_fields():
-        return next(reading.answers(begun))
+def path_of(given: Any) -> Path:
+    """Returns the path of a file. Raises Refused."""
+    if not isinstance(given, (str, os.PathLike)) or not Path(given).name:
+        raise checks.wrong("path", given, "must be the path of a file, such as 'pay.csv'")
+    return Path(given)
 
 
-@contextmanager
-def from_program() -> Iterator[None]:
-    """Within, a message of the tools says that answers can't be read."""
-    try:
-        yield
-    except Misfit as misfit:
-        raise unreadable(misfit) from None
-
-
-@contextmanager
-def refusing() -> Iterator[None]:
-    """Within, a message of the tools is a refusal."""
-    try:
-        yield
-    except Misfit as misfit:
-        # Words of a command line are options of a call here.
-        raise Refused("BadCommand", re.sub(r"--(\w+)", r"\1=", str(misfit))) from None
-
-
-@contextmanager
-def kept(book: Book, name: str) -> Iterator[str]:
-    """A file of this name that has the script."""
-    if not book.commands:
-        raise Refused("NoTable", "the store is empty, so there is nothing to show")
-    with tempfile.TemporaryDirectory() as folder:
-        file = Path(folder) / name
-        file.write_bytes(book.script)
-        yield str(file)
-
-
-def write(path: Any, pieces: Any) -> None:
+def write(path: Path, pieces: Iterable[bytes]) -> None:
     """Writes a file, which is complete or as it was."""
-    if not isinstance(path, (str, os.PathLike)):
-        raise checks.wrong("path", path, "must be the path of a file")
-    with files.whole([Path(path)]) as [made], made.open("wb") as file:
+    with files.whole([path]) as [made], made.open("wb") as file:
         file.writelines(pieces)
