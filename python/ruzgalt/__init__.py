@@ -28,8 +28,8 @@ from importlib.util import find_spec
 from typing import TYPE_CHECKING, Any, List
 
 __all__ = [
-    "join", "anti", "agg", "dip", "at", "during", "coalesce", "gaps", "overlaps", "spread",
-    "Store", "Script", "Picture", "Division", "Changed", "Refused", "Stopped", "Doubt",
+    "join", "anti", "agg", "dip", "at", "during", "coalesce", "gaps", "overlaps", "spread", "check",
+    "Store", "Script", "Picture", "Division", "Checked", "Changed", "Refused", "Stopped", "Doubt",
     "frames", "__version__",
 ]
 OF_STORES = ("Store", "Script", "Picture", "Changed")
@@ -37,7 +37,8 @@ OF_STORES = ("Store", "Script", "Picture", "Changed")
 if TYPE_CHECKING:
     from ruzgalt import frames
     from ruzgalt.frames import (
-        Division, Doubt, Refused, Stopped, agg, anti, at, coalesce, dip, during, gaps, join, overlaps, spread,
+        Checked, Division, Doubt, Refused, Stopped, agg, anti, at, check, coalesce, dip, during, gaps, join, overlaps,
+        spread,
     )
     from ruzgalt.store import Changed, Picture, Script, Store
     from ruzgalt.script import answers  # noqa: F401

@@ -18,7 +18,7 @@ TOP = HERE.parents[1]
 # The tests of frames that need neither pandas nor a program.
 ALONE = "test_without_pandas"
 # Random frames bring warnings of possible mistakes too.
-RANDOM = "test_random_|test_split|test_hostile|test_rows|test_classes|test_slices|test_threads"
+RANDOM = "labels|test_random_|test_split|test_hostile|test_rows|test_classes|test_threads"
 
 
 class LeftOut(unittest.TestCase):

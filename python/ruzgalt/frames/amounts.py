@@ -1,161 +1,59 @@
-"""The amounts of a frame's rows in each piece of the calendar: spread."""
+"""The amounts of groups in each piece of the calendar: spread.
+
+Numbers are int64 if all of them provably fit, and Python's otherwise.
+"""
 from __future__ import annotations
 
 from dataclasses import replace
-from typing import TYPE_CHECKING, Any, Mapping, Optional, Union
+from fractions import Fraction
+from math import lcm
+from typing import Any, NamedTuple, Tuple
 
-import pandas as pd
+import numpy as np
 
-from ruzgalt.frames import checks, groups, instants, pairs, shares, split, zones
+from ruzgalt.frames import doubts, groups, instants, pairs, points, split, zones
 from ruzgalt.frames.answer import Columns
-from ruzgalt.frames.arrays import Cells, of_objects
-from ruzgalt.frames.checks import are_spread
+from ruzgalt.frames.arrays import Cells, Ints, narrowed, of_objects
+from ruzgalt.frames.ask import Found
 from ruzgalt.frames.errors import Refused, label_at
 from ruzgalt.frames.kinds import Kind
 from ruzgalt.frames.measures import Measure
 from ruzgalt.frames.named import with_levels
-from ruzgalt.frames.options import (
-    AMOUNTS, IN_TOTAL, MONTH, NO_DECIMALS, PERIOD, PIECES, WORKERS, Names, Options, PeriodNames, options_of,
-)
-from ruzgalt.frames.progress import OfCall
-from ruzgalt.frames.shares import Shares
+from ruzgalt.frames.options import AMOUNTS, IN_TOTAL, PIECES, Options
 from ruzgalt.frames.sides import Side
-from ruzgalt.frames.values import Values
+from ruzgalt.frames.values import GREATEST, Values
 from ruzgalt.periods import pieces
+from ruzgalt.periods.pieces import DAY, Calendar
 
-if TYPE_CHECKING:
-    import dask.dataframe as dd
-
-    Frame = Union[pd.DataFrame, dd.DataFrame]
-
-# An end from then on stands for none that is known.
+# Pieces are of seconds from the year 1 on.
+OFFSET = -points.FIRST
+# An end from then on means that no end is known.
 NO_END = instants.second_of("9999-01-01")
 
 
-def spread(frame: Frame, column: Any, *, amount: Optional[str] = None, each: str = MONTH, by: Names = None,
-           within: Any = None, exact: bool = False, period: PeriodNames = PERIOD, open_end: bool = False,
-           last_day: bool = False, decimals: Mapping[Any, int] = NO_DECIMALS, points_as: Optional[str] = None,
-           workers: int = WORKERS, parts: Optional[int] = None, progress: Optional[bool] = None) -> Frame:
-    """The amounts of a group's rows in each month, quarter, year, week or day.
+class Shares(NamedTuple):
+    """A row for each piece that a row of a group touches, by group and start; value is the amount in it."""
 
-    Amounts are divided by days, or by seconds if a point has a time of day. An amount "per month" is a row's amount in
-    each whole month, and in a part of a month that part of it. The whole numbers of a group add up to its exact sum,
-    rounded once, half up: those with the largest remainders count one more, of equal ones the first.
-
-    An amount "in total" is divided over all of a row's own period. Up to an instant a row has that part of its amount,
-    rounded half up, so that its pieces add up to the amount, months to quarters, and two answers to one of both times.
-
-    Parameters
-    ----------
-    frame : DataFrame
-        A frame of pandas, or with `by` of Dask.
-    column : name
-        The column of amounts.
-    amount : str
-        What an amount is: "per day", "per week", "per month", "per quarter", "per year", or "in total". It must be
-        given.
-    each : str, default "M"
-        The pieces of the calendar: D for days, W for weeks from Monday on, M for months, Q for quarters, Y for years.
-    by : name or list of names, optional
-        Columns whose equal values are a group; without any all rows are one.
-    within : pair of points, optional
-        The time that counts, from a start on and before an end. With `last_day` the end is the last day.
-    exact : bool, default False
-        Sums come as Fractions, which aren't rounded.
-    period : pair of names, or name, default ("from", "to")
-        The columns of a row's start and of its end, the first point after it; or one of intervals.
-    open_end : bool, default False
-        A missing end stands for 9999-12-31, and comes back as missing.
-    last_day : bool, default False
-        An end is a row's last day, in the answer too. No point has a time then.
-    decimals : dict, optional
-        How many decimals a column of floats or Decimals has, as `{"hours": 2}`: whole numbers are of the last one.
-    points_as : str, optional
-        ns, us, ms, s, D, S, date or datetime: the answer's points, where not as they came in.
-    workers : int, default 4
-        Calls of the library at once, 1 to 64. Rows of different values, or groups, are dealt to them.
-    parts : int, optional
-        Of Dask, how many partitions the answer has, where not as many as the frame.
-    progress : bool, optional
-        Whether standard error shows how far the call is, after two seconds. The default is True on a terminal, but
-        False with Dask. True is also for notebooks and pipes, and counts the partitions that this process computes.
-
-    Returns
-    -------
-    DataFrame
-        Of Dask where the frame is. It has the columns of `by`, the period of each piece that some row of the group
-        touches, and the sum under the name of its column, as agg has sums. Rows are by group, then start; of Dask
-        partitions are in no order. Pieces of a frame of longer periods come as period[D].
-
-    Raises
-    ------
-    Refused
-        If `amount` or another option is missing or wrong, the frame can't be taken, or a value would be lost or
-        changed; if a row has no end, and `within` has none or the amount is in total; and if times have a time zone.
-    Stopped
-        If the library is missing, or memory runs out.
-
-    Warns
-    -----
-    Doubt
-        Of groups that look like one another, and of ends that look like last days.
-
-    Examples
-    --------
-    >>> day = pd.to_datetime
-    >>> pay = pd.DataFrame({"from": day(["2024-06-01", "2024-06-11"]), "to": day(["2024-06-11", None]),
-    ...                     "person": "Ada", "euros": [5000, 5400]})
-    >>> until_july = {"by": "person", "within": ("2024-01-01", "2024-08-01"), "open_end": True}
-    >>> ruzgalt.spread(pay, "euros", amount="per month", **until_july)
-      person       from         to  euros
-    0    Ada 2024-06-01 2024-07-01   5267
-    1    Ada 2024-07-01 2024-08-01   5400
-    >>> premium = pd.DataFrame({"from": day(["2024-01-15"]), "to": day(["2025-01-15"]), "euros": 1200})
-    >>> ruzgalt.spread(premium, "euros", amount="in total", each="Y")
-            from         to  euros
-    0 2024-01-01 2025-01-01   1154
-    1 2025-01-01 2026-01-01     46
-    """
-    options = options_of(
-        "spread", amount=amount, each=each, by=by, within=within, exact=exact, period=period, open_end=open_end,
-        last_day=last_day, decimals=decimals, points_as=points_as, workers=workers, parts=parts, progress=progress,
-    )
-    checks.name("column", column)
-    if are_spread(frame=frame):
-        from ruzgalt.frames import partitions
-        return partitions.grouped(spread_part, frame, (column,), options)
-    with OfCall(options.call, options.progress):
-        return spread_of(frame, column, options)
+    start: Ints
+    end: Ints
+    group: Ints
+    value: Cells
 
 
-def spread_of(frame: Any, column: Any, options: Options) -> Any:
-    frame = with_levels(frame, options.by or ())
-    side = side_of(frame, column, options)
-    groups.warn(frame, side, options)
-    return spread_in(frame, side, options)
-
-
-def spread_part(frame: Any, column: Any, options: Options) -> Any:
-    """Of a partition, in which nothing is looked at that may not be meant."""
-    frame = with_levels(frame, options.by or ())
-    return spread_in(frame, side_of(frame, column, options), options)
-
-
-def side_of(frame: Any, column: Any, options: Options) -> Side:
-    """The rows with the columns of `by` and the amounts. Raises Refused."""
+def spread(frame: Any, column: Any, options: Options) -> Any:
+    by = options.by or ()
+    frame = with_levels(frame, by)
     side = groups.side_of(frame, [Measure("sum", column)], options)
-    return replace(side, kind=Kind("D")) if side.kind.is_long else side
-
-
-def spread_in(frame: Any, side: Side, options: Options) -> Any:
-    by, zone, amount = options.by or (), side.kind.zone, side.columns[-1]
+    doubts.of_frame(frame, side, side.columns[:len(by)], options)
+    side = replace(side, kind=Kind("D")) if side.kind.is_long else side
+    zone, amount = side.kind.zone, side.columns[-1]
     rows = counted(side, options)
     codes, firsts = groups.group_codes(rows, len(by))
     sums = sums_of(side, replace(shown(rows, options), columns=[codes, rows.columns[-1]]), options)
     columns = Columns(groups.groups_at(frame, by, rows.places[firsts[sums.group]]))
     times = [zones.begins_of(walls, zone) for walls in (sums.start, sums.end)]
     columns.add(pairs.period_of(times[0], times[1], [side], options, options.form))
-    columns.add([(amount.name, (fractions if options.exact else wholes)(sums.value, amount))])
+    columns.add([(amount.name, (fractions if options.exact else restored)(sums.value, amount))])
     return columns.frame()
 
 
@@ -164,12 +62,12 @@ def sums_of(side: Side, rows: Side, options: Options) -> Shares:
     each = pieces.calendar(PIECES[options.each])
     if options.amount != IN_TOTAL:
         found = split.agg(rows, "sum", options.workers)
-        return shares.per_piece(found, each, pieces.calendar(AMOUNTS[options.amount]), options.exact)
+        return per_piece(found, each, pieces.calendar(AMOUNTS[options.amount]), options.exact)
     whole = side.take(rows.places)
     refuse_endless(whole, "no end is known, up to which the amount is divided; give one, or drop the row", options)
     whole, (group, amount) = shown(whole, options), rows.columns
     rows_of_groups = rows.start, rows.end, group.codes, amount.codes
-    return shares.in_total(rows_of_groups, whole.start, whole.end, each, options.exact)
+    return in_total(rows_of_groups, whole.start, whole.end, each, options.exact)
 
 
 def counted(side: Side, options: Options) -> Side:
@@ -208,6 +106,119 @@ def fractions(sums: Cells, amount: Values) -> Any:
     return of_objects([one / 10 ** (amount.digits or 0) for one in sums])
 
 
-def wholes(sums: Cells, amount: Values) -> Any:
+def restored(sums: Cells, amount: Values) -> Any:
     """As agg has sums: in the column's dtype if it has decimals, otherwise int64 or Python's numbers."""
     return sums if amount.digits is None else amount.restored(sums)
+
+
+def per_piece(found: Found, each: Calendar, per: Calendar, is_exact: bool) -> Shares:
+    """Of sums by group and start, whose rows don't overlap within a group, and are amounts for each piece of `per`.
+
+    The whole numbers of a group add up to its exact sum, rounded once, half up; exact ones are Fractions.
+    """
+    start, end, group, value = found
+    edges, whole, unit = edges_of(start, end, each), edges_of(start, end, per), unit_of(start, end)
+    cuts = np.union1d(edges, whole)
+    rows, cut = touched(start, end, cuts)
+    held = (np.minimum(end[rows], cuts[cut + 1]) - np.maximum(start[rows], cuts[cut])) // unit
+    below = (np.diff(whole) // unit)[place_in(whole, cuts[cut])]
+    common = lcm(*np.unique(below).tolist())
+    # At most so many pieces of `per` touch one of `each`.
+    many = int(np.diff(edges).max(initial=0)) // int(np.diff(whole).min(initial=GREATEST)) + 2
+    value = lengthened(value, many * max(common, len(edges)))
+    sums = summed(edges, group[rows], place_in(edges, cuts[cut]), value[rows] * held * (common // below))
+    if is_exact:
+        return sums._replace(value=of_objects([Fraction(one, common) for one in sums.value.tolist()]))
+    return sums._replace(value=narrowed(wholes(sums, common)))
+
+
+def in_total(found: Found, begin: Ints, finish: Ints, each: Calendar, is_exact: bool) -> Shares:
+    """Of rows that may be cut, with their group's rank, and amounts for all of their time from begin to finish.
+
+    Up to an instant a row has the part of its amount by time, rounded half up. So its pieces add up to its amount.
+    """
+    start, end, group, value = found
+    edges, unit = edges_of(start, end, each), unit_of(start, end, begin, finish)
+    rows, piece = touched(start, end, edges)
+    first = (np.maximum(start[rows], edges[piece]) - begin[rows]) // unit
+    last = (np.minimum(end[rows], edges[piece + 1]) - begin[rows]) // unit
+    length = (finish - begin)[rows] // unit
+    value = lengthened(value, max(2 * int(length.max(initial=0)), len(rows)))[rows]
+    if is_exact:
+        fractions = zip((value * (last - first)).tolist(), length.tolist())
+        parts = of_objects([Fraction(above, below) for above, below in fractions])
+    else:
+        parts = rounded(value * last, length) - rounded(value * first, length)
+    order = np.lexsort((piece, group[rows]))
+    sums = summed(edges, group[rows][order], piece[order], parts[order])
+    return sums if is_exact else sums._replace(value=narrowed(sums.value))
+
+
+def edges_of(start: Ints, end: Ints, calendar: Calendar) -> Ints:
+    """Where pieces start, from the one with the first start on, and where the one with the last end ends."""
+    if not len(start):
+        return np.zeros(1, np.int64)
+    first, last = (calendar.number_of(int(second) + OFFSET) for second in (start.min(), end.max() - 1))
+    return np.array([calendar.start_of(number) - OFFSET for number in range(first, last + 2)], np.int64)
+
+
+def unit_of(*seconds: Ints) -> int:
+    """The longest time that divides a day and all of these: a day if no point has a time."""
+    return int(np.gcd.reduce(np.concatenate(seconds), initial=DAY))
+
+
+def touched(start: Ints, end: Ints, edges: Ints) -> Tuple[Ints, Ints]:
+    """A row's and a piece's index for each piece that a row touches."""
+    first = place_in(edges, start)
+    count = np.searchsorted(edges, end) - first
+    rows = np.repeat(np.arange(len(start)), count)
+    return rows, np.arange(len(rows)) + np.repeat(first + count - np.cumsum(count), count)
+
+
+def place_in(edges: Ints, seconds: Ints) -> Ints:
+    """The index of the piece that has each second."""
+    found: Ints = np.searchsorted(edges, seconds, "right") - 1
+    return found
+
+
+def lengthened(value: Cells, factor: int) -> Cells:
+    """The numbers, as Python's if they may need more than 64 bits after a multiplication by the factor."""
+    most = max(abs(int(value.min(initial=0))), abs(int(value.max(initial=0))))
+    return value.astype(object) if (most + 1) * factor > GREATEST else value.astype(np.int64)
+
+
+def summed(edges: Ints, group: Ints, piece: Ints, value: Cells) -> Shares:
+    """The sums of rows with the same group and piece, which are next to each other."""
+    firsts = np.flatnonzero((np.diff(piece, prepend=-1) != 0) | (np.diff(group, prepend=-1) != 0))
+    sums = np.add.reduceat(value, firsts) if len(firsts) else value
+    return Shares(edges[piece[firsts]], edges[piece[firsts] + 1], group[firsts], sums)
+
+
+def rounded(above: Cells, below: Ints) -> Cells:
+    """Fractions as the nearest whole numbers, a half away from zero."""
+    whole = (2 * np.abs(above) + below) // (2 * below)
+    return np.where(np.asarray(above < 0, bool), -whole, whole)
+
+
+def wholes(sums: Shares, below: int) -> Cells:
+    """Each is the next lesser whole number, or one more if its remainder is among the largest ones of its group."""
+    if not len(sums.group):
+        return sums.value
+    whole, rest = sums.value // below, (sums.value % below).astype(np.int64)
+    firsts = np.flatnonzero(np.diff(sums.group, prepend=-1))
+    count = np.diff(firsts, append=len(rest))
+    missing = missing_of(np.add.reduceat(whole, firsts), np.add.reduceat(rest, firsts), below)
+    # The sort keeps the order of equal remainders, so the first piece comes first.
+    order = np.lexsort((-rest, sums.group))
+    rank = np.empty(len(rest), np.int64)
+    rank[order] = np.arange(len(rest)) - np.repeat(firsts, count)
+    return whole + (rank < np.repeat(missing, count))
+
+
+def missing_of(whole: Cells, rests: Ints, below: int) -> Ints:
+    """How much groups' sums, rounded half up, are more than the sums of their whole numbers."""
+    more, rest = np.divmod(rests, below)
+    is_below = np.asarray(whole + more < 0, bool)
+    # A half counts away from zero.
+    found: Ints = more + np.where(is_below, 2 * rest > below, 2 * rest >= below)
+    return found

@@ -1,119 +1,53 @@
-"""The calls: join, anti, agg and dip, of frames of pandas or of Dask, as their frames are."""
-# Debian's pandas has no types, so mypy takes frames of pandas and of Dask for the same, and overloads for repeated.
-# mypy: disable-error-code="misc"
+"""The calls: of frames of pandas, or of Dask."""
+# Answers have the types of frames, which no module below knows.
+# mypy: disable-error-code="no-any-return"
 from __future__ import annotations
 
-from typing import TYPE_CHECKING, Any, Mapping, Optional, Union, overload
+from typing import TYPE_CHECKING, Any, Callable, Mapping, Optional, TypeVar, Union
 
 import pandas as pd
 
-from ruzgalt.frames import division, groups, measures, pairs
-from ruzgalt.frames.checks import are_spread
-from ruzgalt.frames.division import Division
+from ruzgalt.frames import amounts, checks, coverage, division, groups, instants, measures, pairs
+from ruzgalt.frames.division import Checked, Division
 from ruzgalt.frames.errors import Refused
 from ruzgalt.frames.options import (
-    FLOAT, INNER, NO_DECIMALS, PERIOD, SUFFIXES, WORKERS, Functions, Names, OneSided, PairOfSuffixes, PeriodNames,
-    options_of, options_of_pair,
+    INNER, MONTH, NO_DECIMALS, PERIOD, SUFFIXES, WORKERS, Functions, Names, OneSided, Options, PairOfSuffixes,
+    PeriodNames, documented, options_in,
 )
-from ruzgalt.frames.progress import OfCall
+from ruzgalt.frames.progress import of_call
 
 if TYPE_CHECKING:
     import dask.dataframe as dd
 
-
-@overload
-def join(left: pd.DataFrame, right: pd.DataFrame, on: Names = ..., *, left_on: Names = ..., right_on: Names = ...,
-         how: str = ..., period: PeriodNames = ..., left_period: Optional[PeriodNames] = ...,
-         right_period: Optional[PeriodNames] = ..., keep_periods: bool = ..., open_end: OneSided = ...,
-         last_day: OneSided = ..., decimals: Mapping[Any, int] = ..., suffixes: PairOfSuffixes = ...,
-         labels: bool = ..., points_as: Optional[str] = ..., workers: int = ...,
-         parts: Optional[int] = ..., progress: Optional[bool] = ...) -> pd.DataFrame: ...
+Frame = TypeVar("Frame", bound="Union[pd.DataFrame, dd.DataFrame]")
+Right = TypeVar("Right", bound="Union[pd.DataFrame, dd.DataFrame]")
 
 
-@overload
-def join(left: dd.DataFrame, right: Union[dd.DataFrame, pd.DataFrame], on: Names = ..., *, left_on: Names = ...,
-         right_on: Names = ..., how: str = ..., period: PeriodNames = ..., left_period: Optional[PeriodNames] = ...,
-         right_period: Optional[PeriodNames] = ..., keep_periods: bool = ..., open_end: OneSided = ...,
-         last_day: OneSided = ..., decimals: Mapping[Any, int] = ..., suffixes: PairOfSuffixes = ...,
-         labels: bool = ..., points_as: Optional[str] = ..., workers: int = ...,
-         parts: Optional[int] = ..., progress: Optional[bool] = ...) -> dd.DataFrame: ...
-
-
-@overload
-def join(left: pd.DataFrame, right: dd.DataFrame, on: Names = ..., *, left_on: Names = ..., right_on: Names = ...,
-         how: str = ..., period: PeriodNames = ..., left_period: Optional[PeriodNames] = ...,
-         right_period: Optional[PeriodNames] = ..., keep_periods: bool = ..., open_end: OneSided = ...,
-         last_day: OneSided = ..., decimals: Mapping[Any, int] = ..., suffixes: PairOfSuffixes = ...,
-         labels: bool = ..., points_as: Optional[str] = ..., workers: int = ...,
-         parts: Optional[int] = ..., progress: Optional[bool] = ...) -> dd.DataFrame: ...
-
-
-def join(left: Any, right: Any, on: Names = None, *, left_on: Names = None, right_on: Names = None, how: str = INNER,
-         period: PeriodNames = PERIOD, left_period: Optional[PeriodNames] = None,
+@documented
+def join(left: Frame, right: Right, on: Names = None, *, left_on: Names = None, right_on: Names = None,
+         how: str = INNER, period: PeriodNames = PERIOD, left_period: Optional[PeriodNames] = None,
          right_period: Optional[PeriodNames] = None, keep_periods: bool = False, open_end: OneSided = False,
          last_day: OneSided = False, decimals: Mapping[Any, int] = NO_DECIMALS, suffixes: PairOfSuffixes = SUFFIXES,
-         labels: bool = False, points_as: Optional[str] = None, workers: int = WORKERS,
-         parts: Optional[int] = None, progress: Optional[bool] = None) -> Any:
-    """The pairs of a left and a right row that are equal in the columns `on`, each for as long as both hold.
+         workers: int = WORKERS, progress: Optional[bool] = None) -> Union[Frame, Right]:
+    """Returns the pairs of a left and a right row with equal values in `on`, each for the time in which both hold.
 
     Parameters
     ----------
     left, right : DataFrame
         Frames of pandas or of Dask; one of each is allowed.
     on : name or list of names, optional
-        Columns of both frames that are to be equal. `on=[]` says that each row may meet each.
-    left_on, right_on : name or list of names, optional
-        The compared columns in place of `on`, where the two frames have different names for them.
-    how : str, default "inner"
-        inner has the pairs; left has the left rows too, each for as long as no right row meets it, with missing cells
-        in the right columns; right has the right rows so, and outer both.
-    period : pair of names, or name, default ("from", "to")
-        The columns of a row's start and of its end, the first point after it; or one of intervals.
-    left_period, right_period : pair of names, or name, optional
-        The same of the one frame, where they are others.
-    keep_periods : bool, default False
-        Adds the periods of the left and of the right row after that in which both hold.
-    open_end : bool or "left" or "right", default False
-        A missing end stands for 9999-12-31, and comes back as missing; in both frames, or in the one that is named.
-    last_day : bool or "left" or "right", default False
-        An end is a row's last day, in the answer as in the left frame; in both frames, or in the one that is named. No
-        point has a time then.
-    decimals : dict, optional
-        How many decimals are compared of a column of floats or Decimals, as `{"hours": 2}`.
-    suffixes : pair of str or None, default ("_left", "_right")
-        What is added to names that are taken, of the left frame and of the right one; None for nothing.
-    labels : bool, default False
-        Adds the index labels of each pair, as the columns left_label and right_label.
-    points_as : str, optional
-        ns, us, ms, s, D, S, date or datetime: the answer's points, where not as they came in.
-    workers : int, default 4
-        Calls of the library at once, 1 to 64. Rows of different values, or groups, are dealt to them.
-    parts : int, optional
-        Of Dask, how many partitions the answer has, where not as many as the larger frame.
-    progress : bool, optional
-        Whether standard error shows how far the call is, after two seconds. The default is True on a terminal, but
-        False with Dask. True is also for notebooks and pipes, and counts the partitions that this process computes.
+        Columns of both frames whose values must be equal. `on=[]` compares none.
+    {options}
 
     Returns
     -------
     DataFrame
-        Of Dask where one frame is. Its columns are the period's two, named as the left frame's, then the left frame's
-        others, then the right frame's, the compared ones once; each has the dtype with which it came in, or with
-        missing cells that of pandas.merge, of Dask always. Points of two kinds come as period[S] or the coarser kind.
-        Rows are by start, end, place of the left and of the right row, of which none is last, under labels from 0 on;
-        of Dask within each partition.
+        The period with the left frame's names, then the left frame's other columns, then the right frame's; compared
+        columns once. Columns keep their dtype, or with missing cells get that of pandas.merge. Points of two kinds
+        become period[S] or the coarser kind. Rows are by start, end, left and right position, unmatched ones last. Of
+        Dask if one frame is: rows are in this order within each partition.
 
-    Raises
-    ------
-    Refused
-        If a frame or an option can't be taken, or a value would be lost or changed.
-    Stopped
-        If the library is missing, or memory runs out.
-
-    Warns
-    -----
-    Doubt
-        Of keys that meet none and look like another, of ends that look like last days, and of a missing `on`.
+    {raises}
 
     Examples
     --------
@@ -135,96 +69,33 @@ def join(left: Any, right: Any, on: Names = None, *, left_on: Names = None, righ
     >>> list(ruzgalt.join(pay, contract, on="person", open_end="left", keep_periods=True))
     ['from', 'to', 'from_left', 'to_left', 'from_right', 'to_right', 'person', 'cents', 'centre']
     """
-    options = options_of_pair(
-        "join", left_on=left_on, right_on=right_on, how=how, period=period, left_period=left_period,
-        right_period=right_period, keep_periods=keep_periods, open_end=open_end, last_day=last_day, decimals=decimals,
-        suffixes=suffixes, labels=labels, points_as=points_as, workers=workers, parts=parts, progress=progress,
-    )
-    if are_spread(left=left, right=right):
-        from ruzgalt.frames import partitions
-        return partitions.paired(pairs.join_part, left, right, on, options)
-    with OfCall(options.call, options.progress):
-        return pairs.join(left, right, on, options)
+    return paired(pairs.join, left, right, on, options_in("join", locals()))
 
 
-@overload
-def anti(left: pd.DataFrame, right: pd.DataFrame, on: Names = ..., *, left_on: Names = ..., right_on: Names = ...,
-         period: PeriodNames = ..., left_period: Optional[PeriodNames] = ..., right_period: Optional[PeriodNames] = ...,
-         open_end: OneSided = ..., last_day: OneSided = ..., decimals: Mapping[Any, int] = ...,
-         points_as: Optional[str] = ..., workers: int = ..., parts: Optional[int] = ...,
-         progress: Optional[bool] = ...) -> pd.DataFrame: ...
-
-
-@overload
-def anti(left: dd.DataFrame, right: Union[dd.DataFrame, pd.DataFrame], on: Names = ..., *, left_on: Names = ...,
-         right_on: Names = ..., period: PeriodNames = ..., left_period: Optional[PeriodNames] = ...,
-         right_period: Optional[PeriodNames] = ..., open_end: OneSided = ..., last_day: OneSided = ...,
-         decimals: Mapping[Any, int] = ..., points_as: Optional[str] = ..., workers: int = ...,
-         parts: Optional[int] = ..., progress: Optional[bool] = ...) -> dd.DataFrame: ...
-
-
-@overload
-def anti(left: pd.DataFrame, right: dd.DataFrame, on: Names = ..., *, left_on: Names = ..., right_on: Names = ...,
-         period: PeriodNames = ..., left_period: Optional[PeriodNames] = ..., right_period: Optional[PeriodNames] = ...,
-         open_end: OneSided = ..., last_day: OneSided = ..., decimals: Mapping[Any, int] = ...,
-         points_as: Optional[str] = ..., workers: int = ..., parts: Optional[int] = ...,
-         progress: Optional[bool] = ...) -> dd.DataFrame: ...
-
-
-def anti(left: Any, right: Any, on: Names = None, *, left_on: Names = None, right_on: Names = None,
+@documented
+def anti(left: Frame, right: Right, on: Names = None, *, left_on: Names = None, right_on: Names = None,
          period: PeriodNames = PERIOD, left_period: Optional[PeriodNames] = None,
          right_period: Optional[PeriodNames] = None, open_end: OneSided = False, last_day: OneSided = False,
-         decimals: Mapping[Any, int] = NO_DECIMALS, points_as: Optional[str] = None, workers: int = WORKERS,
-         parts: Optional[int] = None, progress: Optional[bool] = None) -> Any:
-    """The left rows, each for as long as no right row holds that is equal in the columns `on`.
+         decimals: Mapping[Any, int] = NO_DECIMALS, workers: int = WORKERS,
+         progress: Optional[bool] = None) -> Union[Frame, Right]:
+    """Returns the left rows, each for the time in which no right row with equal values in `on` holds.
 
     Parameters
     ----------
     left, right : DataFrame
         Frames of pandas or of Dask; one of each is allowed.
     on : name or list of names, optional
-        Columns of both frames that are to be equal. `on=[]` says that each row may meet each.
-    left_on, right_on : name or list of names, optional
-        The compared columns in place of `on`, where the two frames have different names for them.
-    period : pair of names, or name, default ("from", "to")
-        The columns of a row's start and of its end, the first point after it; or one of intervals.
-    left_period, right_period : pair of names, or name, optional
-        The same of the one frame, where they are others.
-    open_end : bool or "left" or "right", default False
-        A missing end stands for 9999-12-31, and comes back as missing; in both frames, or in the one that is named.
-    last_day : bool or "left" or "right", default False
-        An end is a row's last day, in the answer as in the left frame; in both frames, or in the one that is named. No
-        point has a time then.
-    decimals : dict, optional
-        How many decimals are compared of a column of floats or Decimals, as `{"hours": 2}`.
-    points_as : str, optional
-        ns, us, ms, s, D, S, date or datetime: the answer's points, where not as they came in.
-    workers : int, default 4
-        Calls of the library at once, 1 to 64. Rows of different values, or groups, are dealt to them.
-    parts : int, optional
-        Of Dask, how many partitions the answer has, where not as many as the larger frame.
-    progress : bool, optional
-        Whether standard error shows how far the call is, after two seconds. The default is True on a terminal, but
-        False with Dask. True is also for notebooks and pipes, and counts the partitions that this process computes.
+        Columns of both frames whose values must be equal. `on=[]` compares none.
+    {options}
 
     Returns
     -------
     DataFrame
-        Of Dask where one frame is. It has the left frame's columns, dtypes and labels. A row comes never, once or
-        several times, each as long as can be. Rows are by the left row's place, then start; of Dask within each
-        partition.
+        The left frame's columns, dtypes and labels. A row may be there several times, or not at all; periods are as
+        long as possible. Rows are by left position, then start. Of Dask if one frame is: rows are in this order
+        within each partition.
 
-    Raises
-    ------
-    Refused
-        If a frame or an option can't be taken, or a value would be lost or changed.
-    Stopped
-        If the library is missing, or memory runs out.
-
-    Warns
-    -----
-    Doubt
-        Of keys that meet none and look like another, of ends that look like last days, and of a missing `on`.
+    {raises}
 
     Examples
     --------
@@ -236,37 +107,14 @@ def anti(left: Any, right: Any, on: Names = None, *, left_on: Names = None, righ
     c1 2024-02-01 2024-03-01    Ada
     c1 2024-07-01        NaT    Ada
     """
-    options = options_of_pair(
-        "anti", left_on=left_on, right_on=right_on, period=period, left_period=left_period, right_period=right_period,
-        open_end=open_end, last_day=last_day, decimals=decimals, points_as=points_as, workers=workers, parts=parts,
-        progress=progress,
-    )
-    if are_spread(left=left, right=right):
-        from ruzgalt.frames import partitions
-        return partitions.paired(pairs.anti_part, left, right, on, options)
-    with OfCall(options.call, options.progress):
-        return pairs.anti(left, right, on, options)
+    return paired(pairs.anti, left, right, on, options_in("anti", locals()))
 
 
-@overload
-def agg(frame: pd.DataFrame, function: Functions, column: Any = ..., *, by: Names = ..., mean_as: str = ...,
-        period: PeriodNames = ..., open_end: bool = ..., last_day: bool = ..., decimals: Mapping[Any, int] = ...,
-        points_as: Optional[str] = ..., workers: int = ..., parts: Optional[int] = ...,
-        progress: Optional[bool] = ...) -> pd.DataFrame: ...
-
-
-@overload
-def agg(frame: dd.DataFrame, function: Functions, column: Any = ..., *, by: Names = ..., mean_as: str = ...,
-        period: PeriodNames = ..., open_end: bool = ..., last_day: bool = ..., decimals: Mapping[Any, int] = ...,
-        points_as: Optional[str] = ..., workers: int = ..., parts: Optional[int] = ...,
-        progress: Optional[bool] = ...) -> dd.DataFrame: ...
-
-
-def agg(frame: Any, function: Functions, column: Any = None, *, by: Names = None, mean_as: str = FLOAT,
-        period: PeriodNames = PERIOD, open_end: bool = False, last_day: bool = False,
-        decimals: Mapping[Any, int] = NO_DECIMALS, points_as: Optional[str] = None, workers: int = WORKERS,
-        parts: Optional[int] = None, progress: Optional[bool] = None) -> Any:
-    """count, sum, min, max or mean of the rows that hold, for each period in which it stays the same, by groups.
+@documented
+def agg(frame: Frame, function: Functions, column: Any = None, *, by: Names = None, period: PeriodNames = PERIOD,
+        open_end: bool = False, last_day: bool = False, decimals: Mapping[Any, int] = NO_DECIMALS,
+        workers: int = WORKERS, progress: Optional[bool] = None) -> Frame:
+    """Returns count, sum, min, max or mean of the rows that hold, for each period in which it stays the same.
 
     Parameters
     ----------
@@ -277,48 +125,17 @@ def agg(frame: Any, function: Functions, column: Any = None, *, by: Names = None
         once: a period is one in which all stay the same.
     column : name, optional
         The column of numbers of a sum, min, max or mean. A count has none, nor has a dict.
-    by : name or list of names, optional
-        Columns whose equal values are a group; without any all rows are one.
-    mean_as : str, default "float"
-        As what a mean comes: the nearest float, the Fraction that it is, or the Decimal as Decimals divide.
-    period : pair of names, or name, default ("from", "to")
-        The columns of a row's start and of its end, the first point after it; or one of intervals.
-    open_end : bool, default False
-        A missing end stands for 9999-12-31, and comes back as missing.
-    last_day : bool, default False
-        An end is a row's last day, in the answer too. No point has a time then.
-    decimals : dict, optional
-        How many decimals are compared or added of a column of floats or Decimals, as `{"hours": 2}`.
-    points_as : str, optional
-        ns, us, ms, s, D, S, date or datetime: the answer's points, where not as they came in.
-    workers : int, default 4
-        Calls of the library at once, 1 to 64. Rows of different values, or groups, are dealt to them.
-    parts : int, optional
-        Of Dask, how many partitions the answer has, where not as many as the frame.
-    progress : bool, optional
-        Whether standard error shows how far the call is, after two seconds. The default is True on a terminal, but
-        False with Dask. True is also for notebooks and pipes, and counts the partitions that this process computes.
+    {options}
 
     Returns
     -------
     DataFrame
-        Of Dask where the frame is. It has the columns of `by` and the period's two in their dtypes, then the values,
-        named count or FUNCTION_COLUMN: of the column's dtype, but a count and a sum of whole numbers are int64, and
-        where a sum has more than 64 bits, objects of int. Rows are by group, then start; where no row holds there is
-        none. Of Dask with `by` partitions are in no order; without, they are in the order of time, and the frame is
-        read once at the call.
+        The columns of `by`, the period, and the values, named count or FUNCTION_COLUMN: a mean is a float, a count and
+        a sum of whole numbers are int64, or objects of int if a sum has more than 64 bits; others have the column's
+        dtype. Rows are by group, then start; there is none for a time in which no row holds. Of Dask if the frame is:
+        with `by` partitions are in no order, without there is one.
 
-    Raises
-    ------
-    Refused
-        If the frame or an option can't be taken, or a value would be lost or changed.
-    Stopped
-        If the library is missing, or memory runs out.
-
-    Warns
-    -----
-    Doubt
-        Of groups that look like one another, and of ends that look like last days.
+    {raises}
 
     Examples
     --------
@@ -340,62 +157,30 @@ def agg(frame: Any, function: Functions, column: Any = None, *, by: Names = None
     1 2024-03-01 2024-07-01             2       5000      4900.0
     2 2024-07-01 2024-10-01             1       4800      4800.0
     """
-    options = options_of(
-        "agg", by=by, mean_as=mean_as, period=period, open_end=open_end, last_day=last_day, decimals=decimals,
-        points_as=points_as, workers=workers, parts=parts, progress=progress,
-    )
-    measured = measures.of_call(function, column)
-    if are_spread(frame=frame):
-        from ruzgalt.frames import partitions, slices
-        asked = partitions.agg if options.by else slices.agg
-        return asked(frame, measured, options)
-    with OfCall(options.call, options.progress):
-        return groups.agg(frame, measured, options)
+    options = options_in("agg", locals())
+    return grouped(groups.agg, frame, options, measures.of_call(function, column))
 
 
+@documented
 def dip(frame: pd.DataFrame, by: Names = None, *, period: PeriodNames = PERIOD, open_end: bool = False,
         last_day: bool = False, decimals: Mapping[Any, int] = NO_DECIMALS,
         workers: int = WORKERS, progress: Optional[bool] = None) -> Division[pd.Series]:
-    """The fewest parts into which the rows can be divided so that no two of a part hold at one time.
+    """Divides the rows into the fewest parts so that no two rows of a part hold at one time.
 
     Parameters
     ----------
     frame : DataFrame
-        A frame of pandas, of at most 1,000,000 rows, or of as many in each group.
-    by : name or list of names, optional
-        Columns whose equal values are a group; without any all rows are one.
-    period : pair of names, or name, default ("from", "to")
-        The columns of a row's start and of its end, the first point after it; or one of intervals.
-    open_end : bool, default False
-        A missing end stands for 9999-12-31, and comes back as missing.
-    last_day : bool, default False
-        An end is a row's last day, in the answer too. No point has a time then.
-    decimals : dict, optional
-        How many decimals are compared of a column of floats or Decimals, as `{"hours": 2}`.
-    workers : int, default 4
-        Calls of the library at once, 1 to 64. Rows of different values, or groups, are dealt to them.
-    progress : bool, optional
-        Whether standard error shows how far the call is, after two seconds. The default is True on a terminal, but
-        False with Dask. True is also for notebooks and pipes, and counts the partitions that this process computes.
+        A frame of pandas, of at most 1,000,000 rows, or of that many in each group.
+    {options}
 
     Returns
     -------
     Division
-        Its `parts` are a Series with the frame's index: the number of each row's part, from 0 on, an int64 named part.
-        `count` is the number of parts; `instant` is the first point at which that many rows hold, so that fewer parts
-        aren't enough. With `by` each group has its own parts, from 0 on, and count and instant are Series by group.
+        Its `parts` are a Series with the frame's index: the number of each row's part, from 0 on. `count` is the number
+        of parts; `instant` is the first point at which that many rows hold, so that fewer parts aren't enough. With
+        `by` each group has its own parts, from 0 on, and count and instant are Series by group.
 
-    Raises
-    ------
-    Refused
-        If the frame or an option can't be taken, as a frame of Dask, or a value would be lost or changed.
-    Stopped
-        If the library is missing, or memory runs out.
-
-    Warns
-    -----
-    Doubt
-        Of ends that look like last days, and of groups that look like one another.
+    {raises}
 
     Examples
     --------
@@ -415,11 +200,283 @@ def dip(frame: pd.DataFrame, by: Names = None, *, period: PeriodNames = PERIOD, 
     >>> by_ward.count.to_dict()
     {'A': 2, 'B': 1}
     """
-    options = options_of(
-        "dip", by=by, period=period, open_end=open_end, last_day=last_day, decimals=decimals, workers=workers,
-        progress=progress,
-    )
-    if are_spread(frame=frame):
+    options = options_in("dip", locals())
+    if checks.are_spread(frame=frame):
         raise Refused("BadCommand", f"dip can't be called with a frame of Dask; {division.OTHERWISE}")
-    with OfCall(options.call, options.progress):
+    with of_call(options.call, options.progress):
         return division.dip_by(frame, options) if options.by else division.dip(frame, options)
+
+
+@documented
+def check(frame: pd.DataFrame, part: Names, *, period: PeriodNames = PERIOD, open_end: bool = False,
+          last_day: bool = False) -> Checked:
+    """Returns whether no two rows of a part overlap, for parts that are a column, such as somebody's plan of beds.
+
+    Parameters
+    ----------
+    frame : DataFrame
+        A frame of pandas, of at most 1,000,000 rows.
+    part : name or list of names
+        The column of each row's part, or several, such as a ward and a bed.
+    {options}
+
+    Returns
+    -------
+    Checked
+        It is true if no two rows of a part hold at one time. Otherwise it has two rows that do, by their labels, their
+        part and the time that they share.
+
+    {raises}
+
+    Examples
+    --------
+    >>> day = pd.to_datetime
+    >>> stay = pd.DataFrame({"from": day(["2024-01-01", "2024-01-03", "2024-01-05"]),
+    ...                      "to": day(["2024-01-05", "2024-01-08", "2024-01-06"])}, index=["Ada", "Grace", "Hill"])
+    >>> ruzgalt.check(stay.assign(bed=[7, 7, 8]), part="bed")
+    No: rows 'Ada' and 'Grace' of part 7 both hold from 2024-01-03 to 2024-01-05.
+    >>> ruzgalt.check(stay.assign(bed=[7, 8, 9]), part="bed")
+    Yes: no two rows of a part hold at one time. The rows have 3 parts, and 2 are enough.
+    """
+    options = options_in("check", {**locals(), "by": part})
+    if checks.are_spread(frame=frame):
+        raise Refused("BadCommand", "check can't be called with a frame of Dask; overlaps(frame, by=PART) can")
+    return division.check(frame, options)
+
+
+@documented
+def at(frame: Frame, point: Any, *, period: PeriodNames = PERIOD, open_end: bool = False,
+       last_day: bool = False) -> Frame:
+    """Returns the rows that hold at a point.
+
+    Parameters
+    ----------
+    frame : DataFrame
+        A frame of pandas or of Dask.
+    point : str, date, datetime, Timestamp or Period
+        A day is its begin. If the frame's points have a time zone, a point without one is what clocks show there.
+    {options}
+
+    Returns
+    -------
+    DataFrame
+        These rows, unchanged, in their order.
+
+    {raises}
+
+    Examples
+    --------
+    >>> day = pd.to_datetime
+    >>> pay = pd.DataFrame({"from": day(["2024-01-01", "2024-07-01"]), "to": day(["2024-07-01", None]),
+    ...                     "cents": [5000, 5400]})
+    >>> ruzgalt.at(pay, "2024-07-01", open_end=True)
+            from  to  cents
+    1 2024-07-01 NaT   5400
+    """
+    return coverage.held(frame, options_in("at", locals()), lambda zone, _: instants.one_second(point, zone))
+
+
+@documented
+def during(frame: Frame, start: Any, end: Any, *, period: PeriodNames = PERIOD, open_end: bool = False,
+           last_day: bool = False) -> Frame:
+    """Returns the rows that hold at some point from `start` on and before `end`.
+
+    Parameters
+    ----------
+    frame : DataFrame
+        A frame of pandas or of Dask.
+    start, end : str, date, datetime, Timestamp or Period
+        With `last_day` the end is the last day. None as the end is no end. If the frame's points have a time zone,
+        points without one are what clocks show there.
+    {options}
+
+    Returns
+    -------
+    DataFrame
+        These rows, unchanged, in their order.
+
+    {raises}
+
+    Examples
+    --------
+    >>> day = pd.to_datetime
+    >>> pay = pd.DataFrame({"from": day(["2024-01-01", "2024-07-01"]), "to": day(["2024-07-01", None]),
+    ...                     "cents": [5000, 5400]})
+    >>> ruzgalt.during(pay, "2024-05-01", "2024-07-01", open_end=True)
+            from         to  cents
+    0 2024-01-01 2024-07-01   5000
+    """
+    options = options_in("during", locals())
+    return coverage.held(frame, options, lambda zone, form: instants.span(start, end, form, zone))
+
+
+@documented
+def coalesce(frame: Frame, by: Names = None, *, period: PeriodNames = PERIOD, open_end: bool = False,
+             last_day: bool = False, decimals: Mapping[Any, int] = NO_DECIMALS, workers: int = WORKERS,
+             progress: Optional[bool] = None) -> Frame:
+    """Returns the periods, as long as possible, in which some row of a group holds.
+
+    Parameters
+    ----------
+    frame : DataFrame
+        A frame of pandas or of Dask.
+    {options}
+
+    Returns
+    -------
+    DataFrame
+        The columns of `by` and the period. Rows are by group, then start. Of Dask if the frame is: with `by` partitions
+        are in no order, without there is one.
+
+    {raises}
+
+    Examples
+    --------
+    >>> day = pd.to_datetime
+    >>> pay = pd.DataFrame({"from": day(["2024-01-01", "2024-07-01", "2024-11-01"]),
+    ...                     "to": day(["2024-07-01", "2024-10-01", "2025-01-01"]), "person": "Ada"})
+    >>> ruzgalt.coalesce(pay, "person")
+      person       from         to
+    0    Ada 2024-01-01 2024-10-01
+    1    Ada 2024-11-01 2025-01-01
+    """
+    return grouped(groups.agg, frame, options_in("coalesce", locals()), [measures.HELD])
+
+
+@documented
+def gaps(frame: Frame, by: Names = None, *, within: Any = None, period: PeriodNames = PERIOD, open_end: bool = False,
+         last_day: bool = False, decimals: Mapping[Any, int] = NO_DECIMALS, workers: int = WORKERS,
+         progress: Optional[bool] = None) -> Frame:
+    """Returns the periods, as long as possible, in which no row of a group holds.
+
+    Parameters
+    ----------
+    frame : DataFrame
+        A frame of pandas, or with `by` of Dask.
+    {options}
+
+    Returns
+    -------
+    DataFrame
+        The columns of `by` and the period. Without `within` gaps are between a group's first start and its last end.
+        Rows are by group, then start; partitions of Dask are in no order. A group without a row has no gap. Without
+        `by` all of `within` is a gap if no row holds in it.
+
+    {raises}
+
+    Examples
+    --------
+    >>> day = pd.to_datetime
+    >>> pay = pd.DataFrame({"from": day(["2024-01-01", "2024-07-01", "2024-11-01"]),
+    ...                     "to": day(["2024-07-01", "2024-10-01", "2025-01-01"]), "person": "Ada"})
+    >>> ruzgalt.gaps(pay, "person")
+      person       from         to
+    0    Ada 2024-10-01 2024-11-01
+    >>> ruzgalt.gaps(pay, "person", within=("2024-08-01", "2025-02-01"))
+      person       from         to
+    0    Ada 2024-10-01 2024-11-01
+    1    Ada 2025-01-01 2025-02-01
+    """
+    return grouped(coverage.gaps, frame, options_in("gaps", locals()))
+
+
+@documented
+def overlaps(frame: Frame, by: Names = None, *, keep_periods: bool = False, period: PeriodNames = PERIOD,
+             open_end: bool = False, last_day: bool = False, decimals: Mapping[Any, int] = NO_DECIMALS,
+             suffixes: PairOfSuffixes = SUFFIXES, workers: int = WORKERS, progress: Optional[bool] = None) -> Frame:
+    """Returns the pairs of different rows of a group, each for the time in which both hold.
+
+    Parameters
+    ----------
+    frame : DataFrame
+        A frame of pandas, or with `by` of Dask.
+    {options}
+
+    Returns
+    -------
+    DataFrame
+        The join of the frame with itself on `by`, with each pair once: the left row is before the right one in the
+        frame.
+
+    {raises}
+
+    Examples
+    --------
+    >>> day = pd.to_datetime
+    >>> stay = pd.DataFrame({"from": day(["2024-01-01", "2024-01-03", "2024-01-05"]),
+    ...                      "to": day(["2024-01-05", "2024-01-08", "2024-01-06"]), "desk": 7, "who": ["a", "b", "c"]})
+    >>> ruzgalt.overlaps(stay, "desk")
+            from         to  desk who_left who_right
+    0 2024-01-03 2024-01-05     7        a         b
+    1 2024-01-05 2024-01-06     7        b         c
+    """
+    return grouped(pairs.overlaps, frame, options_in("overlaps", locals()))
+
+
+@documented
+def spread(frame: Frame, column: Any, *, amount: Optional[str] = None, each: str = MONTH, by: Names = None,
+           within: Any = None, exact: bool = False, period: PeriodNames = PERIOD, open_end: bool = False,
+           last_day: bool = False, decimals: Mapping[Any, int] = NO_DECIMALS, workers: int = WORKERS,
+           progress: Optional[bool] = None) -> Frame:
+    """Returns the amounts of a group's rows in each month, quarter, year, week or day.
+
+    Amounts are divided by days, or by seconds if a point has a time of day. An amount "per month" is a row's amount in
+    each whole month, and in a part of a month that part of it. The whole numbers of a group add up to its exact sum,
+    rounded once, half up: those with the largest remainders count one more, of equal ones the first.
+
+    An amount "in total" is divided over all of a row's own period. Up to an instant a row has that part of its amount,
+    rounded half up, so that its pieces add up to the amount, months to quarters, and two answers to one of both times.
+
+    Parameters
+    ----------
+    frame : DataFrame
+        A frame of pandas, or with `by` of Dask.
+    column : name
+        The column of amounts.
+    {options}
+
+    Returns
+    -------
+    DataFrame
+        The columns of `by`, the period of each piece that some row of the group touches, and the sum under its column's
+        name, as agg returns sums. Rows are by group, then start; partitions of Dask are in no order. Pieces of a frame
+        of longer periods are period[D].
+
+    {raises}
+
+    Examples
+    --------
+    >>> day = pd.to_datetime
+    >>> pay = pd.DataFrame({"from": day(["2024-06-01", "2024-06-11"]), "to": day(["2024-06-11", None]),
+    ...                     "person": "Ada", "euros": [5000, 5400]})
+    >>> until_july = {"by": "person", "within": ("2024-01-01", "2024-08-01"), "open_end": True}
+    >>> ruzgalt.spread(pay, "euros", amount="per month", **until_july)
+      person       from         to  euros
+    0    Ada 2024-06-01 2024-07-01   5267
+    1    Ada 2024-07-01 2024-08-01   5400
+    >>> premium = pd.DataFrame({"from": day(["2024-01-15"]), "to": day(["2025-01-15"]), "euros": 1200})
+    >>> ruzgalt.spread(premium, "euros", amount="in total", each="Y")
+            from         to  euros
+    0 2024-01-01 2025-01-01   1154
+    1 2025-01-01 2026-01-01     46
+    """
+    options = options_in("spread", locals())
+    return grouped(amounts.spread, frame, options, checks.name("column", column))
+
+
+def paired(asked: Callable[..., Any], left: Any, right: Any, on: Any, options: Options) -> Any:
+    """Returns the answer of two frames, of which one may be of Dask."""
+    if checks.are_spread(left=left, right=right):
+        from ruzgalt.frames import partitions
+        return partitions.paired(asked, left, right, on, options)
+    with of_call(options.call, options.progress):
+        return asked(left, right, on, options)
+
+
+def grouped(asked: Callable[..., Any], frame: Any, options: Options, *given: Any) -> Any:
+    """Returns the answer of one frame, which may be of Dask."""
+    if checks.are_spread(frame=frame):
+        from ruzgalt.frames import partitions
+        return partitions.grouped(asked, frame, given, options)
+    with of_call(options.call, options.progress):
+        return asked(frame, *given, options)

@@ -152,19 +152,28 @@ def stand_ins(option: str, given: Any) -> Mapping[Any, Any]:
 
 
 def frame(option: str, given: Any) -> Any:
-    """A frame of pandas."""
+    """Returns a frame of pandas. Raises Refused if it isn't one, or has columns that can't be kept."""
     if not isinstance(given, pd.DataFrame):
         raise wrong(option, given, f"must be a frame of pandas; {remedy_of(given)}")
+    refuse_odd(given)
     return given
 
 
+def refuse_odd(columns: Any) -> None:
+    """Raises Refused if a frame of pandas or Dask has sparse columns, or some that are named NaN."""
+    for name, dtype in zip(columns.columns, columns.dtypes):
+        if isinstance(dtype, pd.SparseDtype):
+            raise Refused("WrongKind", f"it is sparse ({dtype}); .sparse.to_dense() makes a usual column", name)
+        if isinstance(name, float) and name != name:
+            raise Refused("BadName", "a column can't be named NaN; .rename(columns=..) gives it a name", name)
+
+
 def are_spread(**frames: Any) -> bool:
-    """Whether one is a frame of Dask, which isn't imported for that. Raises Refused where one is no frame."""
+    """Returns whether one is a frame of Dask, which isn't imported for that. Raises Refused if one isn't a frame."""
     dask = sys.modules.get("dask.dataframe")
-    spread = [name for name, one in frames.items() if dask is not None and isinstance(one, dask.DataFrame)]
+    spread = [one for one in frames.values() if dask is not None and isinstance(one, dask.DataFrame)]
     for name, one in frames.items():
-        if name not in spread:
-            frame(name, one)
+        frame(name, getattr(one, "_meta", one) if any(one is other for other in spread) else one)
     return bool(spread)
 
 

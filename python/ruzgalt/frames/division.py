@@ -2,12 +2,12 @@
 from __future__ import annotations
 
 from dataclasses import dataclass
-from typing import Any, Generic, Iterator, TypeVar
+from typing import Any, Generic, Iterator, Tuple, TypeVar
 
 import numpy as np
 import pandas as pd
 
-from ruzgalt.frames import ask, doubts, groups, points, sides, split
+from ruzgalt.frames import ask, checks, doubts, groups, pairs, points, sides, split
 from ruzgalt.frames.errors import Refused
 from ruzgalt.frames.kinds import Kind
 from ruzgalt.frames.named import with_levels
@@ -17,6 +17,8 @@ from ruzgalt.kernel.library import Rows
 
 # That many groups are shown.
 SHOWN = 10
+# The number that the library has for an overlap of two rows of a part.
+OVERLAP = 6
 OTHERWISE = "agg(frame, 'count') has the number of parts, its greatest count, and the instant, at which that begins"
 REMEDY = "its parts are division.parts, as in frame.assign(part=division.parts)"
 OPERATIONS = """eq ne lt le gt ge add radd sub rsub mul rmul truediv rtruediv floordiv rfloordiv mod rmod pow rpow
@@ -110,10 +112,78 @@ def shown(group: Any) -> str:
     return repr(group) if isinstance(group, str) else str(group)
 
 
+@dataclass(frozen=True, repr=False)
+class Checked:
+    """What `ruzgalt.check` found of a frame's own division. It is true if no two rows of a part hold at one time.
+
+    Attributes
+    ----------
+    count, least : int
+        The number of parts, and the least number that is enough.
+    rows : tuple
+        The index labels of two rows of a part that hold at one time, if there are such.
+    part : value or tuple of values
+        Their part.
+    start, end : point
+        The time that they share, in the type of the frame's points.
+
+    Examples
+    --------
+    >>> day = pd.to_datetime
+    >>> stay = pd.DataFrame({"from": day(["2024-01-01", "2024-01-03"]), "to": day(["2024-01-05", "2024-01-08"])})
+    >>> checked = ruzgalt.check(stay.assign(bed=7), part="bed")
+    >>> bool(checked), checked.rows, checked.part, checked.least
+    (False, (0, 1), 7, 2)
+    """
+
+    count: int
+    least: int
+    rows: Tuple[Any, ...] = ()
+    part: Any = None
+    start: Any = None
+    end: Any = None
+
+    def __bool__(self) -> bool:
+        return not self.rows
+
+    def __repr__(self) -> str:
+        if self.rows:
+            one, other = map(shown, self.rows)
+            times = " to ".join(str(point).replace(" 00:00:00", "") for point in (self.start, self.end))
+            return f"No: rows {one} and {other} of part {shown(self.part)} both hold from {times}."
+        number = f"The rows have {many(self.count, 'part')}, and {self.least:,} are enough"
+        if self.count == self.least:
+            number = f"Fewer than {many(self.count, 'part')} aren't enough"
+        return f"Yes: no two rows of a part hold at one time. {number}."
+
+
+def check(frame: Any, options: Options) -> Checked:
+    """Checks the division whose parts are the values of `by`."""
+    by = options.by or ()
+    if not by:
+        raise checks.wrong("part", None, "must be the name of a column, or a list of names")
+    whole = with_levels(frame, by)
+    side = groups.side_of(whole, [], options)
+    doubts.of_frame(whole, side, [], options)
+    refuse_many(len(side), "a frame")
+    codes, firsts = groups.group_codes(side, len(by))
+    _, least, second = ask.answer(library.dip, side.start, side.end)
+    count = len(firsts) if len(side) else 0
+    found = ask.answer(library.check, side.start, side.end, codes.codes, count, second or 0)
+    if found[0] != OVERLAP:
+        return Checked(count, least)
+    rows = np.array(found[1:], np.int64)
+    part = tuple(cells.iloc[0] for _, cells in groups.groups_at(whole, by, rows[:1]))
+    period = pairs.period_of(side.start[rows].max(keepdims=True), side.end[rows].min(keepdims=True), [side], options,
+                             options.form)
+    bounds = [cells.iloc[0] for _, cells in period]
+    start, end = bounds if len(bounds) == 2 else (bounds[0].left, bounds[0].right)
+    return Checked(count, least, tuple(frame.index[rows]), part if len(part) > 1 else part[0], start, end)
+
+
 def dip(frame: Any, options: Options) -> Division[Any]:
     side = sides.side_of(frame, [], options.period, options.form, {})
-    doubts.of_decimals(options.decimals, frame)
-    doubts.of_ends(side, [], options.period[-1], options.form.has_last_days)
+    doubts.of_frame(frame, side, [], options)
     refuse_many(len(side), "a frame")
     part, count, second = ask.answer(library.dip, side.start, side.end)
     instant = None if second is None else point_of(second, side.kind)
@@ -124,7 +194,7 @@ def dip_by(frame: Any, options: Options) -> Division[Any]:
     """Of each group by itself."""
     frame = with_levels(frame, options.by or ())
     side = groups.side_of(frame, [], options)
-    groups.warn(frame, side, options)
+    doubts.of_frame(frame, side, side.columns, options)
     codes, firsts = groups.group_codes(side, len(options.by or ()))
     refuse_many(int(np.bincount(codes.codes).max(initial=0)), "a group")
     part, counts, seconds = ask.answer(threads.dips, Rows(codes.codes, side.start, side.end), options.workers)

@@ -15,17 +15,29 @@ from ruzgalt.frames import instants, points, zones
 from ruzgalt.frames.arrays import Ints
 from ruzgalt.frames.errors import doubt
 from ruzgalt.frames.named import names_of, same
+from ruzgalt.frames.options import Options
 from ruzgalt.frames.sides import Side
 from ruzgalt.frames.values import Values
 
 # So many texts of a column are looked at, and so many rows.
 MOST_TEXTS, MOST_ROWS = 20_000, 4_000
+# Frames of fewer rows may well have no common value.
+FEW = 3
 # Ends from the one on and before the other are those that files are doubted for (loading/dates.is_far_off).
 FAR, FARTHEST = map(instants.second_of, ("2099-01-01", "9999-01-01"))
 REMEDY = (
     "they differ only in spaces, capitals, zeros in front, or .0 at the end: "
     ".str.strip(), .str.lower(), .str.lstrip('0'), .str.removesuffix('.0')"
 )
+
+
+def of_frame(frame: Any, side: Side, key: Sequence[Values], options: Options) -> None:
+    """Warns of possible mistakes in a frame whose rows are grouped by the columns of a key."""
+    if options.is_part:
+        return
+    of_decimals(options.decimals, frame)
+    of_groups(key)
+    of_ends(side, key, options.period[-1], options.form.has_last_days)
 
 
 def of_decimals(decimals: Mapping[Any, int], *frames: Any) -> None:
@@ -46,13 +58,27 @@ def of_no_columns(left: Iterable[Any], right: Collection[Any]) -> None:
 
 
 def of_keys(left: Sequence[Values], right: Sequence[Values]) -> None:
-    """Warns of texts of both sides that meet no equal one, and one that looks like them."""
+    """Warns of texts that only look like one of the other side, and of columns without a common value."""
     for one, other in zip(left, right):
-        if one.kind == other.kind == "text":
-            found = strangers(one.texts.cells, other.texts.cells)
-            if found:
-                more = f", nor do {len(found) - 1} more" if len(found) > 1 else ""
-                doubt(f"{one.name!r} has {found[0][0]!r} and {found[0][1]!r}, which don't meet{more}; {REMEDY}")
+        found = strangers(one.texts.cells, other.texts.cells) if one.kind == other.kind == "text" else []
+        if found:
+            more = f", nor do {len(found) - 1} more" if len(found) > 1 else ""
+            doubt(f"{one.name!r} has {found[0][0]!r} and {found[0][1]!r}, which don't meet{more}; {REMEDY}")
+        elif len(one.codes) >= FEW and len(other.codes) >= FEW and not have_common(one, other):
+            examples = " and ".join(str(example_of(column)) for column in (one, other))
+            doubt(f"{one.name!r} has no value that {other.name!r} of the right frame has, such as {examples}: "
+                  f"are these the columns to compare?")
+
+
+def have_common(one: Values, other: Values) -> bool:
+    if one.kind == "text":
+        return not set(one.texts.cells).isdisjoint(other.texts.cells)
+    # The first rows mostly have one already.
+    return any(np.isin(codes, other.codes).any() for codes in (one.codes[:MOST_ROWS], one.codes))
+
+
+def example_of(column: Values) -> Any:
+    return repr(column.texts.cells[column.codes[0]]) if column.kind == "text" else column.restored(column.codes[:1])[0]
 
 
 def strangers(left: Sequence[str], right: Sequence[str]) -> List[Tuple[str, str]]:
@@ -70,10 +96,14 @@ def alike(texts: Sequence[str], others: Sequence[str]) -> List[Tuple[str, str]]:
 
 def of_no_value(name: Any, *sides: Sequence[str]) -> None:
     """Warns of a text that each side has, and that other programs write for no value."""
-    texts = (text for text in sides[0][:MOST_TEXTS] if text.lower() in NO_VALUES)
+    # A blank group is common, but blank keys that match are a surprise.
+    blanks = ("",) if len(sides) > 1 else ()
+    texts = (text for text in sides[0][:MOST_TEXTS] if text.lower() in NO_VALUES or text.strip() in blanks)
     found = next((text for text in texts if all(text in side for side in sides)), None)
     if found is not None:
+        is_blank = not found.strip()
         remedy = f".dropna(subset=[{name!r}]) before .astype(str) leaves such rows out"
+        remedy = f"frame[frame[{name!r}].str.strip() != ''] leaves such rows out" if is_blank else remedy
         doubt(f"{name!r} has {found!r}, which other programs write for no value, and rows with it are equal; {remedy}")
 
 

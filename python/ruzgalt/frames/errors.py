@@ -3,6 +3,7 @@ from __future__ import annotations
 
 import contextlib
 import inspect
+import os
 import warnings
 from pathlib import Path
 from typing import Any, Optional
@@ -11,8 +12,8 @@ from ruzgalt import progress
 from ruzgalt.frames.arrays import Marks
 from ruzgalt.script import forms
 
-# Files whose lines are never those that a warning is about: the package's, and what leaves a `with` of its.
-OURS = (str(Path(__file__).resolve().parents[1]), str(contextlib.__file__))
+# The package's folder. A caller's file may have a name that begins as its name does.
+PACKAGE = f"{Path(__file__).resolve().parents[1]}{os.sep}"
 # What to do if the program refuses something by this name.
 REMEDIES = {
     "BadName": f"a name has {forms.NAME_HAS}",
@@ -82,12 +83,17 @@ class Doubt(UserWarning):
 
 
 def doubt(reason: str) -> None:
-    """Warns of the line that called this package. A warning stands on the terminal where progress does."""
+    """Warns of the line that called this package. The line of progress is removed before."""
     progress.take_away()
     level, frame = 1, inspect.currentframe()
-    while frame is not None and frame.f_code.co_filename.startswith(OURS):
+    while frame is not None and is_ours(frame.f_code.co_filename):
         level, frame = level + 1, frame.f_back
     warnings.warn(reason, Doubt, stacklevel=level)
+
+
+def is_ours(file: str) -> bool:
+    """Returns whether a file is the package's, or contextlib, which leaves its `with` blocks."""
+    return file.startswith(PACKAGE) or file == contextlib.__file__
 
 
 def label_at(marked: Marks, index: Any) -> Optional[Any]:

@@ -20,32 +20,13 @@ from ruzgalt.frames.values import Values, no_value
 
 
 def agg(frame: Any, asked: Measures, options: Options) -> Any:
-    frame = with_levels(frame, options.by or ())
-    side = side_of(frame, asked, options)
-    warn(frame, side, options)
-    return counted(frame, side, asked, options)
-
-
-def warn(frame: Any, side: Side, options: Options) -> None:
-    """Warns of what may not be meant."""
-    by = side.columns[:len(options.by or ())]
-    doubts.of_decimals(options.decimals, frame)
-    doubts.of_groups(by)
-    doubts.of_ends(side, by, options.period[-1], options.form.has_last_days)
-
-
-def agg_part(frame: Any, asked: Measures, options: Options) -> Any:
-    """Of a partition, in which nothing is looked at that may not be meant."""
-    frame = with_levels(frame, options.by or ())
-    return counted(frame, side_of(frame, asked, options), asked, options)
-
-
-def counted(frame: Any, side: Side, asked: Measures, options: Options) -> Any:
     groups = options.by or ()
+    frame = with_levels(frame, groups)
+    side = side_of(frame, asked, options)
+    doubts.of_frame(frame, side, side.columns[:len(groups)], options)
     codes, firsts = group_codes(side, len(groups))
     amounts = amounts_in(side, asked)
-    numbered = replace(side, columns=[codes])
-    start, end, group, *values = measures.measured(numbered, amounts, asked, options.workers)
+    start, end, group, *values = measures.measured(replace(side, columns=[codes]), amounts, asked, options.workers)
     columns = Columns(groups_at(frame, groups, firsts[group]))
     columns.add(period_of(start, end, [side], options, options.form))
     columns.add(measures.columns_of(values, asked, amounts, options.mean_as))

@@ -72,6 +72,12 @@ def second_in(point: Any, zone: Any) -> int:
     return second_of(in_utc(point))
 
 
+def one_second(point: Any, zone: Any) -> Tuple[int, int]:
+    """Returns the point's second, and the next one."""
+    second = second_in(point, zone)
+    return second, second + 1
+
+
 def in_utc(point: Any) -> Any:
     """A datetime of a zone as clocks show it in UTC. Raises Refused (BadPoint) outside of their years."""
     if isinstance(point, pd.Timestamp):

@@ -11,8 +11,6 @@ from ruzgalt.frames.named import column_of, levels_place, names_of, same
 
 # What remedies begin with: a column of intervals by its two sides.
 BY_SIDES = "as two columns, their .array.left and .array.right, "
-# The column that has the right sides while rows are sent begins so, and ends with the place of the intervals.
-RIGHT = "_ruzgalt_right"
 SIDES = {"right": "the right", "both": "both sides", "neither": "no side"}
 
 
@@ -87,36 +85,3 @@ def with_cells(frame: Any, name: Any, cells: Any) -> None:
     levels[levels_place(frame, name)] = pd.Index(cells.array)
     is_alone = len(levels) == 1
     frame.index = levels[0].rename(name) if is_alone else pd.MultiIndex.from_arrays(levels, names=frame.index.names)
-
-
-def places_in(frame: Any) -> List[int]:
-    """Where columns of intervals stand, closed on any side, whether they are the period or not."""
-    return [place for place, dtype in enumerate(frame.dtypes) if isinstance(dtype, pd.IntervalDtype)]
-
-
-def names_of_sides(frame: Any) -> List[str]:
-    """The columns that by_sides adds."""
-    return [f"{RIGHT}{place}" for place in places_in(frame)]
-
-
-def by_sides(frame: Any) -> Any:
-    """The frame as Dask sends rows: left sides in place of intervals, and the right ones after all columns.
-
-    Dask makes sample rows of a frame that it sends, and knows none of intervals.
-    """
-    made = frame.copy(deep=False)
-    for place, name in zip(places_in(frame), names_of_sides(frame)):
-        cells = frame.iloc[:, place].array
-        made.isetitem(place, cells.left)
-        made[name] = cells.right
-    return made
-
-
-def with_spans(frame: Any, like: Any) -> Any:
-    """What by_sides made of a frame with the columns of `like`, as it was."""
-    made = frame.iloc[:, :len(like.columns)].copy(deep=False)
-    for place, name in zip(places_in(like), names_of_sides(like)):
-        sides = frame.iloc[:, place].array, frame[name].array
-        spans = pd.arrays.IntervalArray.from_arrays(*sides, closed=like.dtypes.iloc[place].closed)
-        made.isetitem(place, spans)
-    return made

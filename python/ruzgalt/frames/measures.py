@@ -8,7 +8,7 @@ from __future__ import annotations
 from dataclasses import dataclass, replace
 from decimal import Decimal
 from fractions import Fraction
-from typing import Any, Callable, Dict, List, Mapping, Sequence, Tuple
+from typing import Any, Dict, List, Mapping, Sequence, Tuple
 
 import numpy as np
 
@@ -109,17 +109,21 @@ def asks_of(measures: Measures) -> List[Ask]:
 
 
 def measured(side: Side, columns: Mapping[Any, Values], measures: Measures, workers: int) -> Found:
-    """Start, end, group and values of the measures, by group and start; the side has the groups' numbers alone."""
+    """Returns start, end, group and values of the measures, by group and start. The side has the groups' numbers."""
+    return together(answers(side, columns, measures, workers), measures)
+
+
+def answers(side: Side, columns: Mapping[Any, Values], measures: Measures, workers: int) -> Dict[Ask, Found]:
+    """Returns the library's answer to each ask of the measures."""
     def answer(asked: Ask) -> Found:
         amounts = [columns[name] for name in asked[1:]] or ([ones(len(side))] if asked[0] != "count" else [])
         return split.agg(replace(side, columns=[*side.columns, *amounts]), asked[0], workers)
 
-    return measured_by(answer, measures)
+    return {asked: answer(asked) for asked in asks_of(measures)}
 
 
-def measured_by(answer: Callable[[Ask], Found], measures: Measures) -> Found:
-    """The same by a function that answers each ask. A mean is two values: a sum and a count, in lowest terms."""
-    found: Dict[Ask, Found] = {asked: answer(asked) for asked in asks_of(measures)}
+def together(found: Mapping[Ask, Found], measures: Measures) -> Found:
+    """Returns the answers in one. A mean is two values: a sum and a count, in lowest terms."""
     start, end, group, *columns = cut_at_all(list(found.values()))
     there = dict(zip(found, columns))
     values = [value for one in measures for value in in_lowest_terms(*(there[asked] for asked in one.asks))]

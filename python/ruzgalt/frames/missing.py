@@ -28,46 +28,15 @@ def rows_at(frame: Any, rows: Ints, is_wide: bool = False) -> Any:
     if not is_wide and not (rows < 0).any():
         made = numbered.take(rows)
     else:
-        labels, numbered = np.append(rows, -1), with_floats(numbered)
-        made = numbered.reindex(index=labels)
-        for place, dtype in enumerate(frame.dtypes):
-            refuse_rounded(frame.iloc[:, place], rows[rows >= 0], made.dtypes.iloc[place])
-            if isinstance(dtype, pd.SparseDtype):
-                made.isetitem(place, reindexed(numbered.iloc[:, place], labels))
-        made = made.iloc[:-1]
+        made = numbered.reindex(index=np.append(rows, -1)).iloc[:-1]
+        for place, dtype in enumerate(made.dtypes):
+            refuse_rounded(frame.iloc[:, place], rows[rows >= 0], dtype)
     made.index = pd.RangeIndex(len(rows))
     return made
 
 
-def with_floats(frame: Any) -> Any:
-    """The frame with floats in its sparse columns of bool, as pandas makes of them beside a missing cell.
-
-    It leaves them False as their fill value, of which newer ones warn.
-    """
-    made = frame.copy(deep=False)
-    for place, dtype in enumerate(frame.dtypes):
-        if isinstance(dtype, pd.SparseDtype) and dtype.subtype == bool:
-            floats = np.asarray(frame.iloc[:, place]).astype(float)
-            cells = pd.arrays.SparseArray(floats, fill_value=float(dtype.fill_value))
-            made.isetitem(place, pd.Series(cells, frame.index))
-    return made
-
-
 def reindexed(column: Any, labels: Any) -> Any:
-    """The column's cells under these labels, and a missing one under each that it hasn't.
-
-    Of a sparse column all of whose cells are its fill value, pandas makes all missing then.
-    """
-    made = column.reindex(labels)
-    if not isinstance(column.dtype, pd.SparseDtype) or column.array.npoints:
-        return made
-    dense = pd.Series(np.asarray(column), column.index).reindex(labels)
-    return pd.Series(pd.arrays.SparseArray(dense.astype(made.dtype.subtype), dtype=made.dtype), made.index)
-
-
-def labels_at(frame: Any, rows: Ints, is_wide: bool = False) -> Any:
-    labels = frame.index.to_flat_index().to_series(index=pd.RangeIndex(len(frame)))
-    return rows_at(labels.to_frame(), rows, is_wide).iloc[:, 0]
+    return column.reindex(labels)
 
 
 def either(
@@ -94,7 +63,7 @@ def either(
 def concatenated(parts: Sequence[Any]) -> Any:
     """The cells one after another. True beside numbers stays True, in objects; pandas 1.5 makes 1 of it, and warns."""
     are_bool = [values.is_bool(part.dtype) for part in parts]
-    kept = parts if all(are_bool) or not any(are_bool) else list(map(as_objects, parts))
+    kept = parts if all(are_bool) or not any(are_bool) else [part.astype(object) for part in parts]
     return pd.concat(kept, ignore_index=True)
 
 
@@ -111,11 +80,6 @@ def nearest(cells: Any, dtype: Any, digits: int) -> Any:
     found = values.values_of(cells, digits)
     made = values.unscaled(found.codes, replace(found, dtype=dtype))
     return pd.Series(made, name=cells.name)
-
-
-def as_objects(cells: Any) -> Any:
-    """The cells as objects: a sparse column stays sparse by .astype, and pandas warns of that."""
-    return pd.Series(np.asarray(cells, object), dtype=object, name=cells.name)
 
 
 def refuse_rounded(column: Any, rows: Ints, dtype: Any) -> None:

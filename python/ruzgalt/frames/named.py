@@ -11,8 +11,8 @@ from ruzgalt.script import naming
 
 
 def same(name: Any) -> Any:
-    """The name; each NaN is made the same one, since no two of them are equal."""
-    return np.nan if isinstance(name, float) and name != name else name
+    """Returns the name; a number or text of numpy as Python's own."""
+    return name.item() if isinstance(name, (np.number, np.str_)) else name
 
 
 def names_of(frame: Any) -> List[Any]:

@@ -2,9 +2,12 @@
 from __future__ import annotations
 
 import datetime
+import inspect
+import re
+import textwrap
 from dataclasses import dataclass, field
 from types import MappingProxyType
-from typing import Any, Callable, Dict, List, Literal, Mapping, Optional, Sequence, Tuple, Union
+from typing import Any, Callable, Dict, List, Literal, Mapping, Optional, Sequence, Tuple, TypeVar, Union
 
 import numpy as np
 import pandas as pd
@@ -27,6 +30,9 @@ AsOf = Optional[Commit]
 # Of both frames of a pair, or of one of them alone.
 OneSided = Union[bool, Literal["left", "right"]]
 GivenNames = Optional[Tuple[Any, ...]]
+# Returns the value of an option of this name as the calls work with it, or raises Refused.
+Check = Callable[[str, Any], Any]
+Call = TypeVar("Call", bound=Callable[..., Any])
 # What a call has where nothing else is given.
 PERIOD: Tuple[Any, Any] = ("from", "to")
 SUFFIXES: Suffixes = ("_left", "_right")
@@ -74,11 +80,11 @@ class Options:
     suffixes: Suffixes = SUFFIXES
     how: str = INNER
     mean_as: str = FLOAT
-    labels: bool = False
     points_as: Optional[str] = None
     workers: int = WORKERS
-    parts: Optional[int] = None
     progress: Optional[bool] = None
+    # Whether the rows are a partition of Dask's, which brings no warnings.
+    is_part: bool = False
 
     @property
     def form(self) -> Form:
@@ -112,10 +118,6 @@ def workers_of(option: str, given: Any) -> int:
     return checks.whole(option, given, 1, MOST_WORKERS)
 
 
-def parts_of(option: str, given: Any) -> int:
-    return checks.whole(option, given, 1)
-
-
 def one_sided(option: str, given: Any) -> OneSided:
     if isinstance(given, str) and given in SIDES:
         return "left" if given == "left" else "right"
@@ -124,12 +126,8 @@ def one_sided(option: str, given: Any) -> OneSided:
     return bool(given)
 
 
-def how_named(option: str, given: Any) -> str:
-    return checks.one_of(option, given, HOWS)
-
-
-def piece_named(option: str, given: Any) -> str:
-    return checks.one_of(option, given, tuple(PIECES))
+def among(*values: str) -> Check:
+    return lambda option, given: checks.one_of(option, given, values)
 
 
 def amount_named(option: str, given: Any) -> str:
@@ -139,42 +137,136 @@ def amount_named(option: str, given: Any) -> str:
     return checks.one_of(option, given, tuple(AMOUNTS))
 
 
-def mean_named(option: str, given: Any) -> str:
-    return checks.one_of(option, given, MEANS)
+@dataclass(frozen=True)
+class Option:
+    """An option of calls: its check, and its type, default and text in docstrings. If `is_optional`, it may be None."""
+
+    check: Check
+    kind: str = ""
+    text: str = ""
+    is_optional: bool = False
 
 
-def kind_named(option: str, given: Any) -> str:
-    return checks.one_of(option, given, kinds.NAMES)
-
-
-# How each option is looked at.
-CHECKS: Dict[str, Callable[[str, Any], Any]] = {
-    **dict.fromkeys(("left_on", "right_on", "by"), checks.names),
-    **dict.fromkeys(("period", "left_period", "right_period"), checks.period),
-    **dict.fromkeys(("open_end", "last_day", "labels", "keep_periods", "exact", "progress"), checks.flag),
-    "decimals": checks.digits, "missing": checks.stand_ins, "suffixes": checks.suffixes, "points_as": kind_named,
-    "within": checks.span, "workers": workers_of, "parts": parts_of, "how": how_named, "mean_as": mean_named,
-    "each": piece_named, "amount": amount_named,
+NAMES = "name or list of names, optional"
+PERIODS = "pair of names, or name"
+# Each option of the calls. That of one call only has the call's name in front, if other calls have another one.
+OPTIONS: Dict[str, Option] = {
+    "left_on": Option(checks.names, NAMES, "The compared columns of the left frame, if names differ.", True),
+    "right_on": Option(checks.names, NAMES, "The compared columns of the right frame, in the same order.", True),
+    "by": Option(checks.names, NAMES, "Columns whose equal values are a group; without any all rows are one.", True),
+    "how": Option(
+        among(*HOWS), 'str, default "inner"',
+        "inner has the pairs. left also has the left rows, each for the time in which no right row matches, with "
+        "missing cells in the right columns. right has the right rows likewise, outer both.",
+    ),
+    "period": Option(
+        checks.period, f'{PERIODS}, default ("from", "to")',
+        "The columns of a row's start and of its end, the first point after it; or one column of intervals.",
+    ),
+    "left_period": Option(checks.period, f"{PERIODS}, optional", "Those in the left frame, if others.", True),
+    "right_period": Option(checks.period, f"{PERIODS}, optional", "Those in the right frame, if others.", True),
+    "keep_periods": Option(
+        checks.flag, "bool, default False", "Adds the periods of the left and of the right row after the shared one.",
+    ),
+    "open_end": Option(
+        checks.flag, "bool, default False", "Reads a missing end as 9999-12-31, and returns it as missing.",
+    ),
+    "pair.open_end": Option(
+        one_sided, 'bool or "left" or "right", default False',
+        "Reads a missing end as 9999-12-31, and returns it as missing; in both frames or in one.",
+    ),
+    "last_day": Option(
+        checks.flag, "bool, default False", "An end is a row's last day, in the answer too. No point has a time then.",
+    ),
+    "pair.last_day": Option(
+        one_sided, 'bool or "left" or "right", default False',
+        "An end is a row's last day, in both frames or in one; in the answer if it is in the left frame. No point has "
+        "a time then.",
+    ),
+    "decimals": Option(
+        checks.digits, "dict, optional",
+        'The number of decimals of columns of floats or Decimals that are compared or added, such as `{"hours": 2}`.',
+    ),
+    "missing": Option(checks.stand_ins),
+    "suffixes": Option(
+        checks.suffixes, 'pair of str or None, default ("_left", "_right")',
+        "What is added to left and to right names that are taken; None for nothing.",
+    ),
+    "amount": Option(
+        amount_named, "str",
+        'What an amount is: "per day", "per week", "per month", "per quarter" or "per year", or "in total". '
+        "It must be given.",
+    ),
+    "each": Option(
+        among(*PIECES), 'str, default "M"',
+        "Pieces of the calendar: D for days, W for weeks from Monday on, M for months, Q for quarters, Y for years.",
+    ),
+    "within": Option(
+        checks.span, "pair of points, optional",
+        "The time that counts, from a start on and before an end. With `last_day` the end is the last day; None is no "
+        "end.", True,
+    ),
+    "exact": Option(checks.flag, "bool, default False", "Returns sums as Fractions, which aren't rounded."),
+    "workers": Option(
+        workers_of, f"int, default {WORKERS}",
+        f"Calls of the library at once, 1 to {MOST_WORKERS}. Rows of different values, or groups, are dealt to them.",
+    ),
+    "progress": Option(
+        checks.flag, "bool, optional",
+        "Whether standard error shows how far a call is, after two seconds; by default on a terminal. Frames of Dask "
+        "show nothing: use dask.diagnostics.",
+        True,
+    ),
+    "points_as": Option(among(*kinds.NAMES), is_optional=True),
+    "mean_as": Option(among(*MEANS)),
 }
-# Those that may be None, as where they aren't given.
-OPTIONAL = ("left_on", "right_on", "by", "within", "left_period", "right_period", "points_as", "parts", "progress")
+RAISES = """Raises
+------
+Refused
+    If an argument is invalid, or a value can't be kept exactly.
+Stopped
+    If the library is missing, or memory runs out.
+
+Warns
+-----
+Doubt
+    Of possible mistakes: ends that look like last days, values that look alike, keys that match nothing."""
+
+
+def documented(call: Call) -> Call:
+    """Replaces {options} in a call's docstring by its options that aren't described yet, and {raises} by RAISES."""
+    text = inspect.cleandoc(call.__doc__ or "")
+    parameters = inspect.signature(call).parameters
+    prefix = "pair." if "left" in parameters else ""
+    described = re.findall(r"^(\w+) : ", text, re.MULTILINE)
+    found = [(name, OPTIONS.get(f"{prefix}{name}", OPTIONS.get(name))) for name in parameters if name not in described]
+    entries = [f"{name} : {one.kind}\n{wrapped(one.text)}" for name, one in found if one is not None]
+    call.__doc__ = text.replace("{options}", "\n".join(entries)).replace("{raises}", RAISES)
+    return call
+
+
+def wrapped(text: str) -> str:
+    return textwrap.fill(text, 115, initial_indent="    ", subsequent_indent="    ")
 
 
 def options_of(call: str = "", /, **given: Any) -> Options:
-    """Raises Refused where a value is none of its option's. Which options there are, the calls' signatures say."""
-    return checked(call, given, CHECKS)
+    """Raises Refused if a value isn't valid for its option."""
+    return checked(call, given)
 
 
-def options_of_pair(call: str, /, **given: Any) -> Options:
-    """The same of a call of two frames, where some options may be of one of them alone."""
-    return checked(call, given, {**CHECKS, **dict.fromkeys(("open_end", "last_day"), one_sided)})
+def options_in(call: str, given: Mapping[str, Any]) -> Options:
+    """Returns the options among the arguments of a call. Raises Refused."""
+    prefix = "pair." if "left" in given else ""
+    named = {name: f"{prefix}{name}" if f"{prefix}{name}" in OPTIONS else name for name in given}
+    return checked(call, {name: value for name, value in given.items() if named[name] in OPTIONS}, named)
 
 
-def checked(call: str, given: Mapping[str, Any], looks: Mapping[str, Callable[[str, Any], Any]]) -> Options:
-    there = {name: value for name, value in given.items() if value is not None or name not in OPTIONAL}
-    options = Options(call, **{name: looks[name](name, value) for name, value in there.items()})
-    refuse_beside_intervals(options)
-    return options
+def checked(call: str, given: Mapping[str, Any], named: Mapping[str, str] = MappingProxyType({})) -> Options:
+    options = {name: OPTIONS[named.get(name, name)] for name in given}
+    there = {name: one for name, one in options.items() if given[name] is not None or not one.is_optional}
+    made = Options(call, **{name: one.check(name, given[name]) for name, one in there.items()})
+    refuse_beside_intervals(made)
+    return made
 
 
 def refuse_beside_intervals(options: Options) -> None:

@@ -7,7 +7,7 @@ from __future__ import annotations
 
 from dataclasses import dataclass, replace
 from functools import cached_property
-from typing import Any, List, Mapping, Optional, Sequence, Tuple
+from typing import Any, List, Mapping, Optional, Sequence
 
 import numpy as np
 import pandas as pd
@@ -25,46 +25,27 @@ from ruzgalt.frames.points import Form
 from ruzgalt.frames.sides import Period, Side
 from ruzgalt.frames.values import Values
 
-LABELS = ("left_label", "right_label")
-
 
 def join(left: Any, right: Any, on: Names, options: Options) -> Any:
-    frames = with_keys(left, right, on, options)
-    both = sides_of(frames, on, options)
-    warn(frames, both, on, options)
-    return joined(frames, both, on, options)
-
-
-def join_part(left: Any, right: Any, on: Names, options: Options) -> Any:
-    """Of a partition, in which nothing is looked at that may not be meant."""
-    frames = with_keys(left, right, on, options)
-    return joined(frames, sides_of(frames, on, options, is_part=True), on, options, is_part=True)
-
-
-def with_keys(left: Any, right: Any, on: Names, options: Options) -> List[Any]:
-    """The frames, with compared levels of their indexes as columns. Raises Refused where a name is there twice."""
     for frame in (left, right):
         refuse_twice(frame)
-    return keyed((left, right), on, options)
+    frames = keyed((left, right), on, options)
+    both = sides_of(frames, on, options)
+    warn(frames, both, on, options)
+    return framed(frames, matched(both, options), both, on, options)
 
 
 def keyed(frames: Sequence[Any], on: Names, options: Options) -> List[Any]:
+    """Returns the frames, with compared levels of their indexes as columns."""
     return [with_levels(frame, names) for frame, names in zip(frames, compared(on, options))]
 
 
-def joined(frames: Sequence[Any], both: Sequence[Side], on: Names, options: Options, is_part: bool = False) -> Any:
-    """is_part: all parts of an answer are to have the same dtypes, whether a row of theirs is unmatched or not."""
-    return framed(frames, matched(both, options), both, on, options, is_part)
-
-
-def framed(frames: Sequence[Any], found: Found, both: Sequence[Side], on: Names, options: Options,
-           is_part: bool = False) -> Any:
+def framed(frames: Sequence[Any], found: Sequence[Ints], both: Sequence[Side], on: Names, options: Options) -> Any:
+    """Returns the answer of a join. Partitions have the same dtypes, whether a row of theirs is unmatched or not."""
     start, end, *places = found
-    may_miss = [is_part and options.how in (one, "outer") for one in ("right", "left")]
+    may_miss = [options.is_part and options.how in (one, "outer") for one in ("right", "left")]
     taken = list(map(Taken, frames, places, may_miss))
     own = period_of(start, end, both, options, options.joined_form)
-    if options.labels:
-        own += [(name, one.labels()) for name, one in zip(LABELS, taken)]
     kept = [one.period(period) for one, period in zip(taken, options.periods) if options.keep_periods]
     shared = list(dict.fromkeys(map(same, compared(on, options)[1] if on is not None else [])))
     others = columns_beside(taken, shared, options.decimals, options.periods)
@@ -111,46 +92,21 @@ def unmatched(both: Sequence[Side], options: Options) -> Found:
 
 
 def overlaps(frame: Any, options: Options) -> Any:
-    """The join of a frame with itself in the columns of `by`, of which the left row stands before the right one."""
-    frame, side = by_groups(frame, options)
-    doubts.of_decimals(options.decimals, frame)
-    doubts.of_groups(side.columns)
-    doubts.of_ends(side, side.columns, options.period[-1], options.form.has_last_days)
-    return overlapping(frame, side, options)
-
-
-def overlaps_part(frame: Any, options: Options) -> Any:
-    """Of a partition, as join_part."""
-    return overlapping(*by_groups(frame, options), options)
-
-
-def by_groups(frame: Any, options: Options) -> Tuple[Any, Side]:
+    """Returns the join of a frame with itself in the columns of `by`, if the left row is before the right one."""
     refuse_twice(frame)
-    frame = with_levels(frame, options.by or ())
-    return frame, sides.side_of(frame, options.by or (), options.period, options.form, options.decimals)
-
-
-def overlapping(frame: Any, side: Side, options: Options) -> Any:
+    by = options.by or ()
+    frame = with_levels(frame, by)
+    side = sides.side_of(frame, by, options.period, options.form, options.decimals)
+    doubts.of_frame(frame, side, side.columns, options)
     found = split.join([side, side], options.workers)
     is_first = found[2] < found[3]
-    found = tuple(column[is_first] for column in found)
-    return framed([frame, frame], found, [side, side], list(options.by or ()), options)
+    return framed([frame, frame], [column[is_first] for column in found], [side, side], list(by), options)
 
 
 def anti(left: Any, right: Any, on: Names, options: Options) -> Any:
     frames = keyed((left, right), on, options)
     both = sides_of(frames, on, options)
     warn(frames, both, on, options)
-    return left_over(left, both, options)
-
-
-def anti_part(left: Any, right: Any, on: Names, options: Options) -> Any:
-    """Of a partition, as join_part."""
-    both = sides_of(keyed((left, right), on, options), on, options, is_part=True)
-    return left_over(left, both, options)
-
-
-def left_over(left: Any, both: Sequence[Side], options: Options) -> Any:
     start, end, places = split.anti(both, options.workers)
     made = with_labels_twice(left).take(places)
     for name, cells in period_of(start, end, both, options, options.forms[0], made.index):
@@ -159,7 +115,9 @@ def left_over(left: Any, both: Sequence[Side], options: Options) -> Any:
 
 
 def warn(frames: Sequence[Any], both: Sequence[Side], on: Names, options: Options) -> None:
-    """Warns of what may not be meant."""
+    """Warns of possible mistakes."""
+    if options.is_part:
+        return
     if on is None and options.left_on is None:
         doubts.of_no_columns(*(
             [name for name in names_of(frame) if name not in own] for frame, own in zip(frames, options.periods)
@@ -184,9 +142,6 @@ class Taken:
     frame: Any
     rows: Ints
     is_wide: bool
-
-    def labels(self) -> Any:
-        return missing.labels_at(self.frame, self.rows, self.is_wide)
 
     def period(self, names: Sequence[Any]) -> List[Column]:
         """The frame's own, as it is: two columns, or one of intervals, or a level of the index."""
@@ -217,19 +172,15 @@ class Taken:
         return missing.rows_at(with_labels_twice(columns), self.rows, self.is_wide)
 
 
-def sides_of(
-    frames: Sequence[Any], on: Names, options: Options, is_part: bool = False,
-) -> List[Side]:
-    """The rows of both frames, with their compared columns. Raises Refused.
-
-    is_part: of partitions, of which one may have no row where others have texts.
-    """
+def sides_of(frames: Sequence[Any], on: Names, options: Options) -> List[Side]:
+    """Returns the rows of both frames, with their compared columns. Raises Refused."""
     names = compared(on, options)
     for pair in zip(*([column_of(frame, name) for name in own] for frame, own in zip(frames, names))):
         refuse_float_beside_int(*pair)
     each = zip(frames, names, options.periods, options.forms)
     both = [sides.side_of(frame, own, period, form, options.decimals) for frame, own, period, form in each]
-    if not is_part:
+    if not options.is_part:
+        # A partition may have no row, while others have texts.
         both = [like(one, other) for one, other in (both, both[::-1])]
     for one, other in zip(both[0].columns, both[1].columns):
         refuse_two_kinds(one, other)

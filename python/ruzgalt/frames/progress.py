@@ -1,4 +1,4 @@
-"""How far a call is, on standard error: by tqdm where it is installed, else on the plain line that the tools have."""
+"""How long a call has taken, on standard error: by tqdm if it is installed, otherwise on a terminal's line."""
 from __future__ import annotations
 
 import os
@@ -10,7 +10,7 @@ from ruzgalt.progress import Line, Progress
 
 
 def is_terminal() -> bool:
-    """Whether standard error is one: IDLE says so of its own, and a notebook's has the number of another."""
+    """Returns whether standard error is a terminal. IDLE says so of its own, and a notebook's has another's number."""
     try:
         return sys.stderr.isatty() and os.isatty(sys.stderr.fileno())
     except (AttributeError, OSError, ValueError):
@@ -18,62 +18,46 @@ def is_terminal() -> bool:
 
 
 def is_shown(is_wanted: Optional[bool]) -> bool:
-    """Whether a line is shown, as progress= says."""
+    """Returns whether a line is shown, as progress= says."""
     return is_terminal() if is_wanted is None else is_wanted and sys.stderr is not None
 
 
 def of_call(call: str, is_wanted: Optional[bool]) -> ContextManager[Any]:
-    """Shows how far a call is, if that is wanted; a short call makes no thread if not."""
+    """Shows how long a call takes. If that isn't wanted, no thread is started."""
     if is_shown(is_wanted):
         return OfCall(call, True)
     return nullcontext()
 
 
 class OfCall(Progress):
-    """Of a call: the seconds since it began, or of so many partitions how many are done."""
+    """Shows the seconds since a call began."""
 
-    def __init__(self, call: str, is_wanted: Optional[bool], total: Optional[int] = None) -> None:
+    def __init__(self, call: str, is_wanted: Optional[bool]) -> None:
         super().__init__(f"ruzgalt.{call}", is_shown(is_wanted))
-        self.total, self.count = total, None if total is None else 0
-
-    @property
-    def done(self) -> str:
-        return super().done if self.total is None else f"{self.count:,} of {self.total:,} partitions"
 
     def new_line(self) -> Line:
         try:
             from tqdm.auto import tqdm  # type: ignore[import]  # It has no types.
         except (ImportError, Warning):
             # tqdm warns in a notebook without its widgets, and a warning may be an error.
-            return Line() if is_terminal() else Written()
-        return Bar(tqdm, self)
+            return Line() if is_terminal() else Nothing()
+        return Bar(tqdm)
 
 
-class Written(Line):
-    """A line where escapes of a terminal mean nothing."""
+class Nothing(Line):
+    """Shows nothing, since a pipe has no line to write anew."""
 
-    text = ""
-
-    def show(self, progress: Progress) -> None:
-        """Once, where it is what stands there: a pipe keeps all of it."""
-        text = f"{progress.what}: {progress.done}"
-        if text != self.text:
-            self.write(f"\r{text.ljust(len(self.text))}")
-            self.text = text
-
-    def take_away(self) -> None:
-        self.write(f"\r{' ' * len(self.text)}\r")
+    def write(self, text: str) -> None:
+        pass
 
 
 class Bar(Line):
-    """That of tqdm; where nobody knows how much there is to do, its line."""
+    """The line of tqdm, without its bar."""
 
-    def __init__(self, tqdm: Any, progress: OfCall) -> None:
-        form = "{desc}" if progress.total is None else "{desc} |{bar}|"
-        self.bar = tqdm(total=progress.total, desc=progress.what, bar_format=form, leave=False, file=sys.stderr)
+    def __init__(self, tqdm: Any) -> None:
+        self.bar = tqdm(bar_format="{desc}", leave=False, file=sys.stderr)
 
     def show(self, progress: Progress) -> None:
-        self.bar.n = progress.count or 0
         self.bar.set_description_str(f"{progress.what}: {progress.done}")
 
     def take_away(self) -> None:

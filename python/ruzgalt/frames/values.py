@@ -104,8 +104,8 @@ def bounds_of(dtype: Any) -> Tuple[int, int]:
 
 
 def numpys(dtype: Any) -> Any:
-    """Numpy's dtype of the numbers in a column of a dtype of pandas, which may be a sparse one."""
-    return dtype.subtype if isinstance(dtype, pd.SparseDtype) else getattr(dtype, "numpy_dtype", dtype)
+    """Returns numpy's dtype of the numbers in a column of a dtype of pandas."""
+    return getattr(dtype, "numpy_dtype", dtype)
 
 
 def categories_of(cells: Cells, dtype: Any) -> Any:

@@ -124,7 +124,7 @@ def call(name: str, *given: Any) -> int:
     code: int = getattr(library(), f"ruzgalt_{name}")(*words)
     if code == NO_MEMORY:
         reason = f"there is too little memory for {len(given[0]):,} rows"
-        raise OutOfMemory(f"libruzgalt: {reason}: give fewer rows in a call, of Dask more partitions by parts=")
+        raise OutOfMemory(f"libruzgalt: {reason}: give fewer rows in a call, of Dask more partitions")
     if code in FAULTS:
         raise ValueError(f"libruzgalt: {FAULTS[code]}")
     return code

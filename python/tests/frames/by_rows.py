@@ -62,7 +62,7 @@ class Kept(NamedTuple):
 
 
 def join(frames, given):
-    """given has periods and on, of each frame; how, labels and suffixes; and whether compared columns are shared."""
+    """given has periods and on, of each frame; how and suffixes; and whether compared columns are shared."""
     left, right = (
         list(zip(periods(frame, period), keys(frame, on))) for frame, period, on in zip(frames, given.periods, given.on)
     )
@@ -83,9 +83,6 @@ def beside(frames, found, given):
     """Columns of start, end and places of rows."""
     places = [[row[2 + side] for row in found] for side in (0, 1)]
     columns = [(name, None, [row[side] for row in found]) for side, name in enumerate(given.periods[0])]
-    if given.labels:
-        numbers = [list(range(len(frame[0][1]))) for frame in frames]
-        columns += zip(("left_label", "right_label"), (None, None), map(taken, numbers, places))
     for side, frame in enumerate(frames if given.keeps_periods else ()):
         for is_end, name in enumerate(given.periods[side]):
             own = [Kept(side, bool(is_end), day) for day in cells(frame, name)]

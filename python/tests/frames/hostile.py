@@ -1,6 +1,5 @@
 """What hypothesis draws: frames whose columns have the names of answers, or hardly any, and options of wrong types."""
 import datetime
-import decimal
 from dataclasses import dataclass, field
 from typing import Any
 
@@ -15,7 +14,7 @@ TEXTS = [
     "valid_from", "valid_to", "left_label", "right_label", "to_right", "id_left", "id_right", "Id", "ID ", " id", "",
     "größe", "gro\u0308ße", "x" * 33,
 ]
-ODD = [7, -1, 1.5, float("nan"), None, ("id", "a"), ("id",), datetime.date(2024, 1, 1), pd.NaT]
+ODD = [7, -1, 1.5, None, ("id", "a"), ("id",), datetime.date(2024, 1, 1), pd.NaT]
 NAMES = st.sampled_from(TEXTS) | st.sampled_from([*TEXTS, *ODD])
 KEYS = [st.sampled_from([1, 2]), st.booleans()]
 KEYS += [st.sampled_from(["", "a", "A", " a", "é", "e\u0301", 'a"b', "a,b", "001", "1", "a\0"])]
@@ -35,25 +34,25 @@ NO_PAIRS = ["ab", ("from",), ("from", "to", "id"), ("from", "from"), 5, ("from",
 WRONG = {
     "period": [*NO_PAIRS, None], **dict.fromkeys(("left_period", "right_period"), NO_PAIRS), "keep_periods": NO_FLAGS,
     "open_end": NO_FLAGS, "last_day": NO_FLAGS,
-    "labels": NO_FLAGS, "on": NO_NAMES, "by": NO_NAMES, "left_on": [*NO_NAMES, ["id", "id", "id"]],
+    "on": NO_NAMES, "by": NO_NAMES, "left_on": [*NO_NAMES, ["id", "id", "id"]],
     "suffixes": ["", "_l", (), ("_l",), ("_l", "_r", "_s"), (1, 2), None, {"_l": "_r"}, (b"_l", "_r")],
-    "workers": [0, -1, 65, True, 1.0, "4", None, [4]], "parts": [0, -1, 2.0, "2", True],
+    "workers": [0, -1, 65, True, 1.0, "4", None, [4]],
     "decimals": [2, "id", None, [("id", 2)], {"id": 2.0}, {"id": True}, {"id": -1}, {"id": 19}, {"id": None}],
-    "points_as": ["W", "", 1, ["S"], True], "onn": ["id"], "how": ["", "Left", "cross", True, None, ["left"], 1],
-    "mean_as": ["", "Float", float, None, True], "each": ["", "month", "m", "MQ", None, ["M"]], "exact": NO_FLAGS,
+    "onn": ["id"], "how": ["", "Left", "cross", True, None, ["left"], 1],
+    "each": ["", "month", "m", "MQ", None, ["M"]], "exact": NO_FLAGS,
     "amount": ["", None, "total", "month", "per Month", "per decade", 1, ["in total"]],
     "within": ["2024", 5, (FIRST,), {FIRST: FIRST}, (None, None), (FIRST, FIRST)],
     "progress": [one for one in NO_FLAGS if one is not None],
 }
 OF_ALL = ["period", "open_end", "last_day", "workers", "progress", "onn"]
-OF_PAIRS = ["right_period", "left_period", "on", "left_on", "parts", "decimals", "points_as"]
+OF_PAIRS = ["right_period", "left_period", "on", "left_on", "decimals"]
 OF_CALL = {
-    "join": [*OF_PAIRS, "labels", "suffixes", "how", "keep_periods"],
-    "anti": OF_PAIRS, "agg": ["by", "parts", "decimals", "points_as"],
+    "join": [*OF_PAIRS, "suffixes", "how", "keep_periods"],
+    "anti": OF_PAIRS, "agg": ["by", "decimals"],
     "at": [], "dip": ["by", "decimals"],
-    **dict.fromkeys(("coalesce", "gaps"), ["by", "parts", "decimals", "points_as"]),
-    "spread": ["by", "parts", "decimals", "points_as", "amount", "each", "exact", "within"],
-    "overlaps": ["by", "parts", "decimals", "points_as", "labels", "suffixes", "keep_periods"],
+    **dict.fromkeys(("coalesce", "gaps"), ["by", "decimals"]),
+    "spread": ["by", "decimals", "amount", "each", "exact", "within"],
+    "overlaps": ["by", "decimals", "suffixes", "keep_periods"],
 }
 # Calls of two frames; the others are of the first one.
 OF_TWO = ("join", "anti")
@@ -61,11 +60,6 @@ NO_FUNCTIONS = [
     ("summ", "id"), (None, None), (["sum"], "id"), ("Count", None), ("sum", None), ("count", "id"), ("sum", ["id"]),
     ({},), ({"id": "sum"}, "id"), ({"id": ["sum", "sum"]},), ({"id": []},), ({"id": {"sum"}},), ({None: "count"},),
 ]
-# A mean as it comes.
-MEANS = {
-    "float": float, "Fraction": lambda one: one,
-    "Decimal": lambda one: decimal.Decimal(one.numerator) / decimal.Decimal(one.denominator),
-}
 AMOUNTS = [st.integers(-3, 3), st.booleans(), st.sampled_from([0.25, -1.5, 2.75])]
 # What an amount is.
 WHAT = st.sampled_from(["in total", *(f"per {piece}" for piece in ("day", "week", "month", "quarter", "year"))])
@@ -87,7 +81,6 @@ class Case:
     periods: Any
     on: Any
     is_shared: bool
-    labels: bool
     suffixes: Any
     how: Any
     keeps_periods: bool
@@ -219,7 +212,7 @@ def cases(draw, call):
     if rarely(draw):
         periods, on, amount = leveled(periods), leveled(on), level(amount)
         columns = [[(level(name), answered) for name, answered in frame] for frame in columns]
-    of_answer = draw(st.booleans()), draw(SUFFIXES), draw(HOWS), draw(st.booleans())
+    of_answer = draw(SUFFIXES), draw(HOWS), draw(st.booleans())
     case = Case(kind, has_last_days, periods, on, is_shared, *of_answer, columns)
     case.frames = [case.frame(0), case.frame(1)]
     given = [by_rows.periods(*answered) for answered in zip(columns, periods)][:2 if call in OF_TWO else 1]
@@ -253,7 +246,7 @@ def options(draw, call, case, are_open):
         found[other] = several(case.periods[1])
         found.update(compared(draw, case, several))
     if call in ("join", "overlaps"):
-        found.update(labels=flag(case.labels), suffixes=several(case.suffixes), keep_periods=flag(case.keeps_periods))
+        found.update(suffixes=several(case.suffixes), keep_periods=flag(case.keeps_periods))
     if call == "join":
         found["how"] = case.how
     if "by" in OF_CALL[call]:
@@ -292,7 +285,6 @@ def draw_asked(draw, case, amount):
     cells = by_rows.cells(case.columns[0], amount)
     if dtype_of(cells) == "float64" and any(one != "count" for one, _ in case.measures):
         case.options["decimals"] = {amount: draw(st.sampled_from([2, 3, np.int8(2)]))}
-    case.options["mean_as"] = draw(st.sampled_from(sorted(MEANS)))
     if rarely(draw):
         case.asked, case.is_right = draw(st.sampled_from(NO_FUNCTIONS)), False
 

@@ -6,6 +6,7 @@ import unittest
 import numpy as np
 import pandas as pd
 
+import labels
 import ruzgalt
 
 pa = importlib.import_module("pyarrow") if importlib.util.find_spec("pyarrow") else None
@@ -66,7 +67,7 @@ class Arrow(unittest.TestCase):
         for kind, key in keys():
             with self.subTest(kind):
                 left, right = (frame(rows, pa.date32(), kind, key) for rows in (LEFT, RIGHT[:2]))
-                got = ruzgalt.join(left, right, on="k", labels=True, open_end=True)
+                got = labels.join(left, right, on="k", open_end=True)
                 wanted = [row for row in pairs() if row[3] < 2]
                 self.assertEqual(list(zip(got["left_label"], got["right_label"])), [row[2:] for row in wanted])
                 cells = [key(LEFT[row[2]][2]) for row in wanted]
@@ -78,7 +79,7 @@ class Arrow(unittest.TestCase):
         for kind in points():
             with self.subTest(kind):
                 left, right = frame(LEFT, kind), frame(RIGHT, kind)
-                got = ruzgalt.join(left, right, on="k", labels=True, open_end=True)
+                got = labels.join(left, right, on="k", open_end=True)
                 self.assertEqual([got[name].dtype for name in ("from", "to")], [left["from"].dtype] * 2)
                 found = [list(map(number, got[name])) for name in ("from", "to")]
                 rows = [(*row[:2], *row[2:]) for row in zip(*found, got["left_label"], got["right_label"])]

@@ -3,6 +3,7 @@ import copy
 import datetime
 import pickle
 import unittest
+import warnings
 
 import numpy as np
 import pandas as pd
@@ -98,6 +99,44 @@ class Divisions(unittest.TestCase):
         self.assertEqual(list(division.parts), ["part", "row_id"])
         self.assertEqual(division.parts["row_id"].tolist(), [1, 2])
         self.assertRaisesRegex(ruzgalt.Refused, "division.parts", lambda: division["row_id"])
+
+
+class Checks(unittest.TestCase):
+    def setUp(self):
+        self.frame = pd.concat([frame(FIRST, LAST), frame(FIRST, LAST).set_axis(["u", "v"])]).assign(bed=[1, 2, 3, 1])
+
+    def test_an_overlap_has_its_rows_their_part_and_the_time_that_they_share(self):
+        checked = ruzgalt.check(self.frame, part="bed")
+        self.assertEqual((bool(checked), checked.rows, checked.part), (False, ("x", "v"), 1))
+        self.assertEqual((checked.start, checked.end), (FIRST[1], LAST[0]))
+        self.assertEqual((checked.count, checked.least), (3, 4))
+        said = "No: rows 'x' and 'v' of part 1 both hold from 2024-02-01 to 2024-03-01."
+        self.assertEqual(repr(checked), said)
+
+    def test_parts_may_be_several_columns_and_more_than_are_needed(self):
+        wards = self.frame.assign(ward=["A", "A", "A", "B"], bed=["1", "2", "3", "1"])
+        checked = ruzgalt.check(wards, part=["ward", "bed"])
+        self.assertTrue(checked)
+        self.assertEqual((checked.count, checked.least, checked.rows), (4, 4, ()))
+        apart = frame(FIRST, FIRST + pd.Timedelta(days=3)).assign(bed=["1", "2"])
+        self.assertIn("The rows have 2 parts, and 1 are enough", repr(ruzgalt.check(apart, part="bed")))
+        self.assertTrue(ruzgalt.check(wards.iloc[:0], part="bed"))
+
+    def test_it_agrees_with_pairs_that_overlap(self):
+        random = np.random.default_rng(5)
+        for _ in range(30):
+            start = pd.Timestamp("2024-01-10") + pd.to_timedelta(random.integers(0, 9, 5), unit="D")
+            rows = pd.DataFrame({"from": start, "to": start + pd.to_timedelta(random.integers(1, 4, 5), unit="D")})
+            rows["bed"] = random.integers(0, 3, 5)
+            with warnings.catch_warnings():
+                warnings.simplefilter("ignore", ruzgalt.Doubt)
+                self.assertEqual(bool(ruzgalt.check(rows, "bed")), not len(ruzgalt.overlaps(rows, "bed")))
+
+    def test_what_is_no_part_is_refused(self):
+        missing = self.frame.assign(bed=pd.array([1, pd.NA, 2, 3], "Int64"))
+        for given, part in ((self.frame, None), (self.frame, "room"), (missing, "bed"), (self.frame["bed"], "bed")):
+            with self.assertRaises(ruzgalt.Refused):
+                ruzgalt.check(given, part=part)
 
 
 if __name__ == "__main__":

@@ -8,7 +8,7 @@ import numpy as np
 import pandas as pd
 
 import ruzgalt
-from ruzgalt.frames import doubts
+from ruzgalt.frames import doubts, errors
 
 DAYS = pd.to_datetime
 HALVES = ["2024-01-01", "2024-07-01"]
@@ -54,6 +54,28 @@ class Doubts(unittest.TestCase):
             self.warns(lambda: ruzgalt.anti(left, right, on="person"), repr(one), repr(other))
             both = pd.concat([left, right])
             self.warns(lambda: ruzgalt.agg(both, "count", by="person"), repr(one), repr(other), "two groups")
+
+    def test_keys_without_a_common_value(self):
+        left, right = pay(["Ada", "Hill", "Byron"]), pay(["11", "12", "13"])
+        self.warns(lambda: ruzgalt.join(left, right, on="person"), "'person'", "'Ada' and '11'", "columns to compare")
+        one, other = (pay(numbers) for numbers in ([1, 2, 3], [4, 5, 6]))
+        self.warns(lambda: ruzgalt.anti(one, other, on="person"), "1 and 4")
+        self.assertEqual(self.reported(lambda: ruzgalt.join(left, right.iloc[:2], on="person")), [])
+        self.assertEqual(self.reported(lambda: ruzgalt.join(left, left.iloc[2:], on="person")), [])
+
+    def test_blank_keys_that_match(self):
+        for blank in ("", "  "):
+            rows = pay(["Ada", blank])
+            self.warns(lambda: ruzgalt.join(rows, rows, on="person"), repr(blank), "are equal", "str.strip() != ''")
+            self.assertEqual(self.reported(lambda: ruzgalt.agg(rows, "count", by="person")), [])
+
+    def test_the_line_is_the_caller_s_also_if_its_path_begins_as_the_package_s(self):
+        file = f"{errors.PACKAGE.rstrip('/')}_scripts.py"
+        rows = pay(["Ada", ""])
+        with warnings.catch_warnings(record=True) as found:
+            warnings.simplefilter("always")
+            exec(compile("ruzgalt.join(rows, rows, on='person')", file, "exec"), {"ruzgalt": ruzgalt, "rows": rows})
+        self.assertEqual([(one.filename, one.lineno) for one in found], [(file, 1)])
 
     def test_texts_of_floats_that_look_like_those_of_whole_numbers(self):
         floats, whole = (pay(pd.Series([1, 20], dtype=dtype).astype(str)) for dtype in ("float64", "int64"))

@@ -22,8 +22,6 @@ class Frames(unittest.TestCase):
     def test_labels_of_several_levels(self):
         labels = pd.MultiIndex.from_tuples([("a", 1), ("a", 2), ("b", 1), ("b", 1)])
         frame = pay().set_index(labels)
-        got = ruzgalt.join(frame, frame, on="person", labels=True)
-        self.assertEqual(got["left_label"].tolist(), labels.tolist())
         self.assertEqual(ruzgalt.anti(frame, frame.iloc[:1], on="person").index.tolist(), labels.tolist()[1:])
         with self.assertRaises(ruzgalt.Refused) as caught:
             ruzgalt.dip(frame.assign(to=pd.NaT))

@@ -15,7 +15,7 @@ if not importlib.util.find_spec("hypothesis"):
     raise unittest.SkipTest("hypothesis isn't here: apt-get install python3-hypothesis")
 from hypothesis import HealthCheck, given, settings, strategies as st  # noqa: E402
 
-from hostile import MEANS, cases  # noqa: E402
+from hostile import cases  # noqa: E402
 
 EXAMPLES = int(os.environ.get("FRAMES_HOSTILE", "50"))
 MANY = settings(
@@ -75,7 +75,7 @@ class Hostile(unittest.TestCase):
             found = by_rows.agg(case.columns[0], case.measures, case)
             for row in found[1] if found else ():
                 for place, (function, _) in enumerate(case.measures, len(row) - len(case.measures)):
-                    row[place] = MEANS[case.options["mean_as"]](row[place]) if function == "mean" else row[place]
+                    row[place] = float(row[place]) if function == "mean" else row[place]
             return found
 
         asked = lambda: ruzgalt.agg(case.frames[0], *case.asked, **case.options)  # noqa: E731

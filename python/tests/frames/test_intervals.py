@@ -73,17 +73,6 @@ class Intervals(unittest.TestCase):
         pd.testing.assert_frame_equal(got, wanted.set_index(["span", "k"]))
         self.assertEqual(ruzgalt.dip(one, period="span").count, ruzgalt.dip(left).count)
 
-    def test_points_come_in_a_unit_of_datetime64(self):
-        left, right = self.both[0]
-        days = right.assign(**{name: right[name].dt.floor("D").dt.to_period("D") for name in ("from", "to")})
-        days = days[days["from"] < days["to"]]
-        wanted = ruzgalt.join(left, days, on="k", points_as="ns")
-        self.same(ruzgalt.join(spanned(left), days, on="k", period="span", right_period=("from", "to")), wanted)
-        words = {"on": "k", "period": "span"}
-        for asked in ("S", "D", "date"):
-            self.refuses("BadCommand", f"points_as='{asked}'", lambda: ruzgalt.join(
-                spanned(left), spanned(right), points_as=asked, **words))
-
     def test_a_store_has_intervals(self):
         left, right = self.both[0]
         pairs, spans = ruzgalt.Store(), ruzgalt.Store()
@@ -140,93 +129,17 @@ class Intervals(unittest.TestCase):
 
 @unittest.skipUnless(importlib.util.find_spec("dask"), "Dask isn't here: apt-get install python3-dask")
 class OfDask(unittest.TestCase):
-    """Random ones are in test_random_spread.py."""
-
-    def setUp(self):
-        self.frame = spanned(frame(1))
-
-    def spread(self, one):
+    def test_intervals_are_refused(self):
         import dask
         import dask.dataframe as dd
-        # Where pyarrow is, Dask without its query planner makes texts of objects, and fails of intervals as it does.
+        one, two = spanned(frame(1)), frame(1)
         with dask.config.set({"dataframe.convert-string": False}):
-            return dd.from_pandas(one, npartitions=3, sort=False)
-
-    def same(self, got, wanted, **words):
-        """Equal but for the order of partitions."""
-        found = computed(got)
-        self.assertEqual(got.dtypes.to_dict(), wanted.dtypes.to_dict())
-        both = [one.sort_values(list(one), key=str_of, kind="stable").reset_index(**words) for one in (found, wanted)]
-        pd.testing.assert_frame_equal(*both)
-
-    def test_zones_and_one_side_of_two_columns(self):
-        for zone in (None, "Europe/Berlin"):
-            left, right = frame(1, zone=zone), frame(2, zone=zone)
-            one, words = self.spread(spanned(left)), {"on": "k", "period": "span"}
-            self.same(ruzgalt.join(one, spanned(right), **words, keep_periods=True),
-                      ruzgalt.join(spanned(left), spanned(right), **words, keep_periods=True), drop=True)
-            self.same(ruzgalt.join(one, right, right_period=("from", "to"), **words),
-                      ruzgalt.join(spanned(left), right, right_period=("from", "to"), **words), drop=True)
-            self.same(ruzgalt.gaps(one, "k", period="span"), ruzgalt.gaps(spanned(left), "k", period="span"), drop=True)
-
-    def test_other_intervals_and_labels_come_back(self):
-        """Closed on any side, of numbers and of points, and missing ones."""
-        count = len(self.frame)
-        times = pd.interval_range(pd.Timestamp("2024-01-01", tz="Asia/Tokyo"), periods=count, closed="both")
-        others = {
-            "right": pd.interval_range(0, count), "neither": pd.interval_range(0.5, count + 0.5, closed="neither"),
-            "both": times.where(self.frame["x"] > 4), "long": pd.interval_range(pd.Timedelta(0), periods=count),
-            "parts": pd.cut(self.frame["x"], 3),
-        }
-        given = self.frame.assign(**others).set_axis(pd.interval_range(0, count, name="label", closed="both"))
-        words = {"on": "k", "period": "span"}
-        for labels in (given.index, pd.Index(list("aab" * 4), name="label")):
-            one = given.set_axis(labels)
-            wanted = ruzgalt.anti(one, one.iloc[:3], **words)
-            self.same(ruzgalt.anti(self.spread(one), one.iloc[:3], **words), wanted)
-            self.assertEqual(self.spread(one).index.dtype, wanted.index.dtype)
-
-    def test_refusals_are_those_of_frames_of_pandas(self):
-        """Of a dtype and of options when it is asked, of rows when it is computed."""
-        closed = self.frame.assign(span=self.frame["span"].array.set_closed("both"))
-        missing = self.frame.assign(span=self.frame["span"].where(self.frame.index != "c"))
-        words = {"period": "span"}
-        for ask in (
-            lambda one, **words: ruzgalt.join(one, self.frame, on="k", **words),
-            lambda one, **words: ruzgalt.anti(self.frame, one, on="k", **words),
-            lambda one, **words: ruzgalt.agg(one, "max", "x", by="k", **words),
-            lambda one, **words: ruzgalt.coalesce(one, "k", **words),
-        ):
-            self.are_refused(lambda one: ask(one, **words), closed)
-            self.are_refused(lambda one: ask(one, **words, open_end=True), self.frame)
-            self.are_refused(lambda one: computed(ask(one, **words)), missing)
-        # Without groups the frame is read as it is asked.
-        self.are_refused(lambda one: ruzgalt.agg(one, "count", **words), missing)
-
-    def are_refused(self, ask, frame):
-        """What is asked of the frame, and of that as one of Dask, in the same words."""
-        reasons = []
-        for one in (frame, self.spread(frame)):
-            with self.assertRaises(ruzgalt.Refused) as caught:
-                ask(one)
-            reasons.append((str(caught.exception), caught.exception.name, caught.exception.label))
-        self.assertEqual(*reasons)
-
-    def test_names_of_sides_are_refused(self):
-        taken = self.frame.rename(columns={"x": "_ruzgalt_right0"})
-        with self.assertRaises(ruzgalt.Refused) as caught:
-            ruzgalt.agg(self.spread(taken), "count", by="k", period="span")
-        self.assertEqual((caught.exception.name, caught.exception.column), ("BadName", "_ruzgalt_right0"))
-        got = ruzgalt.agg(self.spread(taken), "max", "_ruzgalt_right0", period="span")
-        self.same(got, ruzgalt.agg(taken, "max", "_ruzgalt_right0", period="span"), drop=True)
-
-
-def str_of(column):
-    return column.map(str)
-
-
-def computed(answer):
-    return answer.compute(scheduler="sync")
+            spread, other = (dd.from_pandas(frame, npartitions=3, sort=False) for frame in (one, two))
+        for asked in (lambda: ruzgalt.agg(spread, "count", by="k", period="span"),
+                      lambda: ruzgalt.at(spread, "2024-01-01", period="span"),
+                      lambda: ruzgalt.join(other, one, on="k", right_period="span")):
+            with self.assertRaisesRegex(ruzgalt.Refused, "array.left"):
+                asked()
 
 
 if __name__ == "__main__":

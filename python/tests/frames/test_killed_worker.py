@@ -61,7 +61,7 @@ class KilledWorker(unittest.TestCase):
                 name = random.choice(list(QUESTIONS))
                 with self.subTest(run=run, question=name):
                     client.wait_for_workers(3, timeout=120)
-                    lazy = QUESTIONS[name](spread(100), spread(200), parts=random.randint(2, 7))
+                    lazy = QUESTIONS[name](spread(100), spread(200))
                     future = client.compute(lazy, pure=False)
                     victim = random.choice(cluster.workers)
                     # As it makes rows, sends or fetches them, or answers.

@@ -5,6 +5,7 @@ import unittest
 import numpy as np
 import pandas as pd
 
+import labels
 import ruzgalt
 
 DAY = datetime.timedelta(days=1)
@@ -44,7 +45,7 @@ class Bools(unittest.TestCase):
             for other in self.DTYPES:
                 with self.subTest((one, other)):
                     left, right = self.of(one), self.of(other, ROWS[::-1])
-                    got = ruzgalt.join(left, right, on="k", labels=True)
+                    got = labels.join(left, right, on="k")
                     wanted = pairs(ROWS, ROWS[::-1])
                     self.assertEqual(found(got), wanted)
                     self.assertEqual(got["k"].dtype, left["k"].dtype)
@@ -132,7 +133,7 @@ class NotCompared(unittest.TestCase):
         for cells, dtype in columns:
             one = frame(ROWS, cells, dtype, "other").assign(k=1)
             with self.subTest(dtype):
-                got = ruzgalt.join(one, frame(rows, [1] * 4), on="k", labels=True)
+                got = labels.join(one, frame(rows, [1] * 4), on="k")
                 self.assertEqual(found(got), wanted)
                 given = one["other"].take([row[2] for row in wanted]).reset_index(drop=True)
                 pd.testing.assert_series_equal(got["other"], given)
@@ -140,18 +141,17 @@ class NotCompared(unittest.TestCase):
                 pd.testing.assert_series_equal(left["other"], one["other"].take([0, 1, 1, 3]))
 
 
-class Sparse(unittest.TestCase):
-    def test_they_come_back_as_they_are(self):
-        for cells, dtype, decimals in (
-            ([3, 0, 3, 1], "uint8", {}), ([True, False] * 2, "bool", {}), ([1.5, 0.0, 2.5, 0.0], "float64", {"k": 1}),
-        ):
-            one, made = frame(ROWS, cells, f"Sparse[{dtype}]"), ruzgalt.Store()
-            with self.subTest(dtype):
-                made.table("t", one, decimals=decimals)
-                pd.testing.assert_frame_equal(made.rows("t").drop(columns="row_id"), one)
-                got = ruzgalt.agg(one, "max", "k", decimals=decimals)["max_k"]
-                wanted = ruzgalt.agg(frame(ROWS, cells, dtype), "max", "k", decimals=decimals)["max_k"]
-                pd.testing.assert_series_equal(got, wanted.astype(one["k"].dtype))
+class Odd(unittest.TestCase):
+    def test_sparse_columns_and_such_that_are_named_nan_are_refused(self):
+        one = frame(ROWS, [3, 0, 3, 1], "Sparse[uint8]")
+        for other, name, remedy in ((one, "WrongKind", "to_dense"),
+                                    (one.rename(columns={"k": float("nan")}), "WrongKind", "to_dense"),
+                                    (frame(ROWS, [1] * 4).rename(columns={"k": float("nan")}), "BadName", "rename")):
+            for asked in (lambda: ruzgalt.agg(other, "count"), lambda: ruzgalt.Store().table("t", other),
+                          lambda: ruzgalt.join(other, other, on=[])):
+                with self.assertRaisesRegex(ruzgalt.Refused, remedy) as caught:
+                    asked()
+                self.assertEqual(caught.exception.name, name)
 
 
 class Intervals(unittest.TestCase):
@@ -177,7 +177,7 @@ class Units(unittest.TestCase):
                 with self.subTest((one, other)):
                     left, right = self.of(ROWS, one), self.of(ROWS[::-1], other)
                     for pair in ((left, right), (right, left)):
-                        got = ruzgalt.join(*pair, on="k", labels=True)
+                        got = labels.join(*pair, on="k")
                         wanted = pairs(ROWS, ROWS[::-1]) if pair[0] is left else pairs(ROWS[::-1], ROWS)
                         self.assertEqual(found(got), wanted)
                         self.assertEqual({str(got[name].dtype) for name in ("from", "to")}, {f"datetime64[{other}]"})

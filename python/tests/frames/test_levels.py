@@ -5,6 +5,7 @@ import warnings
 
 import pandas as pd
 
+import labels
 import ruzgalt
 
 DAYS = pd.to_datetime
@@ -41,7 +42,7 @@ class Levels(unittest.TestCase):
 
     def test_each_side_may_have_its_own(self):
         right = in_index(RIGHT.rename(columns={"k": "who"}), "who")
-        got = ruzgalt.join(in_index(LEFT, "k"), right, left_on="k", right_on="who", labels=True)
+        got = labels.join(in_index(LEFT, "k"), right, left_on="k", right_on="who")
         wanted = ruzgalt.join(LEFT, RIGHT, left_on="k", right_on="k")
         self.assertEqual(got["k"].tolist(), wanted["k_left"].tolist())
         self.assertEqual(got["who"].tolist(), wanted["k_right"].tolist())

@@ -58,19 +58,16 @@ def cut(rows):
 
 class Measures(unittest.TestCase):
     @MANY
-    @given(ROWS, FUNCTIONS, st.sampled_from([None, 2, 18]), st.sampled_from(["float", "Fraction", "Decimal"]))
-    def test_they_are_those_of_days(self, rows, functions, digits, mean_as):
+    @given(ROWS, FUNCTIONS, st.sampled_from([None, 2, 18]))
+    def test_they_are_those_of_days(self, rows, functions, digits):
         rows, scale = cut(rows), 10**(digits or 0)
         asked = [Measure(one, "n", one != "count") for one in functions]
         column = Values("n", "int", np.empty(0, np.int64), Texts(), np.dtype(object if digits else "int64"), digits)
-        start, end, group, *values = measures.measured_by(answer_of(rows), asked)
-        columns = [list(answered) for _, answered in measures.columns_of(values, asked, {"n": column}, mean_as)]
-        means = {
-            "float": lambda mean: float(mean), "Fraction": lambda mean: mean,
-            "Decimal": lambda mean: Decimal(mean.numerator) / Decimal(mean.denominator),
-        }
+        found = {one: answer_of(rows)(one) for one in measures.asks_of(asked)}
+        start, end, group, *values = measures.together(found, asked)
+        columns = [list(answered) for _, answered in measures.columns_of(values, asked, {"n": column}, "float")]
         restored = {
-            "count": lambda number: number, "mean": lambda mean: means[mean_as](mean / scale),
+            "count": lambda number: number, "mean": lambda mean: float(mean / scale),
             **dict.fromkeys(("sum", "min", "max"), lambda number: Decimal(f"{number}E-{digits}") if digits else number),
         }
         wanted = [

@@ -8,6 +8,7 @@ from random import Random
 
 import pandas as pd
 
+import labels
 import ruzgalt
 
 # The first month; of a quarter and a year so many.
@@ -68,7 +69,7 @@ class Months(unittest.TestCase):
             words = {"last_day": random.random() < 0.5}
             one, other = frame(left, freq), frame(right, freq)
             with self.subTest((seed, freq)):
-                got = ruzgalt.join(one, other, on="k", labels=True, **words)
+                got = labels.join(one, other, on="k", **words)
                 self.assertEqual(rows_in(got, "left_label", "right_label"), joined(left, right))
                 self.assertEqual((got["from"].dtype, got["to"].dtype), (one["from"].dtype,) * 2)
                 wanted = runs([sum(row[0] <= place <= row[1] for row in left) for place in range(20)])
@@ -86,10 +87,6 @@ class Months(unittest.TestCase):
         got = ruzgalt.join(one, days, on="k")
         self.assertEqual([str(got[name][0]) for name in ("from", "to")], ["2023-03-31 00:00:00", "2023-04-01 00:00:00"])
         self.assertEqual(len(got), 1)
-        got = ruzgalt.agg(one, "count", points_as="D")
-        self.assertEqual([str(got[name][0]) for name in ("from", "to")], ["2023-01-01", "2023-04-01"])
-        got = ruzgalt.agg(one, "count", points_as="date", last_day=True)
-        self.assertEqual(got["to"].tolist(), [datetime.date(2023, 3, 31)])
         self.assertEqual(ruzgalt.dip(one).instant, one["from"][0])
 
     def test_a_month_beside_a_quarter_comes_as_points(self):

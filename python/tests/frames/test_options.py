@@ -18,16 +18,16 @@ NO_PAIRS = (True, ("from",), ("from", "to", "k"), ["from", "from"], pd.Index(["f
 WRONG = {
     "on": NO_NAMES, "left_on": NO_NAMES, "right_on": NO_NAMES, "by": NO_NAMES, "period": (*NO_PAIRS, None),
     **dict.fromkeys(("left_period", "right_period"), NO_PAIRS), "keep_periods": NO_FLAGS,
-    "open_end": NO_FLAGS, "last_day": NO_FLAGS, "labels": NO_FLAGS,
+    "open_end": NO_FLAGS, "last_day": NO_FLAGS,
     "suffixes": (("_l",), "", (), "_l", ("_l", "_r", "_s"), (1, 2), None, {"_l": "_r"}),
-    "workers": (0, -1, 65, 1.0, "4", True, None), "parts": (0, -1, 2.0, True),
+    "workers": (0, -1, 65, 1.0, "4", True, None),
     "decimals": (2, "k", None, [("k", 2)], {"k": 2.0}, {"k": -1}, {"k": 19}, {"k": True}),
-    "points_as": ("W", "", 5, ["S"]), "how": ("", "Left", "cross", True, None, ["left"]),
-    "mean_as": ("", "Float", float, None), "within": ("2024", 5, ("2024-01-01",), {"2024-01-01": "2025-01-01"}),
+    "how": ("", "Left", "cross", True, None, ["left"]),
+    "within": ("2024", 5, ("2024-01-01",), {"2024-01-01": "2025-01-01"}),
     "amount": ("month", "", None, ["per month"]), "each": ("month", "", "m", None, ["M"]), "exact": NO_FLAGS,
     "progress": [one for one in NO_FLAGS if one is not None],
 }
-OF_AGG = ("by", "mean_as", "period", "open_end", "last_day", "workers", "parts", "decimals", "points_as", "progress")
+OF_AGG = ("by", "period", "open_end", "last_day", "workers", "decimals", "progress")
 OF_DIP = ("period", "open_end", "last_day", "workers", "progress")
 # Of a frame's groups.
 SPREAD = functools.partial(ruzgalt.spread, column="x", amount="per month")
@@ -75,7 +75,7 @@ class Types(unittest.TestCase):
         self.refuses("columns", lambda: ruzgalt.agg(FRAME, "sum", ["x"]), "column=['x']")
 
     def test_each_right_type_is_taken(self):
-        words = {"on": ("k",), "period": ["from", "to"], "open_end": np.bool_(True), "labels": np.bool_(False)}
+        words = {"on": ("k",), "period": ["from", "to"], "open_end": np.bool_(True)}
         got = ruzgalt.join(FRAME, FRAME, suffixes=["_l", None], workers=np.int8(2), decimals={}, **words)
         self.assertEqual(list(got.columns), ["from", "to", "k", "x_l", "x"])
         self.assertEqual(ruzgalt.agg(FRAME, "count", by=[])["count"].tolist(), [1])
@@ -96,7 +96,7 @@ class Signatures(unittest.TestCase):
                 self.assertNotIn(inspect.Parameter.VAR_KEYWORD, kinds.values())
                 named = {name for name, kind in kinds.items() if kind is inspect.Parameter.KEYWORD_ONLY}
                 self.assertLessEqual({"period", "open_end", "last_day", "workers"}, named)
-                self.assertLessEqual(named, {"column", *options.CHECKS})
+                self.assertLessEqual(named, {"column", *options.OPTIONS})
         of_table = inspect.signature(ruzgalt.Store.table).parameters
         self.assertLessEqual(set(options.OF_TABLE), set(of_table))
 
@@ -133,11 +133,6 @@ class Suffixes(unittest.TestCase):
             self.assertEqual((caught.exception.name, caught.exception.column), ("TwiceNamed", column))
 
     def test_words_of_the_answer_stay_and_columns_move(self):
-        left = FRAME.rename(columns={"x": "left_label"}).assign(right_label="mine")
-        got = ruzgalt.join(left, FRAME, on="k", labels=True)
-        names = ["from", "to", "left_label", "right_label", "k", "left_label_left", "right_label_left", "x"]
-        self.assertEqual(list(got.columns), names)
-        self.assertEqual(got.iloc[0].tolist()[2:], [0, 0, "a", 1, "mine", 1])
         other = FRAME.rename(columns={"from": "start", "to": "end", "x": "from"})
         got = ruzgalt.join(FRAME, other, on="k", right_period=("start", "end"))
         self.assertEqual(list(got.columns), ["from", "to", "k", "x", "from_right"])
@@ -147,6 +142,10 @@ class Suffixes(unittest.TestCase):
         one = FRAME.set_axis(pd.Index(names, dtype=object), axis=1)
         got = ruzgalt.join(one, FRAME, left_on=[None], right_on="k", right_period=("from", "to"))
         self.assertEqual(list(map(repr, got.columns)), list(map(repr, [*names, "k", "x"])))
+        tuples = FRAME.set_axis(pd.Index(["from", "to", 2, ("a", 1)], dtype=object, tupleize_cols=False), axis=1)
+        self.assertEqual(list(ruzgalt.agg(tuples, "count", by=np.int64(2)).columns), [2, "from", "to", "count"])
+        got = ruzgalt.join(tuples, tuples, on=np.int64(2))
+        self.assertEqual(list(got.columns)[2:], [2, "('a', 1)_left", "('a', 1)_right"])
         # Of 0, 1 and None alone pandas makes floats.
         numbers = FRAME.drop(columns="x").set_axis(pd.Index([0, 1, None], dtype=object), axis=1)
         self.assertEqual(list(ruzgalt.join(numbers, numbers, on=[None], period=(0, 1)).columns), [0, 1, None])

@@ -77,19 +77,6 @@ class Points(unittest.TestCase):
             found = [joint_kind(Kind(first), Kind(second)) for first, second in ((one, other), (other, one))]
             self.assertEqual(found, [Kind(wanted)] * 2)
 
-    def test_other_points_may_be_asked_for(self):
-        frame = pd.DataFrame({"from": objects(datetime.date(2024, 1, 1)), "to": objects(datetime.date(9999, 12, 31))})
-        got = ruzgalt.agg(frame, "count", points_as="S")
-        self.assertEqual(list(map(str, got["to"])), ["9999-12-31 00:00:00"])
-        self.assertEqual(ruzgalt.agg(frame, "count")["to"].tolist(), [datetime.date(9999, 12, 31)])
-        for unit in ("us", "ms", "s"):
-            with self.subTest(unit):
-                try:
-                    self.assertEqual(str(ruzgalt.agg(frame, "count", points_as=unit)["to"][0]), "9999-12-31 00:00:00")
-                except ruzgalt.Refused as refused:
-                    # Of pandas 1.5, which has ns alone.
-                    self.assertEqual((refused.name, pd.Series(np.zeros(1, "M8[s]")).dtype), ("BadPoint", "M8[ns]"))
-
     def test_last_days_come_back(self):
         days = pd.to_datetime
         frame = pd.DataFrame({"from": days(["2024-01-01", "2024-01-31"]), "to": days(["2024-01-31", "2024-02-29"])})

@@ -30,6 +30,7 @@ class Watched(unittest.TestCase):
         self.addCleanup(stack.close)
         stack.enter_context(contextlib.redirect_stderr(self.said))
         stack.enter_context(mock.patch.multiple(Progress, PATIENCE=0.001, PAUSE=0.001))
+        self.is_terminal = stack.enter_context(mock.patch.object(progress, "is_terminal", return_value=True))
         self.show_tqdm(False)
         self.addCleanup(self.show_tqdm)
 
@@ -61,11 +62,11 @@ class Watched(unittest.TestCase):
         self.said.truncate()
 
     def is_gone(self, form):
-        """That lines of this form were shown, and blanks over the last one of each run."""
-        *shown, last = re.findall("[^\r]+", self.said.getvalue())
-        lines = [one for one in shown if one.strip()]
+        """That lines of this form were shown, and that nothing of them is left."""
+        *shown, last = [one.replace("\033[K", "").strip() for one in re.findall("[^\r]+", self.said.getvalue())]
+        lines = [one for one in shown if one]
         self.assertTrue(lines and all(re.fullmatch(form, one) for one in lines), lines)
-        self.assertEqual((last.strip(), self.said.getvalue()[-1]), ("", "\r"))
+        self.assertEqual(last, "")
 
 
 class Calls(Watched):
@@ -96,22 +97,24 @@ class Calls(Watched):
 
     def test_nothing_is_shown_unasked_but_on_a_terminal(self):
         with self.slow(is_shown=False):
-            ruzgalt.agg(FRAME, "count")
-            with mock.patch.object(progress, "is_terminal", return_value=True):
-                ruzgalt.agg(FRAME, "count", progress=False)
+            ruzgalt.agg(FRAME, "count", progress=False)
+            self.is_terminal.return_value = False
+            for is_wanted in (None, True):
+                ruzgalt.agg(FRAME, "count", progress=is_wanted)
         self.assertEqual(self.said.getvalue(), "")
-        with self.slow(), mock.patch.object(progress, "is_terminal", return_value=True):
+        self.is_terminal.return_value = True
+        with self.slow():
             ruzgalt.agg(FRAME, "count")
         self.assertRegex(self.said.getvalue(), "^(\rruzgalt.agg: \\d+ s\033\\[K)+\r\033\\[K$")
 
     def test_a_refused_call_leaves_nothing(self):
-        with self.assertRaises(ruzgalt.Refused), mock.patch.object(progress, "is_terminal", return_value=True):
+        with self.assertRaises(ruzgalt.Refused):
             ruzgalt.agg(FRAME.assign(to=None), "count")
         self.assertEqual((self.said.getvalue()[-4:], Progress.begun), ("\r\033[K" * bool(self.said.getvalue()), []))
 
     def test_a_doubt_stands_on_a_line_of_its_own(self):
         others = FRAME.assign(k=FRAME["k"].str.upper())
-        with warnings.catch_warnings(), mock.patch.object(progress, "is_terminal", return_value=True):
+        with warnings.catch_warnings():
             warnings.simplefilter("always", ruzgalt.Doubt)
             with mock.patch.object(warnings, "warn", lambda *_, **__: self.said.write("a doubt")):
                 ruzgalt.join(FRAME, others, "k")
@@ -146,41 +149,11 @@ class Terminals(unittest.TestCase):
 
 @unittest.skipUnless(importlib.util.find_spec("dask"), "Dask isn't here: apt-get install python3-dask")
 class Partitions(Watched):
-    def test_partitions_are_counted_as_they_are_computed(self):
+    def test_calls_of_dask_show_nothing(self):
         import dask.dataframe as dd
-        from ruzgalt.frames.computed import COMPUTES
-        spread = dd.from_pandas(FRAME, npartitions=4)
-        asks = {
-            "join": ruzgalt.join(spread, FRAME, "k", progress=True), "agg": ruzgalt.agg(spread, "count", progress=True),
-            "spread": ruzgalt.spread(spread, "x", amount="per month", by="k", progress=True),
-            "anti": ruzgalt.anti(spread, FRAME[:3], "k", progress=True, parts=3),
-        }
-        for name, asked in asks.items():
-            for scheduler in ("threads", "sync"):
-                self.forget()
-                with self.subTest(name, scheduler=scheduler), self.slow():
-                    asked.compute(scheduler=scheduler)
-                    shown = set(re.findall(r"ruzgalt\.\w+: \d of \d partitions", self.said.getvalue()))
-                    parts = {"agg": asked.npartitions, "anti": 3}.get(name, 4)
-                    wanted = {f"ruzgalt.{name}: {one} of {parts} partitions" for one in range(parts + 1)}
-                    self.assertTrue(shown and shown <= wanted, shown)
-                    self.assertEqual((self.said.getvalue()[-1], COMPUTES.begun, COMPUTES.going_on), ("\r", {}, 0))
-
-    def test_partitions_that_are_not_asked_for_leave_nothing(self):
-        import dask.dataframe as dd
-        from ruzgalt.frames.computed import COMPUTES
-        spread = dd.from_pandas(FRAME, npartitions=4)
-        with self.slow():
-            ruzgalt.coalesce(spread, "k", progress=True).head()
-        self.assertEqual((self.said.getvalue()[-1], COMPUTES.begun, Progress.begun), ("\r", {}, []))
-        with mock.patch.object(library, "call", side_effect=ruzgalt.Stopped("the end")):
-            with self.assertRaises(ruzgalt.Stopped):
-                ruzgalt.coalesce(spread, "k", progress=True).compute(scheduler="sync")
-        self.assertEqual((COMPUTES.begun, COMPUTES.going_on, Progress.begun), ({}, 0, []))
-        said = self.said.getvalue()
-        with self.slow(is_shown=False), mock.patch.object(progress, "is_terminal", return_value=True):
-            ruzgalt.coalesce(spread, "k").compute(scheduler="sync")
-        self.assertEqual(self.said.getvalue(), said)
+        with self.slow(is_shown=False):
+            ruzgalt.coalesce(dd.from_pandas(FRAME, npartitions=4), "k", progress=True).compute(scheduler="sync")
+        self.assertEqual(self.said.getvalue(), "")
 
 
 if __name__ == "__main__":

@@ -9,6 +9,7 @@ import pandas as pd
 
 import plainly
 import random_frames
+import labels
 import ruzgalt
 from ruzgalt.frames import split
 
@@ -97,7 +98,7 @@ class RandomFrames(unittest.TestCase):
 
     def joins(self, case):
         wanted = plainly.join(*case.times, *case.keys)
-        got = ruzgalt.join(*case.frames, labels=True, **case.words)
+        got = labels.join(*case.frames, **case.words)
         self.has_points(case, got["from"], [row[0] for row in wanted])
         self.has_points(case, got["to"], [row[1] for row in wanted], is_end=True)
         kept = [case.kept(0), case.kept(1, with_compared=not case.is_shared)]

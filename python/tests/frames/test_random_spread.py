@@ -1,5 +1,4 @@
 """Random frames by Dask, of one to seven partitions, beside one run of the whole."""
-import datetime
 import importlib.util
 import os
 import tempfile
@@ -67,71 +66,47 @@ def rows_of(frame, has_labels):
 
 
 class Case:
-    kinds, may_be_open = random_frames.POINTS, True
-
     def __init__(self, seed):
         self.random = random = Random(seed)
-        kind = random.choice(self.kinds)
-        self.is_open = self.may_be_open and random.random() < 0.4
+        kind = random.choice(["ns", "D", "S"])
+        self.is_open = random.random() < 0.4
         compared = {f"k{place}": random.choice(["int", "text"]) for place in range(random.choice([1, 1, 2]))}
         sizes = [random.choice([0, 1, 10, 60, 200]) for _ in range(2)]
         self.left = frame(random, sizes[0], kind, self.is_open, compared)
         self.right = other_dtypes(random, frame(random, sizes[1], kind, self.is_open, compared), compared, self.left)
         self.names = list(compared)
-        self.parts = random.choice([None, *range(1, 8)])
         self.starts = self.left["from"].tolist()
-        # What all calls are given, and what spread is given beside.
-        self.words, self.pieces = {"open_end": self.is_open}, {"points_as": "S"}
+        self.words = {"open_end": self.is_open}
 
     def questions(self):
         """A name, the answer of the whole, and that of Dask, not computed yet."""
         function = self.random.choice(["count", "sum", "min", "max"])
         amount = [] if function == "count" else ["euros"]
-        words, parts = self.words, {"parts": self.parts}
+        words = self.words
         left, right = spread(self.random, self.left), spread(self.random, self.right)
         on = {"on": self.names, **words}
         for name, how in (("join", "inner"), ("unmatched", self.random.choice(["left", "right", "outer"]))):
-            found = {"labels": True, "how": how, **on}
-            yield name, ruzgalt.join(self.left, self.right, **found), ruzgalt.join(left, right, **found, **parts)
-        yield "anti", ruzgalt.anti(self.left, self.right, **on), ruzgalt.anti(left, right, **on, **parts)
+            found = {"how": how, **on}
+            yield name, ruzgalt.join(self.left, self.right, **found), ruzgalt.join(left, right, **found)
+        yield "anti", ruzgalt.anti(self.left, self.right, **on), ruzgalt.anti(left, right, **on)
         by = {"by": self.names, **words}
-        yield "agg by", ruzgalt.agg(self.left, "sum", "euros", **by), ruzgalt.agg(left, "sum", "euros", **by, **parts)
+        yield "agg by", ruzgalt.agg(self.left, "sum", "euros", **by), ruzgalt.agg(left, "sum", "euros", **by)
         several = {"euros": ["mean", "max"], self.names[0]: "count"}
-        yield "agg by", ruzgalt.agg(self.left, several, **by), ruzgalt.agg(left, several, **by, **parts)
-        yield "agg", ruzgalt.agg(self.left, several, **words), ruzgalt.agg(left, several, **words, **parts)
+        yield "agg by", ruzgalt.agg(self.left, several, **by), ruzgalt.agg(left, several, **by)
+        yield "agg", ruzgalt.agg(self.left, several, **words), ruzgalt.agg(left, several, **words)
         whole = ruzgalt.agg(self.left, function, *amount, **words)
-        yield "agg", whole, ruzgalt.agg(left, function, *amount, **words, **parts)
-        yield "agg by", ruzgalt.coalesce(self.left, **by), ruzgalt.coalesce(left, **by, **parts)
-        yield "agg", ruzgalt.coalesce(self.left, **words), ruzgalt.coalesce(left, **words, **parts)
+        yield "agg", whole, ruzgalt.agg(left, function, *amount, **words)
+        yield "agg by", ruzgalt.coalesce(self.left, **by), ruzgalt.coalesce(left, **by)
+        yield "agg", ruzgalt.coalesce(self.left, **words), ruzgalt.coalesce(left, **words)
         if not self.is_open:
-            by_weeks = {"amount": self.random.choice(["per month", "in total"]), "each": "W", **self.pieces, **by}
+            by_weeks = {"amount": self.random.choice(["per month", "in total"]), "each": "W", **by}
             whole = ruzgalt.spread(self.left, "euros", **by_weeks)
-            yield "agg by", whole, ruzgalt.spread(left, "euros", **by_weeks, **parts)
-        yield "agg by", ruzgalt.gaps(self.left, **by), ruzgalt.gaps(left, **by, **parts)
+            yield "agg by", whole, ruzgalt.spread(left, "euros", **by_weeks)
+        yield "agg by", ruzgalt.gaps(self.left, **by), ruzgalt.gaps(left, **by)
         if len(self.left):
             point = self.random.choice(self.starts)
             yield "at", ruzgalt.at(self.left, point, **words), ruzgalt.at(left, point, **words)
             yield "during", ruzgalt.during(self.left, point, None, **words), ruzgalt.during(left, point, None, **words)
-
-
-class IntervalCase(Case):
-    """Periods are of intervals, in a column or in the index; another column has intervals that aren't looked at."""
-
-    kinds, may_be_open = ("ns",), False
-
-    def __init__(self, seed):
-        super().__init__(seed)
-        self.left, self.right = (self.spanned(one, self.random.random() < 0.3) for one in (self.left, self.right))
-        self.words, self.pieces = {"period": "span"}, {}
-
-    def spanned(self, frame, is_index):
-        made = frame.copy()
-        spans = pd.arrays.IntervalArray.from_arrays(made.pop("from"), made.pop("to"), closed="left")
-        places = [self.random.choice([None, 0, 1, 2]) for _ in spans]
-        sides = [[np.nan if place is None else place + step for place in places] for step in (0.0, 1.0)]
-        made["pass"] = pd.arrays.IntervalArray.from_arrays(*map(np.array, sides, ("f8", "f8")), closed="right")
-        made.insert(self.random.randint(0, len(made.columns)), "span", spans)
-        return made.set_index("span") if is_index else made
 
 
 class RandomSpread(unittest.TestCase):
@@ -159,11 +134,6 @@ class RandomSpread(unittest.TestCase):
         for seed in range(SEED, SEED + RUNS):
             with self.subTest(seed=seed):
                 self.answers_as_the_whole(Case(seed))
-
-    def test_partitions_of_intervals_do_too(self):
-        for seed in range(SEED, SEED + RUNS):
-            with self.subTest(seed=seed):
-                self.answers_as_the_whole(IntervalCase(seed))
 
 
 def column(cells, dtype):
@@ -198,7 +168,7 @@ class Spread(unittest.TestCase):
         for what, one, other in ALIKE:
             with self.subTest(what):
                 left, right = (dd.from_pandas(day_of(cells), npartitions=5) for cells in (one, other))
-                self.assertEqual(len(ruzgalt.join(left, right, on="k", parts=5).compute(scheduler="sync")), 100)
+                self.assertEqual(len(ruzgalt.join(left, right, on="k").compute(scheduler="sync")), 100)
 
     def test_one_frame_may_be_of_pandas(self):
         one, other = day_of(column(NUMBERS, "int64")), dd.from_pandas(day_of(column(NUMBERS, "int64")), npartitions=3)
@@ -216,9 +186,7 @@ class Spread(unittest.TestCase):
     def test_labels_of_several_levels_are_tuples(self):
         labels = pd.MultiIndex.from_product([["a", "b"], range(50)])
         one = day_of(column(NUMBERS, "int64"))
-        other, spread = one.set_index(labels), dd.from_pandas(one, npartitions=3)
-        got = ruzgalt.join(spread, other, on="k", labels=True).compute(scheduler="sync")
-        self.assertEqual(sorted(got["right_label"]), labels.tolist())
+        other = one.set_index(labels)
         nothing = dd.from_pandas(one.iloc[:1].assign(k=99), npartitions=1)
         self.assertEqual(sorted(ruzgalt.anti(other, nothing, on="k").compute(scheduler="sync").index), labels.tolist())
 
@@ -229,16 +197,13 @@ class Spread(unittest.TestCase):
             self.assertEqual(len(ruzgalt.join(left, right, on="k").compute(scheduler="sync")), 200)
 
     def test_names_that_dask_does_not_take_are_refused(self):
-        for name in ("_partitions", "_ruzgalt_part", "_ruzgalt_label", float("nan")):
+        for name in ("_partitions", "_ruzgalt_part", "_ruzgalt_label"):
             frame = day_of(column(NUMBERS, "int64")).assign(x=1).rename(columns={"x": name})
             spread = dd.from_pandas(frame, npartitions=2)
             for asked in (lambda: ruzgalt.anti(spread, spread, on="k"), lambda: ruzgalt.agg(spread, "count", by="k")):
                 with self.assertRaises(ruzgalt.Refused) as caught:
                     asked()
                 self.assertEqual(caught.exception.name, "BadName")
-        with self.assertRaises(ruzgalt.Refused) as caught:
-            ruzgalt.at(spread, "2024-01-01")
-        self.assertEqual(caught.exception.name, "BadName")
 
     def test_no_groups_are_all_rows(self):
         one = day_of(column(NUMBERS, "int64"))
@@ -285,7 +250,7 @@ class Spread(unittest.TestCase):
             with self.subTest(labels=labels[:2]):
                 cells = day_of(column(NUMBERS, "int64")).set_axis(labels)
                 frame = dd.from_pandas(cells, npartitions=3, sort=False)
-                got = ruzgalt.anti(frame, cells.iloc[:0], on="k", parts=4).compute(scheduler="sync").sort_values("k")
+                got = ruzgalt.anti(frame, cells.iloc[:0], on="k").compute(scheduler="sync").sort_values("k")
                 pd.testing.assert_frame_equal(got, frame.compute(scheduler="sync"), check_freq=False)
 
     def test_no_answer_says_where_labels_lie(self):
@@ -316,86 +281,22 @@ class Spread(unittest.TestCase):
                 found = [name for call in changed.call_args_list for given in call.args for name in given]
                 self.assertNotIn(word, found)
 
-    def test_objects_of_a_frame_of_pandas_stay(self):
-        days = day_of(column(TEXTS, object))
-        dates = days.assign(**{"from": days["from"].dt.date, "to": days["to"].dt.date})
-        lazy = ruzgalt.join(dd.from_pandas(days[["from", "to", "k"]], npartitions=2), dates, on="k", points_as="date")
-        found = lazy.compute(scheduler="sync")
-        self.assertEqual((len(found), set(map(type, found["from"]))), (100, {datetime.date}))
-
-    def test_objects_beside_other_points_come_as_one_kind(self):
-        days = day_of(column(TEXTS[:9], object))
-        dates = days.iloc[:2].assign(**{"from": days["from"].dt.date, "to": days["to"].dt.date})
-        months = dates.assign(**{"from": dates["from"].astype("datetime64[ns]").dt.to_period("M")})
+    def test_objects_of_points_are_refused(self):
+        days = day_of(column(NUMBERS, "int64"))
+        dates = days.assign(to=objects_of(days["to"], pd.Timestamp.date))
         with dask.config.set({"dataframe.convert-string": False}):
-            left, mixed = (dd.from_pandas(one, npartitions=2) for one in (dates, dates.assign(to=days["to"])))
-            months = dd.from_pandas(months, npartitions=2)
-            within = ("2020-01-01", "2030-01-01T08:00:00")
-            asked = [
-                ruzgalt.gaps(months, "k", within=within, parts=4),
-                ruzgalt.join(left, days, on="k", how="outer", parts=4), ruzgalt.agg(mixed, "count"),
-                ruzgalt.coalesce(mixed, "k", parts=4), ruzgalt.gaps(mixed, "k", parts=4),
-            ]
-            for lazy in asked:
-                parts = [lazy._meta, *(part.compute(scheduler="sync") for part in lazy.to_delayed())]
-                self.assertEqual({part["from"].dtype for part in parts}, {pd.PeriodDtype(pd.offsets.Second())})
+            spread = dd.from_pandas(dates, npartitions=2)
+        for asked in (lambda: ruzgalt.agg(spread, "count"), lambda: ruzgalt.join(dates, spread, on="k"),
+                      lambda: ruzgalt.during(spread, "2024-01-01", None)):
+            with self.assertRaisesRegex(ruzgalt.Refused, "'to'.*one kind of all"):
+                asked()
 
     def test_floats_of_two_dtypes_stay_numbers_of_their_decimals(self):
         narrow, wide = day_of(column([0.1, 0.2], "float32")), day_of(column([0.1, 0.3], "float64"))
         left = dd.from_pandas(narrow, npartitions=2)
-        lazy = ruzgalt.join(left, wide, on="k", how="outer", decimals={"k": 1}, parts=3)
+        lazy = ruzgalt.join(left, wide, on="k", how="outer", decimals={"k": 1})
         found = lazy.compute(scheduler="sync")["k"]
         self.assertEqual((found.dtype, sorted(found)), ("float64", [0.1, 0.2, 0.3]))
-
-    def test_dates_beside_datetimes_come_as_datetimes_in_each_partition(self):
-        """Also where a partition has rows of dates alone."""
-        days = day_of(column(TEXTS[:9], object))
-        dates, times = (
-            days.assign(**{name: objects_of(days[name], made) for name in ("from", "to")})
-            for made in (pd.Timestamp.date, pd.Timestamp.to_pydatetime)
-        )
-        ends = dates.assign(to=column([None] * 8 + [times["to"][8]], object))
-        with dask.config.set({"dataframe.convert-string": False}):
-            left, right, endless = (
-                dd.from_pandas(one, npartitions=3) for one in (dates, times.iloc[:2], ends)
-            )
-            asked = [
-                *(ruzgalt.join(left, right, on="k", how=how, parts=4) for how in ("left", "outer")),
-                ruzgalt.join(right, left, on="k", how="right", parts=4),
-                ruzgalt.anti(left, right, on="k", parts=4),
-                ruzgalt.agg(endless, "count", by="k", open_end=True, parts=4),
-                ruzgalt.agg(endless, "count", open_end=True),
-                ruzgalt.coalesce(endless, "k", open_end=True, parts=4),
-            ]
-            for place, lazy in enumerate(asked):
-                with self.subTest(place):
-                    found = lazy.compute(scheduler="sync")["from"]
-                    self.assertEqual(set(map(type, found)), {datetime.datetime})
-            same = ruzgalt.join(left, left, on="k", how="left", parts=4).compute(scheduler="sync")
-            self.assertEqual(set(map(type, same["from"])), {datetime.date})
-
-    def test_dates_and_datetimes_in_one_column_are_refused_as_of_pandas(self):
-        """Also where no partition has both."""
-        days = day_of(column(TEXTS[:4], object))
-        dates, times = (
-            days.assign(**{name: objects_of(days[name], made) for name in ("from", "to")})
-            for made in (pd.Timestamp.date, pd.Timestamp.to_pydatetime)
-        )
-        whole = dates.assign(to=column([*dates["to"][:2], *times["to"][2:]], object))
-        calls = [
-            lambda frame: ruzgalt.join(frame, dates, on="k"), lambda frame: ruzgalt.anti(dates, frame, on="k"),
-            lambda frame: ruzgalt.join(frame, days, on="k", how="left"),
-            lambda frame: ruzgalt.agg(frame, "count"), lambda frame: ruzgalt.agg(frame, "count", by="k"),
-            lambda frame: ruzgalt.coalesce(frame, "k", points_as="S"), lambda frame: ruzgalt.overlaps(frame, "k"),
-        ]
-        for place, asked in enumerate(calls):
-            with self.subTest(place), dask.config.set({"dataframe.convert-string": False}):
-                with self.assertRaises(ruzgalt.Refused) as of_pandas:
-                    asked(whole)
-                with self.assertRaises(ruzgalt.Refused) as of_dask:
-                    asked(dd.from_pandas(whole, npartitions=2)).compute(scheduler="sync")
-                self.assertEqual(of_dask.exception.args, of_pandas.exception.args)
-                self.assertEqual((of_dask.exception.name, of_dask.exception.column), ("WrongKind", "to"))
 
     def test_an_answer_is_a_frame_of_dask_as_others_are(self):
         one = day_of(column(NUMBERS, "int64"))

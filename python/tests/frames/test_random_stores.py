@@ -12,6 +12,7 @@ import pandas as pd
 
 import plainly
 import random_frames
+import labels
 import ruzgalt
 
 STORES = int(os.environ.get("FRAMES_STORES", "15"))
@@ -166,7 +167,7 @@ class RandomStores(unittest.TestCase):
         frame = rows.iloc[:, 1:].set_axis([*random_frames.PERIOD, *case.names], axis=1)
         words = {"open_end": case.is_open, "last_day": case.is_last_day}
         pairs = store.join("t", "t", on=[case.person, case.euros])
-        found = ruzgalt.join(frame, frame, on=[case.person, case.euros], labels=True, **words)
+        found = labels.join(frame, frame, on=[case.person, case.euros], **words)
         for name, label in (("left_id", "left_label"), ("right_id", "right_label")):
             found[label] = [ids[place] for place in found[label]]
             found = found.rename(columns={label: name})

@@ -113,9 +113,6 @@ CALLS = [
     ("a period of three", lambda: ruzgalt.join(OK, OK, on="k", period=("from", "to", "k")), "BadCommand", None, None),
     ("two kinds, the other way round", lambda: ruzgalt.anti(frame(k=[1, 2]), OK, on="k"), "WrongKind", "k", None),
     ("a time beside last days", lambda: ruzgalt.join(OK, TIMES, on="k", last_day=True), "BadPoint", "to", "x"),
-    ("points as weeks", lambda: ruzgalt.agg(OK, "count", points_as="W"), "BadCommand", None, None),
-    ("seconds as days", lambda: ruzgalt.agg(TIMES, "count", points_as="D"), "BadPoint", None, None),
-    ("9999-12-31 as ns", lambda: ruzgalt.agg(ENDLESS, "count", points_as="ns"), "BadPoint", None, None),
     ("a division of 1,000,001 rows", lambda: ruzgalt.dip(MANY), "Full", None, None),
 ]
 
@@ -181,8 +178,8 @@ class Refusals(unittest.TestCase):
             self.assertNotIn("fillna", caught.exception.reason)
 
     def test_an_option_of_another_call_is_a_type_error(self):
-        self.assertRaises(TypeError, lambda: ruzgalt.anti(OK, OK, labels=True))
-        self.assertRaises(TypeError, lambda: ruzgalt.dip(OK, labels=True))
+        self.assertRaises(TypeError, lambda: ruzgalt.anti(OK, OK, suffixes=True))
+        self.assertRaises(TypeError, lambda: ruzgalt.dip(OK, how="left"))
         self.assertRaises(TypeError, lambda: ruzgalt.join(OK, OK, onn="k"))
 
     def test_what_is_said_of_decimals(self):

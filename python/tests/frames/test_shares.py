@@ -6,7 +6,7 @@ from fractions import Fraction
 
 import numpy as np
 
-from ruzgalt.frames import shares
+from ruzgalt.frames import amounts as shares
 from ruzgalt.frames.arrays import narrowed, of_objects
 from ruzgalt.periods import pieces, rounding
 

@@ -5,6 +5,7 @@ from unittest import mock
 import numpy as np
 import pandas as pd
 
+import labels
 import ruzgalt
 from ruzgalt.frames import split
 from ruzgalt.kernel import library
@@ -31,8 +32,8 @@ def counted():
 
 
 QUESTIONS = {
-    "join": lambda left, right: ruzgalt.join(left, right, on="k", labels=True),
-    "join of all": lambda left, right: ruzgalt.join(left, right, labels=True),
+    "join": lambda left, right: labels.join(left, right, on="k"),
+    "join of all": lambda left, right: labels.join(left, right),
     "anti": lambda left, right: ruzgalt.anti(left, right, on="k"),
     "anti of all": lambda left, right: ruzgalt.anti(left, right),
     "count by": lambda left, right: ruzgalt.agg(left, "count", by="k"),

@@ -17,22 +17,23 @@ STUBS = {
 }
 # mypy is to refuse the lines that say so, and no others.
 PROGRAM = """
-from typing import Optional
+from typing import Optional, Union
 import dask.dataframe as dd
 import pandas as pd
 import ruzgalt
 
 frame, spread = pd.DataFrame(), dd.DataFrame()
 store = ruzgalt.Store(workers=2)
-pairs: pd.DataFrame = ruzgalt.join(frame, frame, on="k", labels=True, suffixes=("_l", None))
+pairs: pd.DataFrame = ruzgalt.join(frame, frame, on="k", suffixes=("_l", None))
 left: pd.DataFrame = ruzgalt.anti(frame, frame, ["k"], period=["start", "end"], decimals={"k": 2})
 costs: pd.DataFrame = ruzgalt.agg(frame, "sum", "cents", by="k", open_end=True)
 division: ruzgalt.Division[pd.Series] = ruzgalt.dip(frame, last_day=True)
 parts: pd.Series = division.parts
 number: int = division.count
-two: dd.DataFrame = ruzgalt.join(spread, spread, on="k", parts=2)
-first: dd.DataFrame = ruzgalt.join(spread, frame, on="k")
-second: dd.DataFrame = ruzgalt.anti(frame, spread, on="k")
+two: dd.DataFrame = ruzgalt.join(spread, spread, on="k")
+first: Union[pd.DataFrame, dd.DataFrame] = ruzgalt.join(spread, frame, on="k")
+second: Union[pd.DataFrame, dd.DataFrame] = ruzgalt.anti(frame, spread, on="k")
+beds: ruzgalt.Checked = ruzgalt.check(frame, part="bed")
 counts: dd.DataFrame = ruzgalt.agg(spread, "count")
 changed: Optional[ruzgalt.Changed] = store.table("pay", frame, key="k", open_end=True)
 rows: pd.DataFrame = store.rows("pay", as_of=2)
@@ -42,7 +43,7 @@ ruzgalt.join(frame, frame, "k", ["k"])  # refused
 ruzgalt.join(frame, [frame])  # refused
 ruzgalt.join(frame, frame, workers="4")  # refused
 ruzgalt.join(frame, frame, last_day="both")  # refused
-ruzgalt.anti(frame, frame, labels=True)  # refused
+ruzgalt.anti(frame, frame, suffixes=True)  # refused
 ruzgalt.agg(spread, "count", open_ends=True)  # refused
 ruzgalt.dip(frame, on="k")  # refused
 ruzgalt.dip(spread)  # refused

@@ -2,7 +2,6 @@
 import datetime
 import unittest
 
-import numpy as np
 import pandas as pd
 
 import ruzgalt
@@ -68,16 +67,11 @@ class Unmatched(unittest.TestCase):
                     pd.testing.assert_frame_equal(got.drop(columns=["from", "to"]), wanted)
 
     def test_true_beside_numbers_stays_true(self):
-        for dtype in ("bool", "Sparse[bool]"):
-            bools = frame({"k": pd.Series([True, False], dtype=dtype)})
-            numbers = frame({"k": [1, 2]})
-            for left, right, wanted in (
-                (bools, numbers, [True, False, 2]), (numbers, bools, [1, 2, False]),
-            ):
-                with self.subTest(wanted, dtype=dtype):
-                    got = ruzgalt.join(left, right, on="k", how="outer")["k"]
-                    said = (got.dtype, list(map(repr, got)))
-                    self.assertEqual(said, (object, list(map(repr, wanted))))
+        bools, numbers = frame({"k": [True, False]}), frame({"k": [1, 2]})
+        for left, right, wanted in ((bools, numbers, [True, False, 2]), (numbers, bools, [1, 2, False])):
+            with self.subTest(wanted):
+                got = ruzgalt.join(left, right, on="k", how="outer")["k"]
+                self.assertEqual((got.dtype, list(map(repr, got))), (object, list(map(repr, wanted))))
 
     def test_bools_of_both_dtypes_are_boolean(self):
         for one, other in (("bool", "boolean"), ("boolean", "bool")):
@@ -105,18 +99,6 @@ class Unmatched(unittest.TestCase):
                     store.table(name, rows, decimals={"k": 1})
                 found = store.join("l", "r", on="k", how=how)["k"]
                 self.assertEqual((found.dtype, found.tolist()), ("float64", wanted))
-
-    def test_sparse_columns_of_their_fill_value_keep_it(self):
-        """Of these pandas itself makes missing cells of all, where one is missing."""
-        for cells in (
-            np.zeros(2, "i8"), np.zeros(2), np.zeros(2, bool), np.array([0, 3]), np.array([0.0, np.nan]),
-            np.array([False, True]),
-        ):
-            with self.subTest(cells):
-                sparse = frame({"k": [1, 2], "x": pd.arrays.SparseArray(cells, fill_value=cells.dtype.type(0))})
-                got = ruzgalt.join(sparse, frame({"k": [2, 3]}), on="k", how="outer")
-                self.assertEqual(list(got["x"].dropna()), list(cells[~np.isnan(cells)]))
-                self.assertIsInstance(got["x"].dtype, pd.SparseDtype)
 
     def test_objects_without_rows_meet_nothing_of_any_kind(self):
         """They are what pandas.DataFrame(columns=..) has."""
@@ -157,18 +139,6 @@ class Unmatched(unittest.TestCase):
                 ruzgalt.join(left, right, on="k", how="outer")
             said = caught.exception
             self.assertEqual((said.name, said.column, said.label), ("BadNumber", "x", 1))
-
-    def test_labels_of_none_are_missing(self):
-        left, right = frame({"k": [1]}).set_axis(["a"]), frame({"k": [2]}).set_axis([7])
-        got = ruzgalt.join(left, right, on="k", how="outer", labels=True)
-        self.assertEqual(got[["left_label", "right_label"]].isna().values.tolist(), [[False, True], [True, False]])
-        self.assertEqual((got["left_label"][0], got["right_label"][1]), ("a", 7))
-        levels = left.set_axis(pd.MultiIndex.from_tuples([("a", 1)]))
-        got = ruzgalt.join(levels, right, on="k", how="left", labels=True)
-        self.assertEqual(got["left_label"].tolist(), [("a", 1)])
-        for labels in (DAYS[:1], DAYS[:1].tz_localize("Europe/Berlin")):
-            got = ruzgalt.join(left.set_axis(labels), right, on="k", how="outer", labels=True)
-            self.assertEqual((got["left_label"].dtype, got["left_label"].tolist()), (labels.dtype, [labels[0], pd.NaT]))
 
     def test_a_compared_level_is_a_column(self):
         left, right = frame({"k": [1, 2]}).set_index("k"), frame({"k": [2, 3]}).set_index("k")

@@ -4,6 +4,7 @@ import unittest
 
 import pandas as pd
 
+import labels
 import ruzgalt
 
 DAY = pd.to_datetime
@@ -34,7 +35,7 @@ class Joins(unittest.TestCase):
         for how in HOWS:
             with self.subTest(how=how, **words):
                 got = made.join("l", "r", how=how, **words)
-                wanted = ruzgalt.join(*frames, how=how, labels=True, **words, **options)
+                wanted = labels.join(*frames, how=how, **words, **options)
                 ids = {"left_label": "left_id", "right_label": "right_id"}
                 wanted[list(ids)] = (wanted[list(ids)] + 1).astype("int64" if how == "inner" else "Int64")
                 pd.testing.assert_frame_equal(got, wanted.rename(columns=ids), check_column_type=False)

@@ -59,17 +59,17 @@ class Workers(unittest.TestCase):
         self.cluster.add_worker(*words, **variables)
         self.addCleanup(self.cluster.kill, self.cluster.workers[-1])
 
-    def asked(self, parts):
+    def asked(self):
         """Of one worker the answer of a join."""
         left, right = (dd.from_pandas(frame(seed), npartitions=2) for seed in (1, 2))
         with Client(scheduler_file=self.cluster.file) as client:
             client.wait_for_workers(1, timeout=120)
-            return ruzgalt.join(left, right, on="k", parts=parts).compute()
+            return ruzgalt.join(left, right, on="k").compute()
 
     def test_a_worker_without_the_library_is_named(self):
         self.worker("--name", "bare", RUZGALT_LIBRARY="/nowhere/libruzgalt.so")
         with self.assertRaises(ruzgalt.Stopped) as caught:
-            self.asked(parts=2)
+            self.asked()
         place = f"; on worker bare at tcp:.* of {socket.gethostname()}"
         self.assertRegex(str(caught.exception), f"/nowhere/libruzgalt.so is missing.*{place}")
 
@@ -77,15 +77,16 @@ class Workers(unittest.TestCase):
         (self.folder / "small.py").write_text(SMALL)
         self.worker("--name", "small", "--preload", str(self.folder / "small.py"))
         with self.assertRaises(ruzgalt.Stopped) as caught:
-            self.asked(parts=2)
-        self.assertRegex(str(caught.exception), "give fewer rows in a call, of Dask .*parts=; on worker small at tcp:")
+            self.asked()
+        wanted = "give fewer rows in a call, of Dask more partitions; on worker small at tcp:"
+        self.assertRegex(str(caught.exception), wanted)
 
     def test_a_worker_without_the_package_is_named(self):
         (self.folder / "ruzgalt.py").write_text("raise ModuleNotFoundError(\"No module named 'ruzgalt'\")\n")
         path = os.pathsep.join(filter(None, [str(self.folder), os.environ.get("PYTHONPATH")]))
         self.worker("--name", "empty", PYTHONPATH=path)
         with self.assertRaises(RuntimeError) as caught:
-            self.asked(parts=2)
+            self.asked()
         self.assertRegex(str(caught.exception), "named 'ruzgalt' on worker empty at tcp:.*: install the package")
 
 

@@ -36,10 +36,7 @@ class United(unittest.TestCase):
         self.assertEqual(ruzgalt.coalesce(rows).astype(str).values.tolist(), [["2024-01", "2024-02"], ["2024-05"] * 2])
         self.assertEqual(ruzgalt.gaps(rows).astype(str).values.tolist(), [["2024-03", "2024-04"]])
         within = {"within": ("2024-03-05", "2024-03-07")}
-        with self.assertRaises(ruzgalt.Refused) as caught:
-            ruzgalt.gaps(rows, **within)
-        self.assertEqual(caught.exception.name, "WrongKind")
-        got = ruzgalt.gaps(rows, points_as="D", **within)
+        got = ruzgalt.gaps(rows, **within)
         self.assertEqual(got.astype(str).values.tolist(), [["2024-03-05", "2024-03-07"]])
 
     def test_months_beside_dates_are_points_that_lack_none(self):
@@ -161,7 +158,7 @@ class Pieces(unittest.TestCase):
 
     def test_times_count_by_seconds_and_in_a_zone_not_at_all(self):
         rows = frame(("2024-01-31T12:00", "2024-02-01", "a", 62))
-        self.assertEqual(ruzgalt.spread(rows, "x", amount="per month", points_as="S")["x"].tolist(), [1])
+        self.assertEqual(ruzgalt.spread(rows, "x", amount="per month")["x"].tolist(), [1])
         zoned = rows.assign(**{name: rows[name].dt.tz_localize("Europe/Berlin") for name in ("from", "to")})
         self.refuses("BadPoint", zoned)
         got = ruzgalt.spread(zoned.assign(**{"from": zoned["from"].dt.floor("D")}), "x", amount="per month")
