@@ -17,7 +17,7 @@ DECIDING = (
     "periods/amounts.py", "frames/standing.py", "frames/batches.py", "frames/unmeant.py", "store/batches.py",
 )
 # Modules of a store that do its changes and know its commits; without arrays they can't look at rows.
-SENDING = ("book", "live", "script", "store")
+SENDING = ("live", "script", "store")
 SCRIPT = b"""table,t,k,text
 load,t
 row,2024-01-01,2024-02-01,a
@@ -45,8 +45,8 @@ class Language(unittest.TestCase):
         texts = {file.stem: file.read_text(encoding="utf-8") for file in package.joinpath("store").glob("*.py")}
         self.assertEqual([name for name in SENDING if "numpy" in texts[name]], [])
         # The program finds the rows because of which a key refuses a change.
-        self.assertEqual([name for name, text in texts.items() if 'Refused("KeyOverlap"' in text], ["keys"])
-        self.assertIn("Live(", texts["keys"])
+        self.assertEqual([name for name, text in texts.items() if 'Refused("KeyOverlap"' in text], ["state"])
+        self.assertIn("Live(", texts["state"])
 
     def test_each_word_has_its_part_of_the_language_s_page(self) -> None:
         page = TOP.joinpath("docs/LANGUAGE.md").read_text(encoding="utf-8")

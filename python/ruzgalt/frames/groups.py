@@ -29,7 +29,7 @@ def agg(frame: Any, asked: Measures, options: Options) -> Any:
     start, end, group, *values = measures.measured(replace(side, columns=[codes]), amounts, asked, options.workers)
     columns = Columns(groups_at(frame, groups, firsts[group]))
     columns.add(period_of(start, end, [side], options, options.form))
-    columns.add(measures.columns_of(values, asked, amounts, options.mean_as))
+    columns.add(measures.columns_of(values, asked, amounts))
     return columns.frame()
 
 

@@ -1,7 +1,7 @@
 """A period that is one column of intervals, or a level of the index of them: closed on the left, open on the right."""
 from __future__ import annotations
 
-from typing import Any, List, Optional, Sequence, Tuple
+from typing import Any, List, Sequence, Tuple
 
 import pandas as pd
 
@@ -59,13 +59,9 @@ def refuse_others(column: Any) -> None:
         raise Refused("WrongKind", reason, column.name)
 
 
-def kind_of(asked: Optional[str], joint: Kind, first: Kind) -> Kind:
-    """Of intervals' points, which are of datetime64: as is asked, or the joint kind, that of the first frame, or ns."""
-    if asked is None:
-        return next((kind for kind in (joint, first) if kind.name in UNITS), Kind("ns", first.zone))
-    if asked not in UNITS:
-        raise Refused("BadCommand", f"points_as={asked!r}: for intervals it must be one of {', '.join(UNITS)}")
-    return Kind(asked, first.zone)
+def kind_of(joint: Kind, first: Kind) -> Kind:
+    """Returns the kind of the points of intervals, which have datetime64: the joint one, the first frame's, or ns."""
+    return next((kind for kind in (joint, first) if kind.name in UNITS), Kind("ns", first.zone))
 
 
 def columns_of(period: Sequence[Any], starts: Any, ends: Any) -> List[Tuple[Any, Any]]:

@@ -41,13 +41,6 @@ class Kind:
         """Whether it is of weeks, months, quarters or years."""
         return self.name.partition("-")[0] in LONG
 
-    def asked_as(self, name: str) -> Kind:
-        """The kind of this name in the same zone. Raises Refused, since no other kind has a zone than datetime64."""
-        if self.zone is not None and name not in UNITS:
-            reason = f"points_as={name!r}: for points in {self.zone} it must be one of {', '.join(UNITS)}"
-            raise Refused("WrongKind", f"{reason}; {WITHOUT_ZONE} removes the zone before")
-        return Kind(name, self.zone)
-
 
 WITHOUT_ZONE = ".dt.tz_localize(None)"
 

@@ -6,15 +6,13 @@ that all have one value in each period, and periods that follow one another with
 from __future__ import annotations
 
 from dataclasses import dataclass, replace
-from decimal import Decimal
-from fractions import Fraction
 from typing import Any, Dict, List, Mapping, Sequence, Tuple
 
 import numpy as np
 
 from ruzgalt.frames import checks, split
 from ruzgalt.frames.answer import Column
-from ruzgalt.frames.arrays import Cells, Ints, of_objects
+from ruzgalt.frames.arrays import Cells, Ints
 from ruzgalt.frames.ask import Found
 from ruzgalt.frames.errors import Refused
 from ruzgalt.frames.named import same
@@ -192,32 +190,21 @@ def closed_up(found: Found) -> Found:
     return (start[firsts], end[lasts], *(column[firsts] for column in columns))
 
 
-def columns_of(values: Sequence[Cells], measures: Measures, columns: Mapping[Any, Values],
-               mean_as: str) -> List[Column]:
-    """The values as columns of an answer."""
+def columns_of(values: Sequence[Cells], measures: Measures, columns: Mapping[Any, Values]) -> List[Column]:
+    """Returns the values as columns of an answer."""
     left = iter(values)
     pairs = [(one, [next(left) for _ in one.asks]) for one in measures]
-    return [(one.name, restored(own, one, columns, mean_as)) for one, own in pairs if one != HELD]
+    return [(one.name, restored(own, one, columns)) for one, own in pairs if one != HELD]
 
 
-def restored(value: Sequence[Cells], measure: Measure, columns: Mapping[Any, Values], mean_as: str) -> Any:
+def restored(value: Sequence[Cells], measure: Measure, columns: Mapping[Any, Values]) -> Any:
     """A least or greatest value is of the column's dtype, so is a sum of decimals; other sums are int64 or longer."""
     if measure.function == "count":
         return value[0]
     column = columns[measure.column]
     if measure.function == "mean":
-        return means_of(value[0], value[1], 10 ** (column.digits or 0), mean_as)
+        return nearest(value[0], value[1], 10 ** (column.digits or 0))
     return column.restored(value[0]) if measure.function != "sum" or column.digits is not None else value[0]
-
-
-def means_of(above: Cells, below: Cells, scale: int, mean_as: str) -> Any:
-    """Means of numbers of which so many are one: the nearest floats, exact Fractions, or Decimals as they divide."""
-    if mean_as == "float":
-        return nearest(above, below, scale)
-    pairs = zip(above.tolist(), below.tolist())
-    if mean_as == "Fraction":
-        return of_objects([Fraction(one, many * scale) for one, many in pairs])
-    return of_objects([Decimal(one) / Decimal(many * scale) for one, many in pairs])
 
 
 def nearest(above: Cells, below: Cells, scale: int) -> Cells:

@@ -35,10 +35,6 @@ def rows_at(frame: Any, rows: Ints, is_wide: bool = False) -> Any:
     return made
 
 
-def reindexed(column: Any, labels: Any) -> Any:
-    return column.reindex(labels)
-
-
 def either(
     one: Any, other: Any, places: Sequence[Ints], is_wide: bool = False,
     digits: Optional[int] = None,

@@ -50,8 +50,6 @@ MONTH = "M"
 IN_TOTAL = "in total"
 AMOUNTS = {**{f"per {word}": word for word in PIECES.values()}, IN_TOTAL: ""}
 # As what a mean comes.
-MEANS = ("float", "Fraction", "Decimal")
-FLOAT = MEANS[0]
 MOST_WORKERS = 64
 # What may be given of a table's frames.
 OF_TABLE = ("period", "open_end", "last_day", "decimals", "missing")
@@ -79,8 +77,6 @@ class Options:
     exact: bool = False
     suffixes: Suffixes = SUFFIXES
     how: str = INNER
-    mean_as: str = FLOAT
-    points_as: Optional[str] = None
     workers: int = WORKERS
     progress: Optional[bool] = None
     # Whether the rows are a partition of Dask's, which brings no warnings.
@@ -110,8 +106,8 @@ class Options:
         """The kind of the answer's points, of frames of these, in this period of its. Raises Refused."""
         joint = kinds.joint_kind(*given)
         if intervals.are_in(period):
-            return intervals.kind_of(self.points_as, joint, given[0])
-        return joint if self.points_as is None else joint.asked_as(self.points_as)
+            return intervals.kind_of(joint, given[0])
+        return joint
 
 
 def workers_of(option: str, given: Any) -> int:
@@ -217,8 +213,6 @@ OPTIONS: Dict[str, Option] = {
         "show nothing: use dask.diagnostics.",
         True,
     ),
-    "points_as": Option(among(*kinds.NAMES), is_optional=True),
-    "mean_as": Option(among(*MEANS)),
 }
 RAISES = """Raises
 ------

@@ -149,7 +149,7 @@ def framed(found: Answers, asked: Measures, options: Options, meta: Any) -> Any:
     side = groups.side_of(meta, asked, options)
     start, end, _, *cells = measures.together(found, asked)
     columns = Columns(pairs.period_of(start, end, [side], options, options.form))
-    columns.add(measures.columns_of(cells, asked, groups.amounts_in(side, asked), options.mean_as))
+    columns.add(measures.columns_of(cells, asked, groups.amounts_in(side, asked)))
     return columns.frame()
 
 

@@ -237,7 +237,7 @@ def series_of(seconds: Ints, kind: Kind, index: Any = None, is_open: bool = Fals
     name, missing = kind.name, seconds == NO_END if is_open else np.zeros(len(seconds), bool)
     if name in DAYS and (seconds % DAY).any():
         point = texts_of(seconds[seconds % DAY > 0][:1])[0]
-        raise Refused("BadPoint", f"{point} isn't a day: points_as='S' gives period[S]")
+        raise Refused("BadPoint", f"{point} isn't a day: give the points of both frames as period[S] or datetime64")
     if kind.arrow is not None:
         cells = datetimes_of(seconds, missing, name if name in UNITS else "s")
         return pd.Series(arrow.points_of(cells, missing, kind.arrow), index)
@@ -261,7 +261,7 @@ def in_zone(cells: Cells, zone: Any, index: Any) -> Any:
         made = pd.Series(cells, index)
     except pd.errors.OutOfBoundsDatetime as error:
         # pandas 1.5 has no other unit than ns.
-        raise Refused("BadPoint", f"{error}: points_as='S' gives period[S]") from None
+        raise Refused("BadPoint", f"{error}: period[S] holds it, as .dt.to_period('S') makes it") from None
     return made if zone is None else made.dt.tz_localize("UTC").dt.tz_convert(zone)
 
 
@@ -269,7 +269,8 @@ def datetimes_of(seconds: Ints, missing: Marks, kind: str) -> Cells:
     outside = (seconds < NS_RANGE[0]) | (seconds > NS_RANGE[1])
     if kind == "ns" and (outside & ~missing).any():
         point = texts_of(seconds[outside & ~missing][:1])[0]
-        raise Refused("BadPoint", f"datetime64[ns] can't hold {point}: points_as='S' gives period[S]")
+        remedy = "period[S] holds it, as .dt.to_period('S') makes it"
+        raise Refused("BadPoint", f"datetime64[ns] can't hold {point}: {remedy}")
     numbers = np.where(missing, 0, seconds) * UNITS[kind]
     return np.where(missing, NAT, numbers).view(f"M8[{kind}]")
 

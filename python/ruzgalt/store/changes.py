@@ -201,9 +201,9 @@ def raise_of(state: State, table: Table, column: Any, how: Tuple[Any, ...], is_a
     except Misfit as misfit:
         # The tools name a line of a script, and options of theirs.
         reason = str(misfit).replace("(line ", "(commit ")
-        for word, parameter in (("--again", "again=True"), ("--round half-up", "round='half-up'"), ("--", "")):
+        for word, parameter in (("--again", "again=True"), ("--round half-up", "round='half-up'"), (" --", " ")):
             reason = reason.replace(word, parameter)
-        raise Refused("BadCommand", reason) from None
+        raise Refused("BadCommand", reason[2:] if reason.startswith("--") else reason) from None
     raised = np.array([one.raised for one in made.steps], np.int64)
     values.refuse_unheld(raised, table.column(column), "a raised amount is")
     return made

@@ -21,7 +21,6 @@ from ruzgalt.frames.kinds import Kind
 from ruzgalt.script import changes as past
 from ruzgalt.script import forms
 from ruzgalt.script.schemas import Schema
-from ruzgalt.store import script
 from ruzgalt.store.tables import point_of
 
 if TYPE_CHECKING:
@@ -204,7 +203,7 @@ class Row(NamedTuple):
 def read(state: State, name: Any, schemas: Mapping[str, Schema]) -> Diary:
     """Returns the diary in a table of the store. Raises Refused if the table isn't a diary."""
     table, schema, newest = state.known(name), schemas[name], state.newest
-    start, end, *cells = state.answer(script.command("rows", table.name)).block("-pp" + table.readers)
+    start, end, *cells = state.block(["rows", table.name], "-pp" + table.readers)
     rows = zip(points.texts_of(start), points.texts_of(end), *([str(cell) for cell in one] for one in cells))
     try:
         # A commit of several labels has a row for each.

@@ -496,7 +496,7 @@ def agg(state: State, as_of: AsOf, table: Table, asked: Measures, options: Optio
     start, end, group, *values = measures.measured(replace(side, columns=[codes]), counted, asked, state.workers)
     made = Columns([(one.name, restored_at(table, one, firsts[group])) for one in side.columns])
     made.add(table.period_cells(iter((start, end))))
-    made.add(measures.columns_of(values, asked, amounts, options.mean_as))
+    made.add(measures.columns_of(values, asked, amounts))
     return made.frame()
 
 

@@ -222,7 +222,12 @@ def refusing() -> Iterator[None]:
     try:
         yield
     except Misfit as misfit:
-        raise Refused("BadCommand", str(misfit).replace("--where", "where=").replace("--", "")) from None
+        raise Refused("BadCommand", without_dashes(misfit).replace("by where", "by where=")) from None
+
+
+def without_dashes(message: object) -> str:
+    """Returns a message of the tools with their options as words."""
+    return f" {message}".replace(" --", " ")[1:]
 
 
 # Why a key refuses a change. The program names no rows. So another program does the change in a table of the same rows

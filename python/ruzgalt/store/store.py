@@ -32,7 +32,6 @@ from ruzgalt.store.queries import Queries
 from ruzgalt.store.state import State
 from ruzgalt.store.tables import Table
 
-
 # A store of at most this number of commits counts each change at once. The answer to `log` lists all commits.
 COUNTED = 1_000
 # All stores, for forks.

@@ -17,7 +17,6 @@ from ruzgalt.frames import checks, instants, intervals, kinds, points, sides, va
 from ruzgalt.frames.arrays import Cells, Ints, equal_to
 from ruzgalt.frames.errors import Refused, refuse
 from ruzgalt.frames.kinds import WITHOUT_ZONE, Kind
-from ruzgalt.frames.missing import reindexed
 from ruzgalt.frames.named import column_of, names_of, same
 from ruzgalt.frames.options import Options
 from ruzgalt.frames.points import Form
@@ -355,4 +354,4 @@ def restored_cells(column: Values, cells: Cells, stand_in: Optional[Cell]) -> An
         found = np.full(len(cells), None, object)
         found[~is_missing] = there
         return found
-    return reindexed(pd.Series(there, np.flatnonzero(~is_missing)), range(len(cells)))
+    return pd.Series(there, np.flatnonzero(~is_missing)).reindex(range(len(cells)))

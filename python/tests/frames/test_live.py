@@ -137,9 +137,9 @@ class Lives(unittest.TestCase):
         self.made.table("u", many)
         self.assertEqual(self.made.rows("u")["k"].tolist(), texts)
         with self.made.batch():
-            for cents in range(12_000):
+            for cents in range(4_000):
                 update(self.made, cents)
-        self.assertEqual(len(self.made.log()), 12_004)
+        self.assertEqual(len(self.made.log()), 4_004)
         self.assertEqual(self.made.dip("u").count, 9_000)
 
     def test_a_worker_s_memory_is_the_program_s_limit(self):

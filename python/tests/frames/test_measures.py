@@ -65,7 +65,7 @@ class Measures(unittest.TestCase):
         column = Values("n", "int", np.empty(0, np.int64), Texts(), np.dtype(object if digits else "int64"), digits)
         found = {one: answer_of(rows)(one) for one in measures.asks_of(asked)}
         start, end, group, *values = measures.together(found, asked)
-        columns = [list(answered) for _, answered in measures.columns_of(values, asked, {"n": column}, "float")]
+        columns = [list(answered) for _, answered in measures.columns_of(values, asked, {"n": column})]
         restored = {
             "count": lambda number: number, "mean": lambda mean: float(mean / scale),
             **dict.fromkeys(("sum", "min", "max"), lambda number: Decimal(f"{number}E-{digits}") if digits else number),

@@ -107,6 +107,9 @@ class Page(unittest.TestCase):
             '`spread(frame, COLUMN, amount="per month", each="M", by=..)`': lambda: (
                 ruzgalt.spread(frame(x=[31, 62]), "x", amount="per month")["x"].tolist()
             ) == [14 + 2 * 17],
+            '`check(frame, part="bed")`': lambda: [
+                bool(ruzgalt.check(left.assign(bed=beds), part="bed")) for beds in ([1, 1], [1, 2])
+            ] == [True, True],
             "`dip(frame)`": lambda: (lambda division: (
                 division.parts.tolist(), division.count, str(division.instant),
             ))(ruzgalt.dip(left)) == ([0, 0], 1, "2024-01-01 00:00:00"),
@@ -120,7 +123,7 @@ class Page(unittest.TestCase):
             "integers": lambda: compared(np.array([1, 2], "i1"), pd.array([1, 2], "Int64"), pd.Categorical([1, 2])),
             "bool, `boolean`": lambda: compared([True, False], pd.array([True, False], "boolean")),
             "objects of `str`": lambda: compared(
-                ["a", "é" * 2048], pd.array(["a", ""], "string"), pd.Categorical(["b", "a"]),
+                ["a", "é" * 2048], pd.array(["a", "b"], "string"), pd.Categorical(["b", "a"]),
             ),
             "floats, objects of Decimal": lambda: compared([1.25, -0.1], decimals, decimals={"k": 2}),
             "datetime64": lambda: at(

@@ -1,6 +1,7 @@
 """Files of a store: its script, a page of it, and pictures."""
 import copy
 import os
+import pickle
 import tempfile
 import unittest
 from concurrent.futures import ThreadPoolExecutor
@@ -136,7 +137,8 @@ class Written(unittest.TestCase):
         with self.store.batch():
             self.store.update("pay", "2024-01-01", None, {"cents": 77777}, {"person": "Grace"})
             for call in (lambda: self.store.save(file), lambda: self.store.page(page), self.store.script,
-                         lambda: self.store.page(page, ["rows,pay"]), lambda: copy.copy(self.store)):
+                         lambda: self.store.page(page, ["rows,pay"]), lambda: copy.copy(self.store),
+                         lambda: pickle.dumps(self.store)):
                 with self.assertRaises(ruzgalt.Refused) as caught:
                     call()
                 self.assertIn("after its end", str(caught.exception))
