@@ -1,13 +1,12 @@
 -- Ranges of record lists, and their bytes.
-use Rattle.std.proofs.Common.{◌≡◌, ◌∙◌, ℕ, ◌++◌, List, Option, None, Some, Result, Ok, append-nil, map, refl, sym, ap}
+use Rattle.std.proofs.Common.{◌≡◌, ◌∙◌, ℕ, ◌++◌, List, None, Some, Result, Ok, append-nil, sym, ap}
 use Rattle.std.specs.Global.{Vec}
 use Rattle.std.specs.Ordering.{nat_cmp}
 use Rattle.std.specs.declared.alloc.AllocError.{AllocError}
-use Rattle.std.proofs.lemmas.List.{drop-map, take-map}
 use Rattle.std.proofs.lemmas.List.Concat.{flat_map-append}
 use Rattle.csv.specs.Writing.{row_text}
 use Rattle.list_core.specs.Chunks.{all_in}
-use Rattle.share_core.specs.Pieces.{piece, piece_before, piece_from}
+use Rattle.share_core.specs.Pieces.{piece}
 use Rattle.share_core.specs.Ranges.{range}
 use Rattle.share_core.specs.Shares.{Gives, GivesFrom}
 use Rattle.share_core.specs.declared.range.Range.{Range}
@@ -16,23 +15,6 @@ use Rattle.share_core.proofs.PieceLemmas.{piece_cut}
 use Rattle.share_core.proofs.ShareLemmas.{all_come}
 use Rattle.command_core.specs.Records.{Record}
 use Rattle.answer_core.specs.RecordBytes.{answer_writer, bytes_of}
-
-before-map : {X Y : Type 0} (f : X → Y) (end : Option ℕ) (xs : List X)
-    → map f (piece_before end xs) ≡ piece_before end (map f xs)
-before-map f None xs = refl
-before-map f (Some end) xs = sym (take-map f end xs)
-
-from-map : {X Y : Type 0} (f : X → Y) (start : Option ℕ) (xs : List X)
-    → map f (piece_from start xs) ≡ piece_from start (map f xs)
-from-map f None xs = refl
-from-map f (Some start) xs = sym (drop-map f start xs)
-
--- Mapping a range of a list gives the range of the mapped list.
-pub map-piece : {X Y : Type 0} (f : X → Y) (places : Range ℕ) (xs some : List X) → some ≡ piece places xs
-    → map f some ≡ piece places (map f xs)
-map-piece f places xs some is =
-    ap (map f) is ∙ from-map f places.from (piece_before places.before xs)
-    ∙ ap (piece_from places.from) (before-map f places.before xs)
 
 -- The bytes of consecutive ranges of records are the bytes of all records.
 pub texts-all : (records : List Record) (post : Range ℕ → ℕ → Result (Vec ℕ) AllocError → Type 0)

@@ -1,10 +1,10 @@
 -- Answers, printed record by record.
 use Rattle.std.proofs.Common.{◌≡◌, ℕ, zero, suc, ◌+◌, ◌<◌, ◌≤◌, ℤ, drop, take, min, unwrap_or, length-take, List, [], ◌∷◌, ◌++◌, Option, Some, false, length, refl, sym, ap, ◌∙◌, arith, append_assoc, append-nil, cond, map}
-use Rattle.std.specs.Prelude.{codes, get_or, slice_get}
+use Rattle.std.specs.Prelude.{codes, get_or, option_map, slice_get}
 use Rattle.std.proofs.lemmas.List.Concat.{flat_map-append}
 use Rattle.std.proofs.lemmas.List.Sums.{sum_by-cons}
-use Rattle.std.proofs.lemmas.List.{drop-append-le}
-use Rattle.std.proofs.lemmas.Option.{slice_get-get_or, slice_get_within}
+use Rattle.std.proofs.lemmas.List.{drop-append-le, length-map}
+use Rattle.std.proofs.lemmas.Option.{get_or_from_slice_get, slice_get-get_or, slice_get-map}
 use Rattle.csv.specs.Writing.{row_text}
 use Rattle.share_core.proofs.PieceLemmas.{piece-between}
 use Rattle.share_core.specs.Pieces.{piece}
@@ -72,15 +72,30 @@ errors_in-division rows parts instant =
       errors_in-part_records 0 parts,
     )
 
+-- The record at the index of an item is that of the item.
+pub record_at-map : {T : Type 0} (record_of : T → Record) (xs : List T) (i : ℕ) (x : T) → slice_get xs i ≡ Some x
+    → get_or (map record_of xs) i [] ≡ record_of x
+record_at-map record_of xs i x is =
+    get_or_from_slice_get (map record_of xs) i (record_of x) []
+    (slice_get-map record_of xs i ∙ ap (option_map record_of) is)
+
+-- The same for an item that is read at its index.
+pub record_at-read : {T : Type 0} (record_of : T → Record) (xs : List T) (i : ℕ) (d : T) → i < length (map record_of xs)
+    → get_or (map record_of xs) i [] ≡ record_of (get_or xs i d)
+record_at-read record_of xs i d within =
+    let inside : i < length xs = omega (arith, within, length-map xs record_of) in
+    record_at-map record_of xs i (get_or xs i d) (slice_get-get_or xs i d inside)
+
 -- The bytes of the records from index `from` on, and of one more.
-pub bytes-next : (a b c : List ℕ) (records : List Record) (from k : ℕ) (line : Record)
-    → from ≤ k → slice_get records k ≡ Some line
+pub bytes-next : (a b c : List ℕ) (records : List Record) (from k : ℕ)
+    → from ≤ k → k < length records
     → b ≡ a ++ bytes_of (drop from (take k records))
-    → c ≡ b ++ row_text answer_writer line
+    → c ≡ b ++ row_text answer_writer (get_or records k [])
     → c ≡ a ++ bytes_of (drop from (take (k + 1) records))
-bytes-next a b c records from k line le is first second =
+bytes-next a b c records from k le within first second =
     let front = drop from (take k records) in
-    let within : k < length records = slice_get_within records k line is in
+    let line = get_or records k [] in
+    let is : slice_get records k ≡ Some line = slice_get-get_or records k [] within in
     let enough : from ≤ length (take k records) = omega (arith, le, within, length-take k records) in
     let all : drop from (take (k + 1) records) ≡ front ++ line ∷ [] =
     ap (drop from) (sym (take-one_more records k line is)) ∙ drop-append-le from (take k records) (line ∷ []) enough in
@@ -93,15 +108,12 @@ bytes-next a b c records from k line le is first second =
     ∙ ap bytes_of (sym all)))))
 
 -- A part's record is at the part's index.
-pub part_records-get : (parts : List (List Item)) (k : ℕ) (items : List Item)
+pub part_record-at : (parts : List (List Item)) (k : ℕ) (items : List Item)
     → k < length parts → items ≡ part_at parts k
-    → slice_get (part_records 0 parts) k ≡ Some (part_record k items)
-part_records-get parts k items lt is =
-    let records = part_records 0 parts in
-    let within : k < length records = omega (arith, lt, length-part_records 0 parts) in
+    → get_or (part_records 0 parts) k [] ≡ part_record k items
+part_record-at parts k items lt is =
     let same : 0 + k ≡ k = omega arith in
-    slice_get-get_or records k [] within
-    ∙ ap Some (part_records-at 0 parts k lt ∙ ap (λ n. part_record n (part_at parts k)) same ∙ ap (part_record k) (sym is))
+    part_records-at 0 parts k lt ∙ ap (λ n. part_record n (part_at parts k)) same ∙ ap (part_record k) (sym is)
 
 -- The bytes of the records of a range.
 pub bytes-piece : (a b : List ℕ) (records : List Record) (places : Range ℕ) (start end : ℕ)

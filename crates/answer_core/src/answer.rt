@@ -5,11 +5,11 @@ ghost use Rattle.answer_core.specs.PrintedRecords.{IsPrintedAs, errors_in};
 
 use crate::joined::Joined;
 use crate::unmatched::Unmatched;
-use agg_core::AggRows;
 use book_core::{Log, SharedVersions};
 use cert_core::Verdict;
 use command_core::Fault;
 use dip_core::Division;
+use query_core::AggRows;
 use table_core::SharedRows;
 
 /// The answer to a command.

@@ -3,8 +3,8 @@ ghost use Rattle.std.specs.Prelude.{◌≡◌, IfOk};
 ghost use Rattle.row_core.specs.Rows.{RowsRise};
 
 use crate::row_values::RowValues;
-use join_core::{JoinRow, JoinRows};
 use period_core::NoMemory;
+use query_core::{JoinRow, JoinRows};
 use std::alloc::Global;
 use std::marker::Model;
 use table_core::SharedRows;

@@ -1,10 +1,9 @@
 //! Prints answers. This file has refusals, accepted changes, rows and versions.
 ghost use Rattle.std.specs.Prelude.{◌≡◌, [], ◌∷◌, ◌++◌, List, OnErr, OnOk, map};
 ghost use Rattle.csv.specs.Writing.{row_text};
-ghost use Rattle.share_core.specs.Pieces.{piece};
 ghost use Rattle.table_core.specs.Lent.{lent_row};
-ghost use Rattle.answer_core.specs.PrintedRecords.{IsPrintedAs, commit_records, end_record, end_text, error_record, ok_record, row_record, row_records, together_record, verdict_record, version_record, version_records};
-ghost use Rattle.answer_core.specs.RecordBytes.{answer_writer, bytes_of, field_behind};
+ghost use Rattle.answer_core.specs.PrintedRecords.{IsPrintedAs, end_record, end_text, error_record, ok_record, row_record, row_records, together_record, verdict_record, version_record, version_records};
+ghost use Rattle.answer_core.specs.RecordBytes.{answer_writer, field_behind};
 ghost use Rattle.answer_core.specs.Unwritten.{Adds};
 ghost use Rattle.command_core.specs.Records.{Record};
 
@@ -12,11 +11,10 @@ use crate::answer::Answer;
 use crate::ranges::RecordList;
 use crate::record_text::RecordText;
 use crate::writer::AnswerWriter;
-use book_core::{Log, SharedVersions};
+use book_core::SharedVersions;
 use cert_core::Verdict;
 use command_core::Fault;
 use period_core::NoMemory;
-use share_core::{Range, piece, places_within};
 use std::thread::Threads;
 use table_core::{RowRef, SharedRows};
 use work_core::Crew;
@@ -30,8 +28,12 @@ struct RowRecords<'a> {
 impl<'a> RecordList for RowRecords<'a> {
     ghost records = { λ r. map row_record r.rows.now };
 
-    fn print_piece(&self, text: &mut RecordText, places: Range<usize>) -> Result<(), NoMemory> {
-        text.some_rows(self.rows, places)
+    fn len(&self) -> usize {
+        self.rows.len()
+    }
+
+    fn print_at(&self, text: &mut RecordText, index: usize) -> Result<(), NoMemory> {
+        text.row(self.rows.at(index))
     }
 }
 
@@ -44,8 +46,13 @@ struct VersionRecords<'a> {
 impl<'a> RecordList for VersionRecords<'a> {
     ghost records = { λ r. map version_record r.versions.now };
 
-    fn print_piece(&self, text: &mut RecordText, places: Range<usize>) -> Result<(), NoMemory> {
-        text.some_versions(self.versions, places)
+    fn len(&self) -> usize {
+        self.versions.len()
+    }
+
+    fn print_at(&self, text: &mut RecordText, index: usize) -> Result<(), NoMemory> {
+        let version = self.versions.at(index);
+        text.version(version.row(), version.sysfrom(), version.systo())
     }
 }
 
@@ -101,7 +108,7 @@ impl AnswerWriter {
             Answer::Anti(unmatched) => self.unmatched(crew, unmatched),
             Answer::Agg(rows) => self.aggregates(crew, rows),
             Answer::Verdict(verdict) => self.verdict(*verdict),
-            Answer::Log(log) => self.log(log),
+            Answer::Log(log) => self.log(crew, log),
         }
     }
 
@@ -123,12 +130,6 @@ impl AnswerWriter {
         self.text.verdict(verdict)
     }
 
-    fn log(&mut self, log: &Log) -> Result<(), NoMemory>
-        ensures { OnOk result (Adds self.old self.new (commit_records log.now)) }
-    {
-        self.text.log(log)
-    }
-
     /// Appends the record that ends a list of `count` records.
     pub(crate) fn end(&mut self, count: u64) -> Result<(), NoMemory>
         ensures { OnOk result (Adds self.old self.new (end_record count ∷ [])) }
@@ -144,7 +145,7 @@ impl AnswerWriter {
     ) -> Result<(), NoMemory>
         ensures { OnOk result (Adds self.old self.new (row_records rows.now)) }
     {
-        self.by_places(crew, rows.len(), &RowRecords { rows })?;
+        self.print_list(crew, &RowRecords { rows })?;
         self.end(rows.len() as u64)
     }
 
@@ -156,7 +157,7 @@ impl AnswerWriter {
     ) -> Result<(), NoMemory>
         ensures { OnOk result (Adds self.old self.new (version_records versions.now)) }
     {
-        self.by_places(crew, versions.len(), &VersionRecords { versions })?;
+        self.print_list(crew, &VersionRecords { versions })?;
         self.end(versions.len() as u64)
     }
 }
@@ -191,18 +192,6 @@ impl RecordText {
         self.end()
     }
 
-    /// Appends the rows of a range of indices.
-    fn some_rows(&mut self, rows: &SharedRows, places: Range<usize>) -> Result<(), NoMemory>
-        ensures { OnOk result (self.new ≡ self.old
-            ++ bytes_of (piece places (map row_record rows.now))) }
-    {
-        let (start, end) = places_within(places, rows.len());
-        for place in start..end {
-            self.row(rows.at(place))?;
-        }
-        Ok(())
-    }
-
     fn row(&mut self, row: RowRef<'_>) -> Result<(), NoMemory>
         ensures { OnOk result (self.new
             ≡ self.old ++ row_text answer_writer (row_record (lent_row row.entry))) }
@@ -212,24 +201,6 @@ impl RecordText {
         self.period(&row.period())?;
         self.values(row)?;
         self.end()
-    }
-
-    /// Appends the versions of a range of indices.
-    fn some_versions(
-        &mut self,
-        versions: &SharedVersions,
-        places: Range<usize>,
-    ) -> Result<(), NoMemory>
-        ensures { OnOk result (self.new ≡ self.old
-            ++ bytes_of (piece places (map version_record versions.now))) }
-    {
-        let (start, end) = places_within(places, versions.len());
-        for place in start..end {
-            let version = versions.at(place);
-            let row: RowRef<'_> = version.row();
-            self.version(row, version.sysfrom(), version.systo())?;
-        }
-        Ok(())
     }
 
     fn version(&mut self, row: RowRef<'_>, sysfrom: u64, systo: Option<u64>) -> Result<(), NoMemory>

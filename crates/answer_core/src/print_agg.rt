@@ -5,16 +5,15 @@ ghost use Rattle.csv.specs.Writing.{fields_text, row_text};
 ghost use Rattle.agg_core.specs.Grouping.{agg_row_of};
 ghost use Rattle.agg_core.specs.Shares.{rows_in, rows_in_shares};
 ghost use Rattle.answer_core.specs.PrintedRecords.{agg_record, agg_records, group_fields};
-ghost use Rattle.answer_core.specs.RecordBytes.{answer_writer, bytes_of};
+ghost use Rattle.answer_core.specs.RecordBytes.{answer_writer};
 ghost use Rattle.answer_core.specs.Unwritten.{Adds};
 
 use crate::ranges::RecordList;
 use crate::record_text::RecordText;
 use crate::writer::AnswerWriter;
-use agg_core::{AggRows, AggShare, Plateau};
 use period_core::NoMemory;
+use query_core::{AggRows, AggShare, Plateau};
 use row_core::{Value, ValueRef};
-use share_core::{Range, piece};
 use std::thread::Threads;
 use work_core::Crew;
 
@@ -29,8 +28,13 @@ impl<'a> RecordList for PlateauRecords<'a> {
     ghost records = { λ p.
         map agg_record (map (agg_row_of p.share.now.groups.items) p.plateaus.now) };
 
-    fn print_piece(&self, text: &mut RecordText, places: Range<usize>) -> Result<(), NoMemory> {
-        text.agg_rows(self.share, piece(places, self.plateaus))
+    fn len(&self) -> usize {
+        self.plateaus.len()
+    }
+
+    fn print_at(&self, text: &mut RecordText, index: usize) -> Result<(), NoMemory> {
+        let plateau = &self.plateaus[index];
+        text.agg_row(self.share.group(plateau), plateau)
     }
 }
 
@@ -73,24 +77,13 @@ impl AnswerWriter {
                 share,
                 plateaus: chunk,
             };
-            self.by_places(crew, chunk.len(), &records)?;
+            self.print_list(crew, &records)?;
         }
         Ok(())
     }
 }
 
 impl RecordText {
-    /// Appends the rows of some constant intervals of a partition.
-    fn agg_rows(&mut self, share: &AggShare, plateaus: &[Plateau]) -> Result<(), NoMemory>
-        ensures { OnOk result (self.new ≡ self.old
-            ++ bytes_of (map agg_record (map (agg_row_of share.now.groups.items) plateaus.now))) }
-    {
-        for plateau in plateaus {
-            self.agg_row(share.group(plateau), plateau)?;
-        }
-        Ok(())
-    }
-
     fn agg_row(&mut self, group: Option<&Value>, plateau: &Plateau) -> Result<(), NoMemory>
         ensures { OnOk result (self.new ≡ self.old ++ row_text answer_writer (agg_record record {
           group = option_copied group.entry;

@@ -3,7 +3,7 @@ ghost use Rattle.std.specs.Prelude.{◌≡◌, ◌++◌, [], OnOk, map};
 ghost use Rattle.csv.specs.Writing.{row_text};
 ghost use Rattle.list_core.specs.Chunks.{all_in};
 ghost use Rattle.answer_core.specs.PrintedRecords.{anti_record, anti_records};
-ghost use Rattle.answer_core.specs.RecordBytes.{answer_writer, bytes_of};
+ghost use Rattle.answer_core.specs.RecordBytes.{answer_writer};
 ghost use Rattle.answer_core.specs.Unwritten.{Adds};
 
 use crate::ranges::RecordList;
@@ -11,9 +11,8 @@ use crate::record_text::RecordText;
 use crate::row_values::RowValues;
 use crate::unmatched::Unmatched;
 use crate::writer::AnswerWriter;
-use anti_core::AntiRow;
 use period_core::NoMemory;
-use share_core::{Range, piece};
+use query_core::AntiRow;
 use std::thread::Threads;
 use work_core::Crew;
 
@@ -27,8 +26,12 @@ struct AntiRecords<'a> {
 impl<'a> RecordList for AntiRecords<'a> {
     ghost records = { λ a. map (anti_record a.left.now) a.rows.now };
 
-    fn print_piece(&self, text: &mut RecordText, places: Range<usize>) -> Result<(), NoMemory> {
-        text.anti_rows(piece(places, self.rows), self.left)
+    fn len(&self) -> usize {
+        self.rows.len()
+    }
+
+    fn print_at(&self, text: &mut RecordText, index: usize) -> Result<(), NoMemory> {
+        text.anti_row(&self.rows[index], self.left)
     }
 }
 
@@ -56,23 +59,13 @@ impl AnswerWriter {
             (Adds self.old self.new (map (anti_record left.now) (all_in chunks.now))) }
     {
         for chunk in chunks {
-            self.by_places(crew, chunk.len(), &AntiRecords { rows: chunk, left })?;
+            self.print_list(crew, &AntiRecords { rows: chunk, left })?;
         }
         Ok(())
     }
 }
 
 impl RecordText {
-    fn anti_rows(&mut self, rows: &[AntiRow], left: &RowValues<'_>) -> Result<(), NoMemory>
-        ensures { OnOk result
-            (self.new ≡ self.old ++ bytes_of (map (anti_record left.now) rows.now)) }
-    {
-        for row in rows {
-            self.anti_row(row, left)?;
-        }
-        Ok(())
-    }
-
     fn anti_row(&mut self, row: &AntiRow, left: &RowValues<'_>) -> Result<(), NoMemory>
         ensures { OnOk result
             (self.new ≡ self.old ++ row_text answer_writer (anti_record left.now row.now)) }

@@ -1,8 +1,7 @@
 //! Prints divisions, and verdicts on claimed ones.
 ghost use Rattle.std.specs.Prelude.{◌≡◌, ◌∷◌, ◌++◌, ℤ, OnOk, Option, codes, decimal, map};
 ghost use Rattle.csv.specs.Writing.{row_text};
-ghost use Rattle.share_core.specs.Pieces.{piece};
-ghost use Rattle.answer_core.specs.RecordBytes.{answer_writer, bytes_of, field_behind};
+ghost use Rattle.answer_core.specs.RecordBytes.{answer_writer, field_behind};
 ghost use Rattle.answer_core.specs.Unwritten.{Adds};
 ghost use Rattle.answer_core.specs.PrintedRecords.{dip_record, division_records, instant_text, part_record, part_records, verdict_record};
 ghost use Rattle.dip_core.specs.Division.{IsInstantOf};
@@ -13,7 +12,7 @@ use crate::writer::AnswerWriter;
 use cert_core::Verdict;
 use dip_core::{Division, Part};
 use period_core::{NoMemory, Point};
-use share_core::{Range, Shares, places_within};
+use share_core::Shares;
 use std::thread::Threads;
 use work_core::Crew;
 
@@ -26,8 +25,14 @@ struct PartRecords<'a> {
 impl<'a> RecordList for PartRecords<'a> {
     ghost records = { λ p. part_records 0 p.division.now };
 
-    fn print_piece(&self, text: &mut RecordText, places: Range<usize>) -> Result<(), NoMemory> {
-        text.some_parts(self.division, places)
+    fn len(&self) -> usize {
+        self.division.parts() as usize
+    }
+
+    fn print_at(&self, text: &mut RecordText, index: usize) -> Result<(), NoMemory> {
+        // The minimum is the index: it shows that the index is a `u32`.
+        let number = index.min(self.division.parts() as usize) as u32;
+        text.part(number, self.division.part(number))
     }
 }
 
@@ -76,18 +81,6 @@ impl AnswerWriter {
 }
 
 impl RecordText {
-    /// Appends the parts of a range of indices.
-    fn some_parts(&mut self, division: &Division, places: Range<usize>) -> Result<(), NoMemory>
-        ensures { OnOk result (self.new ≡ self.old
-            ++ bytes_of (piece places (part_records 0 division.now))) }
-    {
-        let (start, end) = places_within(places, division.parts() as usize);
-        for number in start as u32..end as u32 {
-            self.part(number, division.part(number))?;
-        }
-        Ok(())
-    }
-
     fn heading(&mut self, rows: usize, parts: u32, instant: Option<Point>) -> Result<(), NoMemory>
         ensures { OnOk result
             (self.new ≡ self.old ++ row_text answer_writer (dip_record rows parts instant)) }

@@ -2,7 +2,7 @@
 ghost use Rattle.std.specs.Prelude.{◌≡◌, ◌++◌, OnOk, map};
 ghost use Rattle.csv.specs.Writing.{row_body, row_text};
 ghost use Rattle.answer_core.specs.PrintedRecords.{join_front, join_record, join_records};
-ghost use Rattle.answer_core.specs.RecordBytes.{answer_writer, bytes_of};
+ghost use Rattle.answer_core.specs.RecordBytes.{answer_writer};
 ghost use Rattle.answer_core.specs.Unwritten.{Adds};
 
 use crate::joined::Joined;
@@ -10,9 +10,8 @@ use crate::ranges::RecordList;
 use crate::record_text::RecordText;
 use crate::row_values::RowValues;
 use crate::writer::AnswerWriter;
-use join_core::JoinRow;
 use period_core::NoMemory;
-use share_core::{Range, piece};
+use query_core::JoinRow;
 use std::thread::Threads;
 use work_core::Crew;
 
@@ -27,8 +26,12 @@ struct JoinRecords<'a> {
 impl<'a> RecordList for JoinRecords<'a> {
     ghost records = { λ j. map (join_record j.left.now j.right.now) j.rows.now };
 
-    fn print_piece(&self, text: &mut RecordText, places: Range<usize>) -> Result<(), NoMemory> {
-        text.join_rows(piece(places, self.rows), self.left, self.right)
+    fn len(&self) -> usize {
+        self.rows.len()
+    }
+
+    fn print_at(&self, text: &mut RecordText, index: usize) -> Result<(), NoMemory> {
+        text.join_row(&self.rows[index], self.left, self.right)
     }
 }
 
@@ -48,27 +51,12 @@ impl AnswerWriter {
             left: &left,
             right: &right,
         };
-        self.by_places(crew, joined.rows().len(), &records)?;
+        self.print_list(crew, &records)?;
         self.end(joined.rows().len() as u64)
     }
 }
 
 impl RecordText {
-    fn join_rows(
-        &mut self,
-        rows: &[JoinRow],
-        left: &RowValues<'_>,
-        right: &RowValues<'_>,
-    ) -> Result<(), NoMemory>
-        ensures { OnOk result
-            (self.new ≡ self.old ++ bytes_of (map (join_record left.now right.now) rows.now)) }
-    {
-        for row in rows {
-            self.join_row(row, left, right)?;
-        }
-        Ok(())
-    }
-
     fn join_row(
         &mut self,
         row: &JoinRow,

@@ -1,40 +1,58 @@
 //! Prints a list of records on several workers, each of which prints a partition of it.
-ghost use Rattle.std.specs.Prelude.{◌≡◌, ◌++◌, List, length, IfOk, OnOk};
+ghost use Rattle.std.specs.Prelude.{◌≡◌, ◌<◌, ◌++◌, [], List, get_or, length, IfOk, OnOk};
+ghost use Rattle.csv.specs.Writing.{row_text};
 ghost use Rattle.list_core.specs.Chunks.{all_in};
 ghost use Rattle.share_core.specs.Pieces.{piece};
 ghost use Rattle.command_core.specs.Records.{Record};
-ghost use Rattle.answer_core.specs.RecordBytes.{bytes_of};
+ghost use Rattle.answer_core.specs.RecordBytes.{answer_writer, bytes_of};
 ghost use Rattle.answer_core.specs.Unwritten.{Adds};
 
 use crate::record_text::RecordText;
 use crate::writer::AnswerWriter;
 use period_core::NoMemory;
-use share_core::{Range, Shares, shared_out};
+use share_core::{Range, Shares, places_within, shared_out};
 use std::alloc::Global;
 use std::thread::Threads;
 use work_core::Crew;
 
-/// A list of records, any range of which can be printed by itself.
+/// A list of records, each of which can be printed by itself.
 pub(crate) trait RecordList: Sync {
     // The records.
     ghost records: { Self → List Record };
 
-    /// Appends the records of a range of indices.
-    fn print_piece(&self, text: &mut RecordText, places: Range<usize>) -> Result<(), NoMemory>
-        ensures { OnOk result
-            (text.new ≡ text.old ++ bytes_of (piece places (records self.now))) };
+    /// Returns the number of records.
+    fn len(&self) -> usize
+        ensures { result ≡ length (records self.now) };
+
+    /// Appends the record at an index.
+    fn print_at(&self, text: &mut RecordText, index: usize) -> Result<(), NoMemory>
+        requires { index < length (records self.now) }
+        ensures { OnOk result (text.new
+            ≡ text.old ++ row_text answer_writer (get_or (records self.now) index [])) };
+}
+
+/// Appends the records of a range of indices.
+fn print_range<L: RecordList>(
+    list: &L,
+    text: &mut RecordText,
+    range: Range<usize>,
+) -> Result<(), NoMemory>
+    ensures { OnOk result
+        (text.new ≡ text.old ++ bytes_of (piece range (L.records list.now))) }
+{
+    let (start, end) = places_within(range, list.len());
+    for index in start..end {
+        list.print_at(text, index)?;
+    }
+    Ok(())
 }
 
 /// Returns the text of the records of a range of indices.
-fn text_of<L: RecordList>(
-    alloc: Global,
-    list: &L,
-    places: Range<usize>,
-) -> Result<Vec<u8>, NoMemory>
-    ensures { IfOk result (λ text. text.items ≡ bytes_of (piece places (L.records list.now))) }
+fn text_of<L: RecordList>(alloc: Global, list: &L, range: Range<usize>) -> Result<Vec<u8>, NoMemory>
+    ensures { IfOk result (λ text. text.items ≡ bytes_of (piece range (L.records list.now))) }
 {
     let mut text = RecordText::new(alloc);
-    list.print_piece(&mut text, places)?;
+    print_range(list, &mut text, range)?;
     Ok(text.into_bytes())
 }
 
@@ -51,25 +69,23 @@ fn texts_of<R: Threads + Sync, G, L: RecordList>(
         rt,
         alloc,
         shares,
-        &|places: Range<usize>, _workers: u32| -> Result<Vec<u8>, NoMemory>
+        &|range: Range<usize>, _workers: u32| -> Result<Vec<u8>, NoMemory>
             ensures { IfOk result (λ text.
-                text.items ≡ bytes_of (piece places (L.records list.entry.now))) }
-        { text_of(alloc, list, places) },
+                text.items ≡ bytes_of (piece range (L.records list.entry.now))) }
+        { text_of(alloc, list, range) },
     )
 }
 
 impl AnswerWriter {
-    /// Appends the `count` records of a list. Workers share them by index.
-    pub(crate) fn by_places<R: Threads + Sync, G, L: RecordList>(
+    /// Appends the records of a list. Workers share them by index.
+    pub(crate) fn print_list<R: Threads + Sync, G, L: RecordList>(
         &mut self,
         crew: &Crew<'_, R, G>,
-        count: usize,
         list: &L,
     ) -> Result<(), NoMemory>
-        requires { count ≡ length (L.records list.now) }
         ensures { OnOk result (Adds self.old self.new (L.records list.now)) }
     {
-        let shares = Shares::of(crew.alloc, count, crew.workers, &|place: usize| place)?;
+        let shares = Shares::of(crew.alloc, list.len(), crew.workers, &|index: usize| index)?;
         self.by_ranges(crew, &shares, list)
     }
 
@@ -87,7 +103,7 @@ impl AnswerWriter {
                 from: None,
                 before: None,
             };
-            return list.print_piece(&mut self.text, all);
+            return print_range(list, &mut self.text, all);
         }
         let texts = texts_of(crew, shares, list)?;
         self.add_texts(texts)

@@ -3,8 +3,8 @@ ghost use Rattle.std.specs.Prelude.{◌≡◌, IfOk};
 ghost use Rattle.row_core.specs.Rows.{RowsRise};
 
 use crate::row_values::RowValues;
-use anti_core::AntiRows;
 use period_core::NoMemory;
+use query_core::AntiRows;
 use std::alloc::Global;
 use std::marker::Model;
 use table_core::SharedRows;

@@ -8,7 +8,7 @@ mod laws;
 mod query;
 mod rows_by_id;
 
-pub use agg_core::{AggRow, AggRowRef, AggRows, AggShare, Func, agg};
+pub use agg_core::{AggRow, AggRowRef, AggRows, AggShare, Func, Plateau, agg};
 pub use anti_core::{AntiRow, AntiRows, GapPairs, anti};
 pub use join_core::{JoinAnswer, JoinOut, JoinPairs, JoinRow, JoinRows, join, join_rows};
 pub use laws::join_and_anti_share_left_rows;

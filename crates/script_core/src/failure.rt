@@ -6,7 +6,7 @@ ghost use Rattle.script_core.specs.Refusal.{book_refusal, query_refusal, range_r
 
 use book_core::BookRefused;
 use command_core::{Fault, Refusal};
-use match_core::QueryRefused;
+use query_core::QueryRefused;
 use row_core::{RowRefused, ValueRefused};
 use store_core::{NoTable, RangeRefused};
 

@@ -42,8 +42,7 @@ impl Ledger {
         }
     }
 
-    /// Makes a change, and returns the commit's number, counted from 1. If a snapshot shares the book, it is copied
-    /// first.
+    /// Makes a change, and returns the commit's number, counted from 1.
     pub(crate) fn commit<R: Wait>(
         &mut self,
         rt: &R,

@@ -1,0 +1,7 @@
+use Rattle.std.proofs.Common.{◌∙◌, sym}
+use Rattle.std.proofs.lemmas.List.{length-map}
+use Rattle.answer_core.specs.PrintedRecords.{row_record}
+use Rattle.answer_core.proofs.print.RowRecordsRecordList.len.Goals as goal
+
+pub returns : goal.returns
+returns c = c.len.ensures ∙ sym (length-map c.args.self.now.rows.now row_record)
