@@ -7,12 +7,12 @@ use Rattle.std.proofs.lemmas.Bool.{both_ways, cases_Bool, cases_lt, true≢false
 use Rattle.std.proofs.lemmas.Int.{ints, by_lt_z}
 use Rattle.std.proofs.lemmas.Option.{none-some}
 use Rattle.std.proofs.lemmas.List.{append-nil, nil_from_length}
-use Rattle.std.proofs.lemmas.List.Elements.{All-cons, All-get_or, All-head, All-nil, All-tail}
+use Rattle.std.proofs.lemmas.List.Elements.{All-cons, All-get_or, All-head, All-tail}
 use Rattle.std.proofs.lemmas.List.Kept.{AllPairs-cons}
 use Rattle.std.proofs.lemmas.List.Sorted.{All-permutation, IsPermutation-append_left, IsPermutation-cons, IsPermutation-middle, IsPermutation-refl, IsPermutation-sym, IsPermutation-trans}
 use Rattle.list_core.proofs.RisingLemmas.{AllPairs-tail}
 use Rattle.dip_core.specs.declared.item.Item.{Item}
-use Rattle.dip_core.specs.Item.{item_cmp, HasDistinctIds, IsBelow, IsChain, IsRising}
+use Rattle.dip_core.specs.Item.{item_cmp, HasDistinctIds, IsBelow, IsRising}
 use Rattle.dip_core.specs.Division.{all_of, part_at, IsDip, IsDivision, IsInstant, IsInstantOf, IsLeast, IsLeastDivision, IsPlaced}
 use Rattle.dip_core.specs.Invariants.{ArePlaced, opener}
 use Rattle.dip_core.specs.Placing.{IsBestPart, IsGreatest, IsPlaceFor, NoPartIsFree, added, last_end}
@@ -22,7 +22,7 @@ use Rattle.dip_core.proofs.DivisionLemmas.{HasDistinctIds-permutation, IsDivisio
 use Rattle.dip_core.proofs.DipUniqueness.{less-from_test, one_placed}
 use Rattle.dip_core.proofs.OrderLemmas.{not_below-trans, not_below_back}
 use Rattle.dip_core.proofs.LastLemmas.{last_end_is, same_end}
-use Rattle.dip_core.proofs.StepLemmas.{ArePlaced-added, IsGreatest-added}
+use Rattle.dip_core.proofs.StepLemmas.{ArePlaced-added, IsGreatest-added, none_placed}
 
 -- ---- the sorted items
 
@@ -186,14 +186,6 @@ place_all parts last (x ∷ xs) are greatest above rising =
   where
     same_item_at : (x z : Item) → Some x ≡ Some z → x ≡ z
     same_item_at x z is = cc
-
-none_placed : ArePlaced []
-none_placed = record {
-  filled = All-nil (λ part. 0 < length part);
-  chained = All-nil IsChain;
-  crowded = λ d some. absurd (omega arith);
-  placed = λ distinct. record { rise = λ i j x y less h. absurd (omega arith); each = λ k x h. absurd (omega arith) };
-}
 
 some_placed : (items : List Item) → (parts : List (List Item)) × (IsPermutation items (all_of parts) × ArePlaced parts)
 some_placed items =

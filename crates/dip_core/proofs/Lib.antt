@@ -12,7 +12,9 @@ pub mod PartedLemmas
 pub mod PlacedLemmas
 pub mod StepLemmas
 pub mod DivisionLemmas
+pub mod NumbersLemmas
 pub mod SortedLemmas
+pub mod PlacingLemmas
 pub mod DipUniqueness
 pub mod DipExistence
 pub mod Steps

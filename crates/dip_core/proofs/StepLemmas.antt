@@ -228,6 +228,14 @@ place-within parts start k place =
           (let e : k ≡ length parts = opened.0 in omega arith)
     ]
 
+pub none_placed : ArePlaced []
+none_placed = record {
+  filled = All-nil (λ part. 0 < length part);
+  chained = All-nil IsChain;
+  crowded = λ d some. absurd (omega arith);
+  placed = λ distinct. record { rise = λ i j x y less h. absurd (omega arith); each = λ k x h. absurd (omega arith) };
+}
+
 pub ArePlaced-added : (parts : List (List Item)) (last : Option Item) (k : ℕ) (x : Item) → ArePlaced parts
     → IsGreatest parts last → ForSome last (λ z. IsBelow x z → ⊥) → IsPlaceFor parts x.period.from k
     → ArePlaced (added parts k x)

@@ -3,7 +3,7 @@ use Rattle.std.specs.Prelude.{◌≡◌, ◌≢◌, ◌==◌, ◌⊎◌, ℕ, �
 use Rattle.std.specs.List.{HoldsAt}
 use Rattle.dip_core.specs.declared.item.Item.{Item}
 use Rattle.dip_core.specs.Division.{part_at}
-use Rattle.dip_core.specs.Placing.{last_end}
+use Rattle.dip_core.specs.Placing.{last_end, added, IsPlaceFor}
 
 -- The end of a part's last item, and the part's number.
 pub record Ending : Type 0 where
@@ -70,3 +70,17 @@ pub record HoldLastEnds (parts : List (List Item)) (ends : List Ending) : Type 0
   pub long : length ends ≡ length parts
   pub right : All (λ e. last_end (part_at parts e.number) ≡ Some e.end) ends
   pub each : (k : ℕ) → k < length parts → count_by (λ e. e.number == k) ends ≡ 1
+
+-- Part `k` is the one for an item that starts at `start`, in all parts with these last ends.
+abbrev pub IsPlaceByEnds : List Ending → ℤ → ℕ → Type 0
+IsPlaceByEnds ends start k = (parts : List (List Item)) → HoldLastEnds parts ends → IsPlaceFor parts start k
+
+-- Part `k` is a new one, or the part whose end is the first.
+abbrev pub IsNewOrFirst : List Ending → ℕ → Type 0
+IsNewOrFirst ends k = (k ≡ length ends) ⊎ ((0 < length ends) × HoldsAt (λ e. e.number ≡ k) ends 0)
+
+-- In all parts with the last ends `old`, if part `k` gets an item that ends at `end`, the last ends are `new`.
+abbrev pub GetsEnd : List Ending → List Ending → ℕ → ℤ → Type 0
+GetsEnd old new k end =
+    (parts : List (List Item)) (x : Item) → x.period.to ≡ end → HoldLastEnds parts old
+    → HoldLastEnds (added parts k x) new

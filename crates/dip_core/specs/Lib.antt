@@ -4,3 +4,4 @@ pub mod Placing
 pub mod Digits
 pub mod Heap
 pub mod Invariants
+pub mod Numbers

@@ -6,13 +6,17 @@ ghost use Rattle.dip_core.specs.Item.{IsChain, IsRising, HasDistinctIds, item_cm
 ghost use Rattle.dip_core.specs.Division.{all_of, part_at, IsDip, IsDivision, IsInstant, IsInstantOf, IsLeast, IsLeastDivision};
 ghost use Rattle.dip_core.specs.Invariants.{ArePlaced, IsDivided};
 
+use crate::numbers::{numbers_of, parts_by_two, parts_from};
 use crate::part_items::PartItems;
-use crate::{Item, NoMemory, Part, Placer};
+use crate::{Item, NoMemory, Part};
 use period_core::Point;
 use sort_core::sort_unstable;
 use std::alloc::Global;
 use std::marker::Model;
 use std::thread::Threads;
+
+/// With fewer items, one thread would have made all parts before another had started.
+const ITEMS_FOR_THREADS: usize = 16_384;
 
 /// A division of at most 1,000,000 items into the least number of parts without overlaps. Contracts see it as the list
 /// of its parts.
@@ -107,16 +111,14 @@ pub fn divide_sorted(alloc: Global, sorted: &[Item]) -> Result<Division, NoMemor
         → IsDip sorted.now division) }
     ensures empty { IfOk result (λ division. (division ≡ []) ↔ (sorted.now ≡ [])) }
 {
-    let mut placer = Placer::new(alloc);
-    for item in sorted {
-        placer.place(*item)?;
-    }
-    Ok(placer.finish())
+    let numbers = numbers_of(alloc, sorted)?;
+    let parts = parts_from(alloc, sorted, &numbers.of_items, 0, &numbers.sizes)?;
+    Ok(Division::from_parts(parts))
 }
 
 /// Divides at most 1,000,000 items into the least number of parts without overlaps. If ids are distinct, the division
 /// is the items' dip: each item is in the part that `Placer::place` chooses for it, if items are placed by start, end
-/// and id. A long list is sorted on several threads if `workers` is more than 1.
+/// and id. A long list is sorted on several threads, and its parts are made by two, if `workers` is more than 1.
 ///
 /// # Errors
 ///
@@ -134,5 +136,10 @@ pub fn create_dip<R: Threads + Sync>(
     ensures empty { IfOk result (λ division. (division ≡ []) ↔ (items.items ≡ [])) }
 {
     sort_unstable(rt, &mut items, workers);
-    divide_sorted(alloc, &items)
+    if workers < 2 || items.len() < ITEMS_FOR_THREADS {
+        return divide_sorted(alloc, &items);
+    }
+    let numbers = numbers_of(alloc, &items)?;
+    let parts = parts_by_two(rt, alloc, &items, &numbers)?;
+    Ok(Division::from_parts(parts))
 }

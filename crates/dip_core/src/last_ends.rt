@@ -169,17 +169,6 @@ impl LastEnds {
         Ok(())
     }
 
-    /// Removes the last end of the list.
-    pub fn pop(&mut self)
-        requires { 0 < length self.old.ends }
-        ensures ends { self.new.ends ≡ take (length self.old.ends - 1) self.old.ends }
-        ensures looks { self.new.looks ≡ self.old.looks }
-        ensures all_looks { self.new.all_looks ≡ self.old.all_looks }
-    {
-        let kept = self.ends.len() - 1;
-        self.ends.truncate(kept);
-    }
-
     /// Resets the counted looks after a refused placement. `all_looks` keeps them.
     pub fn take_back(&mut self, before: u64)
         requires { before ≤ self.old.looks }

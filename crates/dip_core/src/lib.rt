@@ -9,6 +9,7 @@ mod ids;
 mod item;
 mod last_ends;
 mod laws;
+mod numbers;
 mod part;
 mod part_items;
 mod parts;

@@ -6,7 +6,7 @@ use crate::{Item, NoMemory};
 use std::alloc::Global;
 use std::marker::Model;
 
-/// A part's items, at least one. Contracts see their list.
+/// A part's items. Contracts see their list.
 #[derive(Drop)]
 pub(crate) struct PartItems {
     items: Vec<Item>,
@@ -22,12 +22,11 @@ impl Model for PartItems {
 }
 
 impl PartItems {
-    /// Returns a part with that item, so no part is ever empty.
-    pub fn open(alloc: Global, item: &Item) -> Result<PartItems, NoMemory>
-        ensures { IfOk result (λ part. part ≡ item.now ∷ []) }
+    /// Returns a part without items, whose first `capacity` items need no more memory.
+    pub fn with_capacity(alloc: Global, capacity: usize) -> Result<PartItems, NoMemory>
+        ensures { IfOk result (λ part. part ≡ []) }
     {
-        let mut items = Vec::new(alloc);
-        items.push(*item)?;
+        let items = Vec::with_capacity(alloc, capacity)?;
         Ok(PartItems { items })
     }
 

@@ -1,6 +1,6 @@
 //! The parts of a placer.
 
-ghost use Rattle.std.specs.Prelude.{◌≡◌, ◌<◌, [], length, OnErr, OnOk};
+ghost use Rattle.std.specs.Prelude.{◌≡◌, ◌-◌, ◌≤◌, [], length, take, OnErr, OnOk};
 ghost use Rattle.dip_core.specs.Placing.{added};
 
 use crate::part_items::PartItems;
@@ -39,24 +39,28 @@ impl Parts {
         self.list.len()
     }
 
-    /// Appends the item to the part with that number. On `NoMemory` nothing is changed.
-    pub fn push(&mut self, number: usize, item: &Item) -> Result<(), NoMemory>
-        requires { number < length self.old }
+    /// Appends the item to the part with that number, or to a new last part if the number is the number of parts. On
+    /// `NoMemory` nothing is changed.
+    pub fn push(&mut self, alloc: Global, number: usize, item: &Item) -> Result<(), NoMemory>
+        requires { number ≤ length self.old }
         ensures ok { OnOk result (self.new ≡ added self.old number item.now) }
         ensures err { OnErr result (self.new ≡ self.old) }
     {
-        self.list[number].push(item)?;
+        if number == self.list.len() {
+            let mut part = PartItems::with_capacity(alloc, 1)?;
+            part.push(item)?;
+            self.list.push(part)?;
+        } else {
+            self.list[number].push(item)?;
+        }
         Ok(())
     }
 
-    /// Adds a new last part with the item. On `NoMemory` nothing is changed.
-    pub fn open(&mut self, alloc: Global, item: &Item) -> Result<(), NoMemory>
-        ensures ok { OnOk result (self.new ≡ added self.old (length self.old) item.now) }
-        ensures err { OnErr result (self.new ≡ self.old) }
+    /// Removes the last part.
+    pub fn pop(&mut self)
+        ensures { self.new ≡ take (length self.old - 1) self.old }
     {
-        let part = PartItems::open(alloc, item)?;
-        self.list.push(part)?;
-        Ok(())
+        self.list.pop();
     }
 
     /// Returns the parts, after all items are placed.

@@ -1,9 +1,9 @@
 //! The placement of one item. Last ends form a binary heap; its root is the end of the part that ends first.
 
-ghost use Rattle.std.specs.Prelude.{◌≡◌, ℕ, ◌+◌, ◌-◌, ◌*◌, ◌^◌, ◌<◌, ◌≤◌, ◌<ℤ◌, MatchOption, IfOk, OnErr, OnOk, All, length, IsPermutation};
+ghost use Rattle.std.specs.Prelude.{◌≡◌, ℕ, ◌+◌, ◌-◌, ◌*◌, ◌^◌, ◌<◌, ◌≤◌, ◌<ℤ◌, min, MatchOption, IfOk, OnErr, OnOk, All, length, IsPermutation};
 ghost use Rattle.std.specs.List.{HoldsAt};
 ghost use Rattle.dip_core.specs.Placing.{IsPlaceFor, added};
-ghost use Rattle.dip_core.specs.Heap.{ComesFirstBelow, CountsEachLook, HoldLastEnds, IsFirstOver, IsHeap, IsHeapButAbove, IsHeapButBelow};
+ghost use Rattle.dip_core.specs.Heap.{ComesFirstBelow, CountsEachLook, GetsEnd, HoldLastEnds, IsFirstOver, IsHeap, IsHeapButAbove, IsHeapButBelow, IsNewOrFirst, IsPlaceByEnds};
 
 use crate::last_ends::LastEnds;
 use crate::parts::Parts;
@@ -35,9 +35,29 @@ pub(crate) fn place_item(
     ensures honest { CountsEachLook ends.old ends.new }
     ensures once { OnErr result (ends.new.looks ≤ ends.old.looks + 1) }
 {
-    match first_over(ends, item.period.from) {
-        Some(number) => join_part(parts, ends, number, item),
-        None => open_part(alloc, parts, ends, item),
+    let number = part_for(ends, item.period.from);
+    parts.push(alloc, number, item)?;
+    if let Err(refused) = set_end(ends, number, item.period.to) {
+        parts.pop();
+        return Err(refused);
+    }
+    Ok(number)
+}
+
+/// Returns the number of the part for an item that starts at `start`: the part that ends first, if it has ended by
+/// then, and otherwise a new one.
+pub(crate) fn part_for(ends: &mut LastEnds, start: Point) -> usize
+    requires heap { IsHeap ends.old.ends }
+    requires room { ends.old.looks + 1 < 2 ^ 64 }
+    ensures place { IsPlaceByEnds ends.old.ends start result }
+    ensures next { IsNewOrFirst ends.old.ends result }
+    ensures same { ends.new.ends ≡ ends.old.ends }
+    ensures looked { ends.new.looks ≡ ends.old.looks + min 1 (length ends.old.ends) }
+    ensures honest { CountsEachLook ends.old ends.new }
+{
+    match first_over(ends, start) {
+        Some(number) => number,
+        None => ends.len(),
     }
 }
 
@@ -63,65 +83,29 @@ fn first_over(ends: &mut LastEnds, start: Point) -> Option<usize>
     }
 }
 
-/// Appends the item to the part with that number, which must be the one that ends first. Returns the number, as
-/// `open_part` does.
-fn join_part(
-    parts: &mut Parts,
-    ends: &mut LastEnds,
-    number: usize,
-    item: &Item,
-) -> Result<usize, NoMemory>
-    requires some { 0 < length ends.old.ends }
+/// Sets the last end of the part with that number, which is a new part or the one that ends first. On `NoMemory`, which
+/// only a new part can meet, nothing is changed.
+pub(crate) fn set_end(ends: &mut LastEnds, number: usize, end: Point) -> Result<(), NoMemory>
     requires heap { IsHeap ends.old.ends }
-    requires first { HoldsAt (λ e. e.number ≡ number) ends.old.ends 0 }
-    requires last_ends { HoldLastEnds parts.old ends.old.ends }
-    requires room { ends.old.looks + 2 * length ends.old.ends < 2 ^ 64 }
-    ensures number { IfOk result (λ k. k ≡ number) }
-    ensures added { OnOk result (parts.new ≡ added parts.old number item.now) }
+    requires next { IsNewOrFirst ends.old.ends number }
+    requires room { ends.old.looks + 2 * length ends.old.ends + 1 < 2 ^ 64 }
     ensures heap { OnOk result (IsHeap ends.new.ends) }
-    ensures last_ends { OnOk result (HoldLastEnds parts.new ends.new.ends) }
+    ensures last_ends { OnOk result (GetsEnd ends.old.ends ends.new.ends number end) }
     ensures more { OnOk result (ends.old.looks ≤ ends.new.looks) }
     ensures few { OnOk result ((digits : ℕ) → length ends.old.ends < 2 ^ digits
-        → ends.new.looks + 2 ≤ ends.old.looks + 2 * digits) }
-    ensures parts_err { OnErr result (parts.new ≡ parts.old) }
-    ensures ends_err { OnErr result (ends.new ≡ ends.old) }
+        → ends.new.looks + min 1 (length ends.old.ends) ≤ ends.old.looks + 2 * digits) }
     ensures honest { OnOk result (CountsEachLook ends.old ends.new) }
+    ensures err { OnErr result (ends.new ≡ ends.old) }
+    ensures new { OnErr result (number ≡ length ends.old.ends) }
 {
-    parts.push(number, item)?;
-    ends.replace_first(item.period.to, number);
-    sift_down(ends);
-    Ok(number)
-}
-
-/// Adds the item as a new last part, so the others keep their numbers. Returns the new part's number.
-fn open_part(
-    alloc: Global,
-    parts: &mut Parts,
-    ends: &mut LastEnds,
-    item: &Item,
-) -> Result<usize, NoMemory>
-    requires heap { IsHeap ends.old.ends }
-    requires last_ends { HoldLastEnds parts.old ends.old.ends }
-    requires room { ends.old.looks + length ends.old.ends + 1 < 2 ^ 64 }
-    ensures number { IfOk result (λ k. k ≡ length parts.old) }
-    ensures added { OnOk result (parts.new ≡ added parts.old (length parts.old) item.now) }
-    ensures heap { OnOk result (IsHeap ends.new.ends) }
-    ensures last_ends { OnOk result (HoldLastEnds parts.new ends.new.ends) }
-    ensures more { OnOk result (ends.old.looks ≤ ends.new.looks) }
-    ensures few { OnOk result ((digits : ℕ) → length ends.old.ends < 2 ^ digits
-        → ends.new.looks ≤ ends.old.looks + digits) }
-    ensures parts_err { OnErr result (parts.new ≡ parts.old) }
-    ensures ends_err { OnErr result (ends.new ≡ ends.old) }
-    ensures honest { OnOk result (CountsEachLook ends.old ends.new) }
-{
-    let number = parts.len();
-    ends.push(item.period.to, number)?;
-    if let Err(refused) = parts.open(alloc, item) {
-        ends.pop();
-        return Err(refused);
+    if number == ends.len() {
+        ends.push(end, number)?;
+        sift_up(ends);
+    } else {
+        ends.replace_first(end, number);
+        sift_down(ends);
     }
-    sift_up(ends);
-    Ok(number)
+    Ok(())
 }
 
 /// Returns the child of index `place` that comes first. Costs at most one look.

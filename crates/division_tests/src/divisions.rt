@@ -124,11 +124,11 @@ fn days(rt: &impl Alloc<A = Global>, count: u32) -> Result<Vec<Point>, Fail> {
     Ok(days)
 }
 
-// Returns 5,000 items of ten days each, in descending order: each starts a day before the previous one.
+// Returns 20,000 items of ten days each, in descending order: each starts a day before the previous one.
 fn falling(rt: &impl Alloc<A = Global>) -> Result<Vec<Item>, Fail> {
-    let days = days(rt, 5_010)?;
+    let days = days(rt, 20_010)?;
     let mut items = Vec::new(rt.alloc());
-    for (id, (from, to)) in (1..=5_000).zip(days.iter().zip(days.iter().skip(10))) {
+    for (id, (from, to)) in (1..=20_000).zip(days.iter().zip(days.iter().skip(10))) {
         items.push(Item {
             period: Period::new(*from, *to)?,
             id,
@@ -141,16 +141,16 @@ fn falling(rt: &impl Alloc<A = Global>) -> Result<Vec<Item>, Fail> {
 }
 
 #[test]
-fn divides_a_row_of_5_000(rt: HostRuntime) -> Result<(), Fail> {
+fn divides_a_row_of_20_000(rt: HostRuntime) -> Result<(), Fail> {
     let items = falling(&rt)?;
-    assert_eq!(rt; items.len(), 5_000);
+    assert_eq!(rt; items.len(), 20_000);
     let division = create_dip(&rt, rt.alloc(), items, 4)?;
     assert_eq!(rt; division.parts(), 10);
     for number in 0..10 {
         assert!(rt; number < division.parts());
         let part = division.part(number).items();
-        assert_eq!(rt; part.len(), 500);
-        for (place, item) in (0..500u32).zip(part) {
+        assert_eq!(rt; part.len(), 2_000);
+        for (place, item) in (0..2_000u32).zip(part) {
             assert_eq!(rt; item.id, number as u64 + 10 * place as u64 + 1);
         }
     }

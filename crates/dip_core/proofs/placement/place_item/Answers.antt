@@ -1,24 +1,22 @@
-use Rattle.std.proofs.Common.{◌≡◌, ℕ, length, inl, inr, subst, sym}
-use Rattle.std.proofs.lemmas.Result.{IfOk-weaker}
-use Rattle.dip_core.specs.Placing.{IsBestPart}
-use Rattle.dip_core.proofs.EndsLemmas.{best-first, none-over}
+use Rattle.std.proofs.Common.{◌≡◌, ◌-◌, ◌∙◌, List, ap, length, take}
+use Rattle.dip_core.specs.declared.item.Item.{Item}
+use Rattle.dip_core.specs.Placing.{added}
+use Rattle.dip_core.proofs.AddedLemmas.{take-added}
+use Rattle.dip_core.proofs.StepLemmas.{place-within}
 use Rattle.dip_core.proofs.placement.place_item.Goals as goal
 
-pub returns-in-Some-clause-place : goal.returns-in-Some-clause-place
-returns-in-Some-clause-place c =
-    let parts = c.args.parts.now in
-    let start = c.args.item.now.period.from in
-    let best =
-    best-first parts c.args.ends.now.ends start c.in-Some.number c.requires.last_ends c.in-Some.ensures.first in
-    IfOk-weaker c.join_part.result _ _
-    (λ (k : ℕ) (number : k ≡ c.in-Some.number). inl (subst (IsBestPart parts start) (sym number) best))
-    c.join_part.ensures.number
+pub push-requires : goal.push-requires
+push-requires c =
+    place-within c.args.parts.now c.args.item.now.period.from c.part_for-number.result
+    (c.part_for-number.ensures.place c.args.parts.now c.requires.last_ends)
 
-pub returns-in-None-clause-place : goal.returns-in-None-clause-place
-returns-in-None-clause-place c =
+pub returns-in-Err-clause-parts_err : goal.returns-in-Err-clause-parts_err
+returns-in-Err-clause-parts_err c =
     let parts = c.args.parts.now in
-    let start = c.args.item.now.period.from in
-    let none = none-over parts c.args.ends.now.ends start c.in-None.ensures.first c.requires.last_ends in
-    IfOk-weaker c.open_part.result _ _
-    (λ (k : ℕ) (number : k ≡ length parts). inr (number, none))
-    c.open_part.ensures.number
+    let item = c.args.item.now in
+    let new : c.part_for-number.result ≡ length parts =
+    c.in-Err.ensures.new ∙ ap length c.part_for-number.ensures.same ∙ c.requires.last_ends.long in
+    c.pop.ensures
+    ∙ ap (λ (ps : List (List Item)). take (length ps - 1) ps)
+    (c.in_ok-push.ensures.ok ∙ ap (λ n. added parts n item) new)
+    ∙ take-added parts item

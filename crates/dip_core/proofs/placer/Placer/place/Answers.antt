@@ -6,9 +6,10 @@ use Rattle.dip_core.specs.Division.{all_of}
 use Rattle.dip_core.specs.Placing.{Placing, IsPlaceFor}
 use Rattle.dip_core.specs.Heap.{HoldLastEnds}
 use Rattle.dip_core.specs.Invariants.{IsPlacing}
-use Rattle.dip_core.proofs.AddedLemmas.{length-le-all_of, length-all_of-added}
+use Rattle.dip_core.proofs.AddedLemmas.{length-le-all_of}
 use Rattle.dip_core.proofs.DigitsLemmas.{some_digits}
-use Rattle.dip_core.proofs.StepLemmas.{ArePlaced-added, IsGreatest-added, place-within}
+use Rattle.dip_core.proofs.PlacingLemmas.{IsPlacing-added}
+use Rattle.dip_core.proofs.StepLemmas.{place-within}
 use Rattle.dip_core.proofs.placer.Placer.place.Goals as goal
 
 pub place_item-requires-clause-room : goal.place_item-requires-clause-room
@@ -41,25 +42,15 @@ invariant_of-self-2 c =
     let room : length (all_of parts) < item_limit =
     subst (λ (parts : List (List Item)). length (all_of parts) < item_limit) (sym parts_were) c.requires.room in
     let grown = c.in-Ok.ensures.added in
-    let longer = length-all_of-added parts number item in
     let counted = c.self.invariant.counted in
     let few = length-le-all_of parts c.self.invariant.are_placed.filled in
     let looks : c.place_item.new.ends.looks ≤ c.self.inside.ends.looks + 2 * 20 =
     c.in-Ok.ensures.few 20 (omega (arith, few, room)) in
-    let few_looks = c.self.invariant.few_looks in
     subst (λ (ps : List (List Item)). IsPlacing ps c.place_item.new.ends (Some item) (c.self.inside.len + 1)) (sym grown)
-    (record {
-      are_placed =
-          ArePlaced-added parts c.self.inside.last number item c.self.invariant.are_placed c.self.invariant.greatest
-          above c.in-Ok.ensures.place;
-      ordered = c.in-Ok.ensures.heap;
-      last_ends = subst (λ (ps : List (List Item)). HoldLastEnds ps c.place_item.new.ends.ends) grown
-          c.in-Ok.ensures.last_ends;
-      greatest = IsGreatest-added parts c.self.inside.last number item c.self.invariant.greatest above;
-      counted = omega (arith, longer, counted);
-      small = omega (arith, counted, room);
-      few_looks = omega (arith, looks, few_looks);
-    })
+    (IsPlacing-added parts c.self.inside.ends c.place_item.new.ends c.self.inside.last c.self.inside.len number item
+    c.self.invariant above (omega (arith, counted, room)) c.in-Ok.ensures.place c.in-Ok.ensures.heap
+    (subst (λ (ps : List (List Item)). HoldLastEnds ps c.place_item.new.ends.ends) grown c.in-Ok.ensures.last_ends)
+    (omega (arith, looks)))
 
 pub returns-clause-place : goal.returns-clause-place
 returns-clause-place c =
