@@ -23,7 +23,7 @@ use Rattle.share_core.proofs.ShareLemmas.{all_come}
 use Rattle.row_core.specs.declared.value.Value.{Value}
 use Rattle.match_core.specs.declared.cells.Cell.{Cell}
 use Rattle.match_core.specs.declared.row_items.ClassedPlace.{ClassedPlace}
-use Rattle.match_core.specs.Cells.{AreCellsAt, AreInOrder, AreSorted, HasPlace, IsCellAt, cell_cmp, cells_in, is_before, spot_of}
+use Rattle.match_core.specs.Cells.{AreCellsAt, AreInOrder, AreSorted, IsCellAt, cell_cmp, cells_in, is_before, spot_of}
 use Rattle.match_core.specs.ClassedPlaces.{placed_from}
 use Rattle.match_core.proofs.CellOrder.{before-trans, cell_total}
 use Rattle.match_core.proofs.PartLemmas.{none_yet, one_more}

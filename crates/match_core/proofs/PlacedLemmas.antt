@@ -1,15 +1,32 @@
 -- Rows as items by their indices, in any order of the indices.
-use Rattle.std.proofs.Common.{◌≡◌, ◌<◌, ◌≤◌, ℕ, zero, suc, ◌+◌, List, [], ◌∷◌, ◌++◌, length, map, take, get_or, Option, Some, None, unwrap_or, option_map, refl, sym, subst, ap, ◌∙◌, arith}
-use Rattle.std.specs.Prelude.{All, IsPermutation, slice_get}
+use Rattle.std.proofs.Common.{◌≡◌, ◌<◌, ◌≤◌, Bool, true, false, ℕ, zero, suc, ◌+◌, List, [], ◌∷◌, ◌++◌, length, map, take, get_or, Option, Some, None, unwrap_or, option_map, refl, sym, subst, ap, ◌∙◌, arith}
+use Rattle.std.specs.Prelude.{All, IsPermutation, IsTrue, slice_get}
+use Rattle.std.specs.List.{IsAllAdjacentAnswer}
+use Rattle.std.specs.Ordering.{is_le, nat_cmp, partial_le}
 use Rattle.std.specs.List.Sorted.{IsNonDecreasingBy}
 use Rattle.std.proofs.lemmas.List.{get_or-map, length-map, map_more, take_all}
 use Rattle.std.proofs.lemmas.List.Elements.{All-cons}
-use Rattle.std.proofs.lemmas.List.Sorted.{All-permutation, IsPermutation-map, IsPermutation-refl, length_permutation}
+use Rattle.std.proofs.lemmas.Bool.Decides.{nat_tests}
+use Rattle.std.proofs.lemmas.List.Sorted.{All-permutation, IsNonDecreasingBy-from_all_adjacent, IsPermutation-map, IsPermutation-refl, length_permutation}
 use Rattle.row_core.specs.declared.row.Row.{Row}
 use Rattle.dip_core.specs.declared.item.Item.{Item}
 use Rattle.match_core.specs.declared.row_items.ClassedPlace.{ClassedPlace}
 use Rattle.match_core.specs.ClassedPlaces.{AreByClass, classed_by, item_placed, numbered_by, placed_from}
 use Rattle.match_core.specs.Items.{AreItemsByClass, item_with, items_with}
+
+-- one number is at most another one if the test says so
+le_from_test : (m n : ℕ) → is_le (nat_cmp m n) ≡ true → m ≤ n
+le_from_test m n is = grind (arith, nat_tests, is)
+
+-- the test of neighbours decides whether indices are in order of class
+pub rise-from_test : (places : List ClassedPlace) (test : Bool)
+    → IsAllAdjacentAnswer (λ (x y : ClassedPlace) (b : Bool).
+    b ≡ partial_le (λ (m n : ℕ). Some (nat_cmp m n)) x.class y.class) places test
+    → IsTrue test → IsNonDecreasingBy (λ (at : ClassedPlace). at.class) places
+rise-from_test places true answer is =
+    IsNonDecreasingBy-from_all_adjacent (λ (at : ClassedPlace). at.class) places
+    (λ k d h. le_from_test (get_or places k d).class (get_or places (k + 1) d).class (sym (answer k d h)))
+rise-from_test places false answer is = absurd (cc)
 
 -- one more index
 pub placed_from-more : (place : ℕ) (classes : List ℕ) (i at : ℕ) → i < length classes → at ≡ place + i

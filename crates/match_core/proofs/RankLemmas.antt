@@ -4,7 +4,7 @@ use Rattle.std.specs.Cmp.{IsTotalOrder}
 use Rattle.std.specs.declared.cmp.Ordering.{Ordering}
 use Rattle.std.specs.Prelude.{All, IsPermutation, IsSorted, MatchBool, Option, slice_get}
 use Rattle.std.proofs.lemmas.Bool.{cases_eq}
-use Rattle.std.proofs.lemmas.List.{get_or_append_left, get_or-append_right, get_or_read, length_push}
+use Rattle.std.proofs.lemmas.List.{ext_get_or, get_or_append_left, get_or-append_right, get_or-map, get_or_push, get_or_read, length-map, length_push}
 use Rattle.std.proofs.lemmas.List.Elements.{All-contains}
 use Rattle.std.proofs.lemmas.List.Quantifiers.{all_pairs_push}
 use Rattle.std.proofs.lemmas.List.Sorted.{IsPermutation-map}
@@ -16,11 +16,25 @@ use Rattle.row_core.specs.declared.value.Value.{Value}
 use Rattle.match_core.specs.declared.cells.Cell.{Cell}
 use Rattle.match_core.specs.declared.row_items.ClassedPlace.{ClassedPlace}
 use Rattle.match_core.specs.ClassedPlaces.{classed_by, placed_from}
-use Rattle.match_core.specs.Cells.{AgreeOnPlaces, AreRanked, AreRankedUpto, AreRanksOf, AreRising, AreSorted, HasLast, HasRank, IsCellAt, IsEntered, IsFromLast, IsRankAt, cell_cmp, count_before, is_before, same_cell, spot_of}
+use Rattle.match_core.specs.Cells.{AgreeOnPlaces, AreRanked, AreRankedUpto, AreRanksOf, AreRising, AreSorted, HasLast, HasRank, IsCellAt, IsEntered, IsFromLast, IsRankAt, IsRankedPlace, cell_cmp, count_before, is_before, same_cell, spot_of}
 use Rattle.match_core.proofs.PlacedLemmas.{placed_from-classed}
+use Rattle.match_core.proofs.RefinedClasses.{one_place}
 use Rattle.match_core.proofs.CellOrder.{SameCell, SameCell-sym, SameCell-trans, SameCell-itself, after-from, before-same, before-trans, same_cell-decides, known_apart}
 
+-- An index with a class.
+abbrev placed_at : ℕ → ℕ → ClassedPlace
+placed_at class place = record { class = class; place = place }
+
+-- The index of a key's row with its rank.
+abbrev pub place_of : {V : Type 0} → Cell V → ℕ → ClassedPlace
+place_of cell rank = record { class = rank; place = cell.place }
+
 -- ---- lists read one after another
+
+-- before the first list there is no key
+pub count_before-none : {V : Type 0} (lists : List (Vec (Cell V))) → count_before 0 lists ≡ 0
+count_before-none [] = refl
+count_before-none (l ∷ ls) = refl
 
 -- one more list
 pub count_before-more : {V : Type 0} (lists : List (Vec (Cell V))) (number : ℕ) (list : Vec (Cell V))
@@ -195,11 +209,23 @@ module _ {V : Type 0} (cmp : V → V → Ordering) (total : IsTotalOrder cmp) wh
 
   -- ---- the loop
 
+  -- before the first key
+  pub ranked_none : (cells : List (Cell V)) (i : ℕ) (firsts : List (Cell V)) (ranks : List ℕ)
+      (places : List ClassedPlace) → i ≡ 0 → firsts ≡ [] → places ≡ [] → AreRankedUpto cmp cells i firsts ranks places
+  ranked_none cells i firsts ranks places start none blank = record {
+    rise = subst (λ (l : List (Cell V)). AreRising cmp l) (sym none) (λ k j d less h. absurd (omega (arith, h)));
+    none = λ e. ap length none;
+    last = λ k j d e f. absurd (omega (arith, f, start));
+    ranked = λ k d lt. absurd (omega (arith, lt, start));
+    count = ap length blank ∙ sym start;
+    placed = λ k d e lt. absurd (omega (arith, lt, start));
+  }
+
   -- the next key doesn't come before the last of the different keys
-  pub next_from_last : (cells : List (Cell V)) (i : ℕ) (firsts : List (Cell V)) (ranks : List ℕ) (cell : Cell V)
-      → IsSorted (cell_cmp cmp) cells → i < length cells
-      → cell ≡ get_or cells i cell → AreRankedUpto cmp cells i firsts ranks → IsFromLast cmp firsts cell
-  next_from_last cells i firsts ranks cell sorted inside here was k d e = elim (cases_eq i 0) [
+  pub next_from_last : (cells : List (Cell V)) (i : ℕ) (firsts : List (Cell V)) (ranks : List ℕ)
+      (places : List ClassedPlace) (cell : Cell V) → IsSorted (cell_cmp cmp) cells → i < length cells
+      → cell ≡ get_or cells i cell → AreRankedUpto cmp cells i firsts ranks places → IsFromLast cmp firsts cell
+  next_from_last cells i firsts ranks places cell sorted inside here was k d e = elim (cases_eq i 0) [
     | inl first ↦ absurd (let no = was.none first in omega (arith, no, e))
     | inr some ↦ (
         let j = i - 1 in
@@ -213,16 +239,53 @@ module _ {V : Type 0} (cmp : V → V → Ordering) (total : IsTotalOrder cmp) wh
 
   -- one more row has its rank
   pub ranked_more : (cells : List (Cell V)) (i : ℕ) (firsts new : List (Cell V)) (rank : ℕ) (cell : Cell V)
-      (ranks : List ℕ) → i < length cells → cell ≡ get_or cells i cell → cell.place < length ranks → AgreeOnPlaces cmp cells
-      → AreRankedUpto cmp cells i firsts ranks → IsEntered cmp firsts cell new rank
-      → AreRankedUpto cmp cells (i + 1) new (set ranks cell.place rank)
-  ranked_more cells i firsts new rank cell ranks inside here room agree was entered = record {
+      (ranks : List ℕ) (places put : List ClassedPlace) → i < length cells → cell ≡ get_or cells i cell
+      → cell.place < length ranks → AgreeOnPlaces cmp cells → AreRankedUpto cmp cells i firsts ranks places
+      → IsEntered cmp firsts cell new rank → put ≡ places ++ place_of cell rank ∷ []
+      → AreRankedUpto cmp cells (i + 1) new (set ranks cell.place rank) put
+  ranked_more cells i firsts new rank cell ranks places put inside here room agree was entered added = record {
     rise = entered.rise;
     none = λ e. absurd (omega (arith, e));
     last = last_now;
     ranked = ranked_now;
+    count = (let had = was.count in
+        let one = ap length added ∙ length_push places (place_of cell rank) in omega (arith, had, one));
+    placed = placed_now;
   }
     where
+      -- the added index has the rank of its key
+      last_placed : IsRankedPlace cmp new cell (place_of cell rank)
+      last_placed = let own = entered.last in
+          record { place_is = refl; within = omega (arith, own); same = entered.same }
+
+      placed_now : (k : ℕ) (d : Cell V) (e : ClassedPlace) → k < i + 1
+          → IsRankedPlace cmp new (get_or cells k d) (get_or put k e)
+      placed_now k d e lt =
+          let count = was.count in
+          elim (cases_eq k i) [
+            | inl same ↦
+                subst (λ (a : ClassedPlace). IsRankedPlace cmp new (get_or cells k d) a)
+                (sym (ap (λ (l : List ClassedPlace). get_or l k e) added
+                ∙ get_or_push places (place_of cell rank) e k (omega (arith, count, same))))
+                (subst (λ (c : Cell V). IsRankedPlace cmp new c (place_of cell rank))
+                (get_or_read cells i cell inside here d ∙ ap (λ m. get_or cells m d) (sym same)) last_placed)
+            | inr ne ↦ (
+                let less : k < i = omega (arith, lt, ne) in
+                let had : IsRankedPlace cmp firsts (get_or cells k d) (get_or places k e) = was.placed k d e less in
+                let within = had.within in
+                let more = entered.more in
+                subst (λ (a : ClassedPlace). IsRankedPlace cmp new (get_or cells k d) a)
+                (sym (ap (λ (l : List ClassedPlace). get_or l k e) added
+                ∙ get_or_append_left places (place_of cell rank ∷ []) e k (omega (arith, count, less))))
+                (record {
+                  place_is = had.place_is;
+                  within = omega (arith, within, more);
+                  same = λ x.
+                      ap (λ y. same_cell cmp y (get_or cells k d)) (entered.kept (get_or places k e).class x within)
+                      ∙ had.same x;
+                }))
+          ]
+
       last_now : (k j : ℕ) (d : Cell V) → k + 1 ≡ length new → j + 1 ≡ i + 1
           → same_cell cmp (get_or new k d) (get_or cells j d) ≡ true
       last_now k j d e f =
@@ -275,3 +338,37 @@ module _ {V : Type 0} (cmp : V → V → Ordering) (total : IsTotalOrder cmp) wh
                       ∙ ap (λ x. same_cell cmp x y) (entered.kept (get_or ranks y.place 0) e within) ∙ had.same e;
                 })
           ]
+
+  -- after the last key, the indices with their ranks are those of all keys
+  pub places_known : (cells : List (Cell V)) (i : ℕ) (firsts : List (Cell V)) (ranks : List ℕ)
+      (places : List ClassedPlace) → i ≡ length cells → AreRankedUpto cmp cells i firsts ranks places
+      → places ≡ map (classed_by ranks) (map spot_of cells)
+  places_known [] i firsts ranks [] all are = refl
+  places_known [] i firsts ranks (p ∷ ps) all are = absurd (let count = are.count in omega (arith, count, all))
+  places_known (c ∷ cs) i firsts ranks places all are =
+      ext_get_or (place_of c 0) places (map (classed_by ranks) (map spot_of (c ∷ cs)))
+      (are.count ∙ all ∙ sym (length-map (c ∷ cs) spot_of)
+      ∙ sym (length-map (map spot_of (c ∷ cs)) (classed_by ranks)))
+      (λ k h. each k (let count = are.count in omega (arith, h, count)))
+    where
+      each : (k : ℕ) → k < i
+          → get_or places k (place_of c 0) ≡ get_or (map (classed_by ranks) (map spot_of (c ∷ cs))) k (place_of c 0)
+      each k lt =
+          let cell = get_or (c ∷ cs) k c in
+          let at = get_or places k (place_of c 0) in
+          let rank = get_or ranks cell.place 0 in
+          let known : IsRankedPlace cmp firsts cell at = are.placed k c (place_of c 0) lt in
+          let ranked : HasRank cmp ranks firsts cell = are.ranked k c lt in
+          let same : at.class ≡ rank =
+          one_place cmp total firsts are.rise at.class rank c known.within ranked.within
+          (SameCell-trans cmp total (get_or firsts at.class c) cell (get_or firsts rank c)
+          ((same_cell-decides cmp (get_or firsts at.class c) cell).0 (known.same c))
+          (SameCell-sym cmp total (get_or firsts rank c) cell
+          ((same_cell-decides cmp (get_or firsts rank c) cell).0 (ranked.same c)))) in
+          let inside : k < length (c ∷ cs) = omega (arith, lt, all) in
+          let long : k < length (map spot_of (c ∷ cs)) =
+          (let len = length-map (c ∷ cs) spot_of in omega (arith, inside, len)) in
+          let moved : at ≡ placed_at at.class cell.place = ap (λ n. placed_at at.class n) known.place_is in
+          moved ∙ ap (λ n. placed_at n cell.place) same
+          ∙ sym (get_or-map (classed_by ranks) (map spot_of (c ∷ cs)) k (spot_of c) (place_of c 0) long
+          ∙ ap (classed_by ranks) (get_or-map spot_of (c ∷ cs) k c (spot_of c) inside))

@@ -33,7 +33,7 @@ same_from cmp a b = (same_cell-decides cmp a b).0
 
 module _ {V : Type 0} (cmp : V → V → Ordering) (total : IsTotalOrder cmp) where
   -- equal keys of an ascending list have the same index
-  one_place : (cells : List (Cell V)) → AreRising cmp cells → (i j : ℕ) (d : Cell V) → i < length cells
+  pub one_place : (cells : List (Cell V)) → AreRising cmp cells → (i j : ℕ) (d : Cell V) → i < length cells
       → j < length cells → SameCell cmp (get_or cells i d) (get_or cells j d) → i ≡ j
   one_place cells rise i j d hi hj same = elim (cases_eq i j) [
     | inl e ↦ e

@@ -119,14 +119,25 @@ pub record HasRank {V : Type 0} (cmp : V → V → Ordering) (ranks : List ℕ) 
 abbrev pub AreRanksOf : {V : Type 0} → (V → V → Ordering) → List (Cell V) → List ℕ → List (Cell V) → Type 0
 AreRanksOf cmp cells ranks firsts = All (HasRank cmp ranks firsts) cells
 
--- The rows of the first `i` sort keys are ranked by `firsts`; the last key of `firsts` equals the last of these keys.
+-- An index with the rank of its sort key: the key's row, and the index of the equal key in `firsts`.
+pub record IsRankedPlace {V : Type 0} (cmp : V → V → Ordering) (firsts : List (Cell V)) (cell : Cell V)
+    (at : ClassedPlace) : Type 0 where
+  pub place_is : at.place ≡ cell.place
+  pub within : at.class < length firsts
+  pub same : (d : Cell V) → same_cell cmp (slice_index_or firsts at.class d) cell ≡ true
+
+-- The rows of the first `i` sort keys are ranked by `firsts`, and `places` has their indices; the last key of `firsts`
+-- equals the last of these keys.
 pub record AreRankedUpto {V : Type 0} (cmp : V → V → Ordering) (cells : List (Cell V)) (i : ℕ) (firsts : List (Cell V))
-    (ranks : List ℕ) : Type 0 where
+    (ranks : List ℕ) (places : List ClassedPlace) : Type 0 where
   pub rise : AreRising cmp firsts
   pub none : i ≡ 0 → length firsts ≡ 0
   pub last : (k j : ℕ) (d : Cell V) → k + 1 ≡ length firsts → j + 1 ≡ i
       → same_cell cmp (slice_index_or firsts k d) (slice_index_or cells j d) ≡ true
   pub ranked : (k : ℕ) (d : Cell V) → k < i → HasRank cmp ranks firsts (slice_index_or cells k d)
+  pub count : length places ≡ i
+  pub placed : (k : ℕ) (d : Cell V) (e : ClassedPlace) → k < i
+      → IsRankedPlace cmp firsts (slice_index_or cells k d) (slice_index_or places k e)
 
 -- The number of sort keys in the lists before the list at index `number`.
 abbrev pub count_before : {V : Type 0} → ℕ → List (Vec (Cell V)) → ℕ

@@ -1,6 +1,6 @@
 //! Ranks the rows of one side: rows with the same current class and the same value have the same rank.
 
-ghost use Rattle.std.specs.Prelude.{◌≡◌, ◌+◌, ◌++◌, ◌<◌, All, IfOk, IsSorted, MatchBool, OnOk, length, map};
+ghost use Rattle.std.specs.Prelude.{◌≡◌, ◌+◌, ◌<◌, [], All, IfOk, IsSorted, MatchBool, length, map};
 ghost use Rattle.list_core.specs.Chunks.{all_in};
 ghost use Rattle.match_core.specs.ClassedPlaces.{classed_by};
 ghost use Rattle.match_core.specs.Cells.{
@@ -49,8 +49,8 @@ pub(crate) fn rank_side<R: Threads + Sync, V: Ord + Copy + Send + Sync, S: Compa
 {
     let lists = sorted_cells(rt, alloc, side, workers)?;
     let mut ranks = vec![in alloc; 0; side.len()]?;
-    let firsts = rank_cells(alloc, &lists, &mut ranks)?;
-    let places = places_of(alloc, &lists, &ranks)?;
+    let mut places = Vec::with_capacity(alloc, side.len())?;
+    let firsts = rank_cells(alloc, &lists, &mut ranks, &mut places)?;
     Ok(Ranked {
         ranks,
         firsts,
@@ -58,83 +58,59 @@ pub(crate) fn rank_side<R: Threads + Sync, V: Ord + Copy + Send + Sync, S: Compa
     })
 }
 
-/// Returns the row indices of the sort keys with the rows' ranks, in the order of the keys.
-fn places_of<V>(
-    alloc: Global,
-    lists: &[Vec<Cell<V>>],
-    ranks: &[u64],
-) -> Result<Vec<ClassedPlace>, NoMemory>
-    requires { All (λ cell. cell.place < length ranks.now) (all_in lists.now) }
-    ensures { IfOk result (λ places.
-        places.items ≡ map (classed_by ranks.now) (map spot_of (all_in lists.now))) }
-{
-    let mut places = Vec::with_capacity(alloc, ranks.len())?;
-    for list in lists {
-        add_places(list, ranks, &mut places)?;
-    }
-    Ok(places)
-}
-
-/// Adds the row indices of some sort keys with the rows' ranks.
-fn add_places<V>(
-    cells: &[Cell<V>],
-    ranks: &[u64],
-    places: &mut Vec<ClassedPlace>,
-) -> Result<(), NoMemory>
-    requires { All (λ cell. cell.place < length ranks.now) cells.now }
-    ensures { OnOk result (places.new.items
-        ≡ places.old.items ++ map (classed_by ranks.now) (map spot_of cells.now)) }
-{
-    for cell in cells {
-        places.push(ClassedPlace {
-            class: ranks[cell.place],
-            place: cell.place,
-        })?;
-    }
-    Ok(())
-}
-
-/// Writes each row's rank: the number of different sort keys before its own. Returns the different keys.
+/// Writes each row's rank: the number of different sort keys before its own. Adds the row indices with these ranks, in
+/// the order of the keys. Returns the different keys.
 fn rank_cells<V: Ord + Copy>(
     alloc: Global,
     lists: &[Vec<Cell<V>>],
     ranks: &mut [u64],
+    places: &mut Vec<ClassedPlace>,
 ) -> Result<Vec<Cell<V>>, NoMemory>
     requires within { All (λ cell. cell.place < length ranks.old) (all_in lists.now) }
     requires agree { AgreeOnPlaces V.cmp (all_in lists.now) }
     requires rise { IsSorted (cell_cmp V.cmp) (all_in lists.now) }
+    requires none { places.old.items ≡ [] }
     ensures ranks { IfOk result
         (λ firsts. AreRanksOf V.cmp (all_in lists.now) ranks.new firsts.items) }
     ensures rise { IfOk result (λ firsts. AreRising V.cmp firsts.items) }
+    ensures places { IfOk result (λ _.
+        places.new.items ≡ map (classed_by ranks.new) (map spot_of (all_in lists.now))) }
 {
     let mut firsts = Vec::new(alloc);
     for number in 0..lists.len() {
-        rank_list(lists, number, &mut firsts, ranks)?;
+        rank_list(lists, number, &mut firsts, ranks, places)?;
     }
     Ok(firsts)
 }
 
-/// Writes the ranks of one list's rows, and adds its different keys. The lists before it must be ranked already.
+/// Writes the ranks of one list's rows, and adds its different keys and its rows' indices. The lists before it must be
+/// ranked already.
 fn rank_list<V: Ord + Copy>(
     lists: &[Vec<Cell<V>>],
     number: usize,
     firsts: &mut Vec<Cell<V>>,
     ranks: &mut [u64],
+    places: &mut Vec<ClassedPlace>,
 ) -> Result<(), NoMemory>
     requires number { number < length lists.now }
     requires within { All (λ cell. cell.place < length ranks.old) (all_in lists.now) }
     requires agree { AgreeOnPlaces V.cmp (all_in lists.now) }
     requires rise { IsSorted (cell_cmp V.cmp) (all_in lists.now) }
     requires before { AreRankedUpto V.cmp (all_in lists.now) (count_before number lists.now)
-        firsts.old.items ranks.old }
+        firsts.old.items ranks.old places.old.items }
     ensures { IfOk result
         (λ _. AreRankedUpto V.cmp (all_in lists.now) (count_before (number + 1) lists.now)
-        firsts.new.items ranks.new) }
+        firsts.new.items ranks.new places.new.items) }
 {
     let cells = lists[number].as_slice();
     for i in 0..cells.len() {
         let cell = &cells[i];
-        ranks[cell.place] = enter_cell(firsts, cell)?;
+        let rank = enter_cell(firsts, cell)?;
+        ranks[cell.place] = rank;
+        places.push(ClassedPlace {
+            class: rank,
+            place: cell.place,
+        })?;
     }
     Ok(())
 }

@@ -1,6 +1,6 @@
 //! Rows as items, for dividing and merging.
 
-ghost use Rattle.std.specs.Prelude.{◌≡◌, ◌<◌, ◌≤◌, All, IfOk, IsPermutation, Some, length, map};
+ghost use Rattle.std.specs.Prelude.{◌≡◌, ◌<◌, ◌≤◌, All, IfOk, IsPermutation, IsTrue, Some, length, map};
 ghost use Rattle.std.specs.List.Sorted.{IsNonDecreasingBy};
 ghost use Rattle.match_core.specs.declared.row_items.ClassedPlace.{ClassedPlace};
 ghost use Rattle.match_core.specs.ClassedPlaces.{AreByClass, item_placed, placed_from};
@@ -103,7 +103,7 @@ pub fn items_of_sides<R: Threads + Sync, G>(
     Ok((lefts, rights))
 }
 
-/// Sorts the indices by class.
+/// Sorts the indices by class. They often are in order already.
 pub(crate) fn by_class<R: Threads + Sync>(
     rt: &R,
     mut places: Vec<ClassedPlace>,
@@ -112,8 +112,18 @@ pub(crate) fn by_class<R: Threads + Sync>(
     ensures same { IsPermutation places.items result.items }
     ensures rise { IsNonDecreasingBy (λ (at : ClassedPlace). at.class) result.items }
 {
+    if are_by_class(&places) {
+        return places;
+    }
     sort_unstable_by_key(rt, &mut places, |it| it.class, workers);
     places
+}
+
+/// Returns whether the indices are in ascending order of class.
+fn are_by_class(places: &[ClassedPlace]) -> bool
+    ensures { IsTrue result → IsNonDecreasingBy (λ (at : ClassedPlace). at.class) places.now }
+{
+    places.is_sorted_by_key(|at| at.class)
 }
 
 /// Returns the indices of the rows in order, each with its class.

@@ -1,7 +1,5 @@
-use Rattle.std.proofs.Common.{◌≡◌, ◌∙◌, ◌++◌, Global, Vec, append-nil, arith, ap, sym}
-use Rattle.std.proofs.lemmas.List.{take_all}
+use Rattle.std.proofs.Common.{◌∙◌, Global, Vec, arith, ap, sym}
 use Rattle.match_core.specs.declared.cells.Cell.{Cell}
-use Rattle.match_core.specs.Cells.{cells_in}
 use Rattle.match_core.proofs.MadeCells.{kept_more, kept_same}
 use Rattle.match_core.proofs.cells.add_cells_in.Goals as goal
 use Rattle.match_core.proofs.cells.add_cells_in.Goals.{then-has_cell+in_ok-push, else-has_cell}

@@ -1,5 +1,5 @@
 -- The sort keys are those of the rows from `start` to `i`.
-use Rattle.std.proofs.Common.{◌≡◌, ◌≤◌, drop, take}
+use Rattle.std.proofs.Common.{◌≤◌, drop, take}
 use Rattle.match_core.specs.Cells.{AreCellsAt}
 use Rattle.match_core.specs.ClassedPlaces.{placed_from}
 use Rattle.match_core.proofs.cells.cells_of.Given as goal

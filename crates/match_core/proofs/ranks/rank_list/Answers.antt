@@ -38,8 +38,8 @@ enter_cell-requires-clause-upto g c =
     (listed c.args.lists.now c.args.number c.loop-i.i c.index-lists-number.result c.as_slice-cells.result.now
     c.index-cells-i.result c.requires.number c.index-lists-number.is c.as_slice-cells.ensures.value c.loop-i-test.true
     c.index-cells-i.is) in
-    next_from_last g.V.Ord.cmp g.met.V.Ord.total all place c.loop-i.firsts.items c.loop-i.ranks cell c.requires.rise
-    at.0 at.1 c.loop-i.invariant
+    next_from_last g.V.Ord.cmp g.met.V.Ord.total all place c.loop-i.firsts.items c.loop-i.ranks c.loop-i.places.items
+    cell c.requires.rise at.0 at.1 c.loop-i.invariant
 
 pub bounds-ranks-cell : goal.bounds-ranks-cell
 bounds-ranks-cell g c =
@@ -70,10 +70,12 @@ loop-i-preserved g c =
     let same = c.loop-i.auto.ranks in
     let inside = room all (length c.args.ranks.now) place cell c.requires.within one in
     let next : place + 1 ≡ count + (c.loop-i.i + 1) = omega arith in
-    subst (λ n. AreRankedUpto cmp all n new (set c.loop-i.ranks cell.place c.in_ok-ranks.field-0))
-    next
-    (ranked_more cmp g.met.V.Ord.total all place c.loop-i.firsts.items new c.in_ok-ranks.field-0 cell c.loop-i.ranks
-    at.0 at.1 (omega (arith, same, inside)) c.requires.agree c.loop-i.invariant c.in_ok-ranks.ensures)
+    let rank = c.in_ok-rank.rank in
+    let put = c.push.new.self.items in
+    subst (λ n. AreRankedUpto cmp all n new (set c.loop-i.ranks cell.place rank) put) next
+    (ranked_more cmp g.met.V.Ord.total all place c.loop-i.firsts.items new rank cell c.loop-i.ranks
+    c.loop-i.places.items put at.0 at.1 (omega (arith, same, inside)) c.requires.agree c.loop-i.invariant
+    c.in_ok-rank.ensures c.in_ok-push.ensures.items)
 
 pub returns : goal.returns
 returns g c =
@@ -88,5 +90,5 @@ returns g c =
     count_before-more lists number list c.requires.number c.index-lists-number.is in
     let last : count_before number lists + c.loop-i.i ≡ count_before (suc number) lists =
     omega (arith, past, end, len, more) in
-    subst (λ n. AreRankedUpto g.V.Ord.cmp (all_in lists) n c.loop-i.firsts.items c.loop-i.ranks)
+    subst (λ n. AreRankedUpto g.V.Ord.cmp (all_in lists) n c.loop-i.firsts.items c.loop-i.ranks c.loop-i.places.items)
     (last ∙ ap (λ n. count_before n lists) one) c.loop-i.invariant

@@ -28,15 +28,14 @@ returns g c =
     c.in_ok-firsts.ensures.ranks in
     let sides = g.met.S.Classed g.world.𝓛 g.world.𝓜 g.world.𝓡 ((λ s x. x), (λ x. x), (λ x. x), λ x. x) in
     let counted = sides.counted c.args.side in
-    let ranks = c.deref-3.result.now in
     let len : length new ≡ length classes = omega (arith, count, counted) in
     record {
       ranked = subst (λ l. AreRanked cmp IsOf classes column l firsts) (sym kept)
           (ranked_from cmp IsOf classes column cells firsts new count c.in_ok-lists.ensures known
           c.in_ok-firsts.ensures.rise);
-      placed = places_ranked cmp IsOf classes column cells ranks _ c.in_ok-places.places.items c.in_ok-lists.ensures
-          c.deref-3.ensures.value (ap length kept ∙ len)
-          (c.in_ok-places.ensures
-          ∙ ap (λ (l : List (Vec (Cell g.row.V.Denot))). map (classed_by ranks) (map spot_of (all_in l)))
-          c.deref-2.ensures.value);
+      placed = places_ranked cmp IsOf classes column cells new _ c.rank_cells.new.places.items c.in_ok-lists.ensures
+          (sym kept) (ap length kept ∙ len)
+          (c.in_ok-firsts.ensures.places
+          ∙ ap (λ (l : List (Vec (Cell g.row.V.Denot))). map (classed_by new) (map spot_of (all_in l)))
+          c.deref.ensures.value);
     }
