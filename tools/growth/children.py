@@ -1,4 +1,4 @@
-"""Programs that are run side by side, from several threads. None goes on when the work that needs it has ended."""
+"""Programs that run side by side, from several threads. They are killed when the work that needs them ends."""
 import contextlib
 import os
 import signal
@@ -13,12 +13,12 @@ Child = subprocess.Popen
 
 
 class NotOver(Exception):
-    """A program took too long, or all was stopped."""
+    """A program took too long, or all programs were stopped."""
 
 
 @dataclass(frozen=True)
 class Ended:
-    """The status of a program that has ended, and what it said of mistakes."""
+    """The status of a program that has ended, and the text of its stderr."""
 
     status: int
     said: str
@@ -32,7 +32,7 @@ def kill(child: "Child[str]") -> None:
 
 
 class Children:
-    """Runs programs, each in a group of its own. At the end those that still run are killed, and none is begun then."""
+    """Runs programs, each in its own process group. Leaving the context kills all of them; none can be begun later."""
 
     def __init__(self) -> None:
         self.running: Set["Child[str]"] = set()
@@ -53,7 +53,7 @@ class Children:
     def run(
         self, words: List[str], given: Path, seconds: int, environment: Optional[Mapping[str, str]] = None
     ) -> Ended:
-        """Runs a program on a file, for so many seconds at most. What it answers is dropped."""
+        """Runs a program on a file, for at most `seconds`, and drops its answers. Raises NotOver."""
         child = self.begin(words, given, environment)
         try:
             _, said = child.communicate(timeout=seconds)

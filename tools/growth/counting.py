@@ -1,4 +1,4 @@
-"""What a run of a program costs, in counts that are the same in each run and at each hour, on any machine."""
+"""The cost of a program's run, in counts that are the same in each run and on any machine."""
 import json
 import os
 import re
@@ -12,10 +12,10 @@ from typing import Callable, Dict, Iterable, List, Mapping, Sequence
 
 from growth.children import Children, NotOver
 
-# What is counted. A copy of a table asks for as many bytes, and who looks at all of its rows needs instructions.
+# The counts. Copying a table allocates its bytes, and reading all of its rows takes instructions.
 INSTRUCTIONS, BYTES, BUSIEST = "instructions", "bytes asked for", "instructions of the busiest thread"
 Counts = Mapping[str, int]
-# Those of each thread, the first of them the program's own.
+# The counts of each thread; the main thread is first.
 PerThread = List[Counts]
 TOTAL = re.compile(r"^totals: (\d+)$", re.M)
 # A run that takes longer has failed: most take a second.
@@ -23,32 +23,32 @@ SECONDS = 300
 
 
 class NoCount(Exception):
-    """A run that wasn't over in time, was refused something, or left no counts."""
+    """A run took too long, had a command refused, or left no counts."""
 
 
 @dataclass(frozen=True)
 class Tool:
-    """A tool of valgrind's: the words for it, with a gap for the place of its counts, and how these are read there."""
+    """A tool of valgrind: its options, with `{}` for the path of its counts, and the function that reads these."""
 
     words: str
     read: Callable[[Path], PerThread]
 
 
-def of_dhat(place: Path) -> PerThread:
-    found = json.loads(place.read_text())
+def of_dhat(path: Path) -> PerThread:
+    found = json.loads(path.read_text())
     if found["tu"] != "instrs":
         raise ValueError(f"time is counted in {found['tu']}")
     return [{INSTRUCTIONS: found["te"], BYTES: sum(point["tb"] for point in found["pps"])}]
 
 
-def of_callgrind(place: Path) -> PerThread:
-    """Those of a file for each thread, which have its number behind the place."""
-    texts = [file.read_text() for file in sorted(place.parent.glob(f"{place.name}-*"))]
+def of_callgrind(path: Path) -> PerThread:
+    """Returns the counts of each thread. Its file has the thread's number after the path."""
+    texts = [file.read_text() for file in sorted(path.parent.glob(f"{path.name}-*"))]
     return [{INSTRUCTIONS: int(total[1])} for total in map(TOTAL.search, texts) if total]
 
 
-# Instructions, and bytes asked of the allocator, where a longer block in the place of one counts in full. Dhat has
-# functions of its own in the place of the C library's for memory and copies, so these count alike on all machines.
+# Instructions and allocated bytes. If a block grows, all bytes of the longer block count. Dhat replaces the C library's
+# functions for memory and copies by its own, so these count alike on all machines.
 DHAT = Tool("--tool=dhat --num-callers=1 --dhat-out-file={}", of_dhat)
 # The instructions of each thread.
 CALLGRIND = Tool("--tool=callgrind --separate-threads=yes --callgrind-out-file={}", of_callgrind)
@@ -56,7 +56,7 @@ CALLGRIND = Tool("--tool=callgrind --separate-threads=yes --callgrind-out-file={
 
 @dataclass(frozen=True)
 class Run:
-    """What is run: a program, by some workers, on a script; and the tool that counts."""
+    """A run of a program on a script, with its number of workers, and the tool that counts."""
 
     tool: Tool
     program: Path
@@ -64,13 +64,13 @@ class Run:
     script: str
 
     def words(self, folder: Path) -> List[str]:
-        """The words that run it, and leave counts in a folder."""
+        """The command line that runs it and leaves counts in a folder."""
         words = f"valgrind -q --command-line-only=yes --vgdb=no {self.tool.words}".split()
         return [*(word.format(folder / "counts") for word in words), str(self.program), "--workers", str(self.workers)]
 
 
 def counted(children: Children, run: Run) -> PerThread:
-    """What a run costs, which must answer all commands: none of these scripts' is refused."""
+    """Returns the cost of a run, which must refuse no command. Raises NoCount."""
     with tempfile.TemporaryDirectory(prefix="check-growth-") as name:
         folder = Path(name)
         # A file is read alike in each run, and a pipe isn't.
@@ -86,25 +86,25 @@ def counted(children: Children, run: Run) -> PerThread:
 
 
 class Counting:
-    """Counts runs, as many side by side as there are processors, and each once, whoever asks for it."""
+    """Counts runs side by side, one for each thread of the pool. Each run is counted only once."""
 
     def __init__(self, children: Children, pool: ThreadPoolExecutor) -> None:
         self.children, self.pool = children, pool
         self.begun: Dict[Run, "Future[PerThread]"] = {}
 
     def begin(self, runs: Iterable[Run]) -> None:
-        """Runs are counted in this order, behind those that were begun before."""
+        """Begins runs, in this order, after all earlier ones."""
         for run in runs:
             if run not in self.begun:
                 self.begun[run] = self.pool.submit(counted, self.children, run)
 
     def of(self, run: Run) -> PerThread:
-        """What a run costs that was begun."""
+        """Returns the cost of a run that was begun. Raises NoCount."""
         return self.begun[run].result()
 
 
 def above(whole: Sequence[Counts], base: Sequence[Counts] = ()) -> Counts:
-    """What a run costs above another one that does the same but for its end: in all, and the busiest thread."""
+    """Returns a run's cost without its first part, which another run counts: in all, and the busiest thread's."""
     none: Counts = {}
     pairs = zip_longest(whole, base[:len(whole)], fillvalue=none)
     threads = [{what: count - less.get(what, 0) for what, count in more.items()} for more, less in pairs]
@@ -118,5 +118,5 @@ def is_there() -> bool:
 
 
 def processors() -> int:
-    """How many this program may use."""
+    """Returns the number of processors that this program may use."""
     return len(os.sched_getaffinity(0))

@@ -1,4 +1,4 @@
-"""Whether a program's costs grow as it is promised."""
+"""Whether a program's costs grow only as promised."""
 from dataclasses import dataclass
 from pathlib import Path
 from typing import Iterable, Iterator, List, Sequence
@@ -13,14 +13,14 @@ def spaced(numbers: Iterable[int]) -> str:
 
 @dataclass(frozen=True)
 class Verdict:
-    """What was counted for a promise, at each of its numbers, or why nothing was."""
+    """The counts for a promise, one for each of its numbers, or the fault that prevented them."""
 
     promise: Promise
     counts: Sequence[Counts]
     fault: str = ""
 
     def ratios(self, what: str) -> List[float]:
-        """How many times the count before it each is. Nothing counts as one."""
+        """Returns the ratio of each count to the one before it. A count of 0 is taken as 1."""
         found = [max(it[what], 1) for it in self.counts]
         return [more / less for less, more in zip(found, found[1:])]
 
@@ -28,7 +28,7 @@ class Verdict:
         return not self.fault and all(max(self.ratios(what)) <= most for what, most in self.promise.limits.items())
 
     def line(self) -> str:
-        """The promise, its numbers, and of each kind the counts, their ratios and what these may be at most."""
+        """Returns the promise, its numbers, and for each kind of counts their ratios and the limit."""
         parts = [f"{self.promise.what}, {self.promise.unit} {spaced(self.promise.numbers)}"]
         for what, most in () if self.fault else self.promise.limits.items():
             ratios = " ".join(f"{it:.2f}" for it in self.ratios(what))
@@ -37,7 +37,7 @@ class Verdict:
 
 
 def judged(counting: Counting, program: Path, promise: Promise) -> Verdict:
-    """What was counted for a promise whose runs were begun."""
+    """Returns the counts for a promise whose runs were begun."""
     try:
         each = [[counting.of(run) for run in promise.runs(program, number)] for number in promise.numbers]
     except NoCount as why:
@@ -46,7 +46,7 @@ def judged(counting: Counting, program: Path, promise: Promise) -> Verdict:
 
 
 def verdicts(counting: Counting, program: Path, wanted: Sequence[Promise]) -> Iterator[Verdict]:
-    """What is counted of each promise, in their order."""
+    """Begins all runs; yields the counts for each promise, in order."""
     for promise in wanted:
         for number in promise.numbers:
             counting.begin(promise.runs(program, number))

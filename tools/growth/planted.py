@@ -1,4 +1,4 @@
-"""Wrong bodies of the program: they answer right, but at more cost. Each is to break the promise that it names."""
+"""Wrong bodies of the program: they answer right, but cost more. Each must break the promise that it names."""
 from concurrent.futures import Future
 from dataclasses import dataclass
 from pathlib import Path
@@ -16,12 +16,12 @@ FOLDER = Path(__file__).resolve().parent / "planted"
 
 
 class NotPlanted(Exception):
-    """An edit that can't be made, as it says."""
+    """An edit can't be made; the text says why."""
 
 
 @dataclass(frozen=True)
 class Planted:
-    """A wrong body: in some files, a text and another in its place; and the promise that it is to break."""
+    """A wrong body: edits of a file, an old and a new text each, and the promise that they must break."""
 
     name: str
     breaks: str
@@ -29,7 +29,7 @@ class Planted:
 
     @classmethod
     def read(cls, file: Path) -> "Planted":
-        """That of a file, which has a line `breaks: ` and, for each edit, `file: `, `old: ` and `new: `."""
+        """Reads a file with a line `breaks: ` and, for each edit, lines `file: `, `old: ` and `new: `."""
         lines = [line.partition(": ") for line in file.read_text().splitlines()]
         if [word for word, _, _ in lines] != ["breaks", *["file", "old", "new"] * (len(lines) // 3)]:
             raise NotPlanted(f"{file.name} has other lines than breaks, and file, old and new")
@@ -37,7 +37,7 @@ class Planted:
         return cls(file.stem, texts[0], tuple(zip(texts[1::3], texts[2::3], texts[3::3])))
 
     def edited(self, top: Path) -> List[Tuple[Path, str]]:
-        """The files of the sources at the top that it changes, as they are with it."""
+        """Returns the sources at the top that it changes, with their new texts. Raises NotPlanted."""
         found = []
         for name, old, new in self.edits:
             text = (top / name).read_text()
@@ -52,7 +52,7 @@ class Planted:
             file.write_text(text)
 
 
-# The bodies as they are.
+# No wrong body: the program as it is.
 RIGHT = Planted("nothing", "", ())
 
 
@@ -61,7 +61,7 @@ def wrong_bodies() -> List[Path]:
 
 
 def misfit(file: Path, promises: Sequence[Promise]) -> str:
-    """Why a wrong body can't be tried, if it can't."""
+    """Returns why a wrong body can't be tried, or an empty text."""
     try:
         planted = Planted.read(file)
         planted.edited(TOP)
@@ -73,7 +73,7 @@ def misfit(file: Path, promises: Sequence[Promise]) -> str:
 
 @dataclass(frozen=True)
 class Trial:
-    """What was counted of a program with a wrong body; or with none, which is to keep all promises."""
+    """The counts of a program with a wrong body. Without one, the program must keep all promises."""
 
     planted: Planted
     verdicts: Sequence[Verdict]
@@ -85,14 +85,14 @@ class Trial:
         return all(verdict.is_kept() == (self.planted is RIGHT) for verdict in self.verdicts)
 
     def line(self) -> str:
-        """What was planted, and what was counted of the promise."""
+        """Returns the wrong body's name and the counts for its promise."""
         mark = "" if self.passed() else "NOT KEPT " if self.planted is RIGHT else "NOT SEEN "
         shown = [verdict.line() for verdict in self.verdicts if self.planted is not RIGHT or not verdict.is_kept()]
         return ": ".join([f"{mark}planted {self.planted.name}", *shown, *filter(None, [self.fault])])
 
 
 def compiled(children: Children, planted: Planted, to: Path) -> Path:
-    """The program with what is planted, which is made at that place."""
+    """Compiles the program with a wrong body; returns the path, `to`."""
     with copied(TOP, PROGRAM) as top:
         planted.plant(top)
         compile_unproved(children, top, to)
@@ -100,7 +100,7 @@ def compiled(children: Children, planted: Planted, to: Path) -> Path:
 
 
 def tried(counting: Counting, planted: Planted, program: "Future[Path]", wanted: Sequence[Promise]) -> Trial:
-    """Counts what the promises are about, as soon as the program is there."""
+    """Waits for the program, and counts its costs for the promises."""
     try:
         return Trial(planted, list(verdicts(counting, program.result(), wanted)))
     except (NotPlanted, NotCompiled, NotOver) as why:
@@ -108,9 +108,9 @@ def tried(counting: Counting, planted: Planted, program: "Future[Path]", wanted:
 
 
 def trials(counting: Counting, promises: Sequence[Promise], folder: Path) -> Iterator[Trial]:
-    """Each wrong body with the promise that it breaks, and before them none with all of these.
+    """Yields a trial without a wrong body, for all broken promises, and one of each wrong body with its promise.
 
-    Their programs are made in the folder.
+    Their programs are compiled in the folder.
     """
     by_name: Mapping[str, Promise] = {promise.what: promise for promise in promises}
     wrong = [Planted.read(file) for file in wrong_bodies()]

@@ -1,4 +1,4 @@
-"""What is promised of costs: scripts for rising numbers, and how many times the cost of the one before each may be."""
+"""The promises of costs: scripts for rising numbers, and the greatest ratio of each cost to the one before it."""
 from dataclasses import dataclass
 from pathlib import Path
 from typing import Callable, List, Mapping, Sequence, Tuple
@@ -6,17 +6,17 @@ from typing import Callable, List, Mapping, Sequence, Tuple
 from growth.counting import BUSIEST, BYTES, CALLGRIND, DHAT, INSTRUCTIONS, Run
 from growth.scripts import (
     CHANGES, MANY, add, add_with_key, again, at_half, block, filled, load, long_texts, of_few_rows, rename,
-    spread, to_be_asked, to_be_changed, to_be_shared, update,
+    spread, to_be_asked, to_be_changed, to_be_loaded_in_blocks, to_be_shared, update,
 )
 
-# What twice as many may cost: of what is straight, with a logarithm or without, and of what is to stay the same. A list
-# asks for twice its bytes when it is full, so bytes grow by steps. What takes the square of rows costs 4 times as much.
-STRAIGHT = {INSTRUCTIONS: 2.3, BYTES: 3.0}
+# The greatest ratios when rows double: for costs that are linear, perhaps with a logarithm, and for constant costs. A
+# full list allocates twice its bytes, so bytes grow by steps. A quadratic cost would have the ratio 4.
+LINEAR = {INSTRUCTIONS: 2.3, BYTES: 3.0}
 CONSTANT = {INSTRUCTIONS: 1.3, BYTES: 1.3}
-# What four workers may cost of what one does: all together, and the busiest thread.
+# The greatest ratios of four workers' cost to one worker's: in all, and the busiest thread's.
 SHARED = {INSTRUCTIONS: 1.3, BUSIEST: 0.75}
 
-# What the numbers are of.
+# The units of the numbers.
 ROWS, TIMES, WORKERS = "rows", "changes", "workers"
 # A script for a number.
 Maker = Callable[[int], str]
@@ -24,18 +24,18 @@ Maker = Callable[[int], str]
 
 @dataclass(frozen=True)
 class Promise:
-    """What is counted at each of some numbers, and how many times the count before it each may be."""
+    """Scripts for some numbers, whose costs are counted, and the greatest ratios of each cost to the one before it."""
 
     what: str
     limits: Mapping[str, float]
-    # What is counted is a script behind another one, which may be empty.
+    # The script `more` is counted. It runs after `base`, which may be empty.
     base: Maker
     more: Maker
     unit: str
     numbers: Sequence[int]
 
     def runs(self, program: Path, number: int) -> List[Run]:
-        """That of both scripts, and that of the one which isn't counted, if there is one."""
+        """Returns the run of both scripts and, if it isn't empty, the run of the first one, which isn't counted."""
         base = self.base(number)
         scripts = [base + self.more(number), *filter(None, [base])]
         if self.unit == WORKERS:
@@ -48,12 +48,12 @@ def asked(question: str) -> Maker:
 
 
 def others(change: Maker) -> Maker:
-    """Changes of a kind, others than those that made the tables ready."""
+    """Changes of a kind, with other numbers than in to_be_changed."""
     return lambda _: "".join(map(change, range(CHANGES, 2 * CHANGES)))
 
 
 def repeated(change: Maker) -> Maker:
-    """So many changes."""
+    """A number of changes of a kind."""
     return lambda count: "".join(map(change, range(count)))
 
 
@@ -61,35 +61,37 @@ def of_no_table(_: int) -> str:
     return ""
 
 
-# What is promised, its limits, and what is counted.
+# The name of a promise, its limits, and the script that is counted.
 Line = Tuple[str, Mapping[str, float], Maker]
 CHANGED: List[Line] = [
     ("one-row updates by a condition", CONSTANT, others(update)),
     ("one-row updates of a key", CONSTANT, others(rename)),
-    # A block of commands stands before these, which has let its snapshot go.
+    # A block of commands precedes these; its snapshot has been dropped.
     ("one-row loads", CONSTANT, others(add)),
     ("one-row loads, table with a key", CONSTANT, others(add_with_key)),
-    ("one-row loads in blocks of commands", STRAIGHT, others(block)),
+]
+IN_BLOCKS: List[Line] = [
+    ("one-row loads in blocks of commands", CONSTANT, others(block)),
 ]
 ASKED: List[Line] = [
-    ("a load", STRAIGHT, lambda count: load("empty", spread(count))),
-    ("rows as of an old commit", STRAIGHT, asked("rows,past,asof,2")),
-    ("between", STRAIGHT, asked("between,past,1,9")),
-    ("at, half of the rows at once", STRAIGHT, at_half),
-    ("dip, ten rows a day", STRAIGHT, asked("dip,a")),
-    ("dip, half of the rows at once", STRAIGHT, asked("dip,crowded")),
-    ("join by a column", STRAIGHT, asked("join,a,b,on,who,who")),
-    ("join without columns", STRAIGHT, asked("join,a,b")),
-    ("join of a payroll", STRAIGHT, asked("join,pay,job,on,who,who")),
-    ("anti-join without columns", STRAIGHT, asked("anti,a,b")),
-    ("anti-join of a payroll", STRAIGHT, asked("anti,job,pay,on,who,who")),
-    ("aggregate by group", STRAIGHT, asked("agg,a,sum,amount,by,who")),
-    ("aggregate, ten rows a day", STRAIGHT, asked("agg,a,sum,amount")),
-    ("aggregate, half of the rows at once", STRAIGHT, asked("agg,crowded,max,amount")),
+    ("a load", LINEAR, lambda count: load("empty", spread(count))),
+    ("rows as of an old commit", LINEAR, asked("rows,past,asof,2")),
+    ("between", LINEAR, asked("between,past,1,9")),
+    ("at, half of the rows at once", LINEAR, at_half),
+    ("dip, ten rows a day", LINEAR, asked("dip,a")),
+    ("dip, half of the rows at once", LINEAR, asked("dip,crowded")),
+    ("join by a column", LINEAR, asked("join,a,b,on,who,who")),
+    ("join without columns", LINEAR, asked("join,a,b")),
+    ("join of a payroll", LINEAR, asked("join,pay,job,on,who,who")),
+    ("anti-join without columns", LINEAR, asked("anti,a,b")),
+    ("anti-join of a payroll", LINEAR, asked("anti,job,pay,on,who,who")),
+    ("aggregate by group", LINEAR, asked("agg,a,sum,amount,by,who")),
+    ("aggregate, ten rows a day", LINEAR, asked("agg,a,sum,amount")),
+    ("aggregate, half of the rows at once", LINEAR, asked("agg,crowded,max,amount")),
 ]
 REPEATED: List[Line] = [
-    ("one-row loads behind one another", STRAIGHT, repeated(add)),
-    ("updates of one row behind one another", STRAIGHT, repeated(again)),
+    ("one-row loads, one after another", LINEAR, repeated(add)),
+    ("updates of one row, one after another", LINEAR, repeated(again)),
 ]
 READ_BY_ALL: List[Line] = [
     ("a script's pieces", SHARED, lambda _: long_texts(1_100)),
@@ -104,9 +106,10 @@ SHARED_OUT: List[Line] = [
 
 
 def promises(rows: Sequence[int], times: Sequence[int]) -> List[Promise]:
-    """All promises, at these numbers of rows, and of changes."""
+    """Returns all promises, for these numbers of rows and of changes."""
     kinds: List[Tuple[List[Line], Maker, str, Sequence[int]]] = [
         (CHANGED, to_be_changed, ROWS, rows),
+        (IN_BLOCKS, to_be_loaded_in_blocks, ROWS, rows),
         (ASKED, to_be_asked, ROWS, rows),
         (REPEATED, of_few_rows, TIMES, times),
         (READ_BY_ALL, of_no_table, WORKERS, (1, 4)),

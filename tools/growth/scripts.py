@@ -1,4 +1,4 @@
-"""Scripts whose cost is counted. One of more rows is made like that of fewer, so nothing but their number differs."""
+"""Scripts whose cost is counted. Scripts for more rows are made like those for fewer: only the number differs."""
 import random
 from datetime import date, timedelta
 from functools import lru_cache
@@ -6,14 +6,14 @@ from typing import Iterable, Iterator, List
 
 FIRST = date(2000, 1, 1)
 YEAR = "2024-01-01,2025-01-01"
-# So many changes of each kind make tables ready.
+# The number of changes of each kind that precede the counted ones.
 CHANGES = 50
-# Rows enough for four workers, and the loads that one thread reads if they are as many.
+# Enough rows for four workers, and the number of loads that makes each short enough for one thread.
 MANY, LOADS = 33_000, 3
 
 
 def table(name: str, key: str = "") -> str:
-    """A table of two numbers, with that column as its key, if one is named."""
+    """A table of two numbers, with a key if a column is named."""
     return f"table,{name},who,int,amount,int{key and f',key,{key}'}\n"
 
 
@@ -31,12 +31,12 @@ def day(number: int) -> str:
 
 
 def period(first: int, days: int) -> str:
-    """So many days from a day on, which is given by its number."""
+    """A period of some days; its first day is given by its number."""
     return f"{day(first)},{day(first + days)}"
 
 
 def each_once(count: int) -> Iterator[str]:
-    """A row for each of so many persons, and all hold all year."""
+    """A row for each of `count` persons; all hold all year."""
     return (f"{YEAR},{who},{who % 97}" for who in range(count))
 
 
@@ -49,14 +49,14 @@ def spread(count: int, seed: int = 0) -> List[str]:
 
 
 def crowded(count: int) -> List[str]:
-    """Rows of which half hold at once: as the first half ends, row by row, the others begin."""
+    """Rows, half of them at once: when the first half end, row by row, the others begin."""
     half = count // 2
     starts = [*range(half), *range(2 * half, 3 * half)]
     return [f"{period(start, 2 * half)},{start % 89},{start % 97}" for start in starts]
 
 
 def contracts(persons: int) -> Iterator[str]:
-    """Two for each person, one behind the other."""
+    """Two rows for each person, one after the other."""
     for who in range(persons):
         yield f"{period(who % 20, 150)},{who},1"
         yield f"{period(who % 20 + 150, 150)},{who},2"
@@ -70,7 +70,7 @@ def payments(persons: int) -> Iterator[str]:
 
 
 def long_texts(count: int) -> str:
-    """A table of so many texts of 4,000 bytes each."""
+    """A table of `count` texts of 4,000 bytes each."""
     rows = (f"row,{YEAR},{'x' * 4_000}\n" for _ in range(count))
     return "".join(["table,t,text,text\nload,t\n", *rows, "end\n"])
 
@@ -96,37 +96,43 @@ def rename(number: int) -> str:
 
 
 def add(number: int) -> str:
-    """A load of one row, behind that of the same person."""
+    """A load of one row, for the year after the same person's row."""
     return load("added", [f"2025-01-01,2026-01-01,{number},1"])
 
 
 def add_with_key(number: int) -> str:
-    """The same of a person whose row isn't renamed."""
+    """The same load, for a person whose row isn't renamed."""
     return load("keyed", [f"2025-01-01,2026-01-01,{2 * CHANGES + number},1"])
 
 
 def block(number: int) -> str:
-    """A load in a block of commands, whose snapshot is kept meanwhile."""
-    return f"together\n{add(number)}end\n"
+    """A load of one row into a table with a key, in a block of commands; the snapshot is kept meanwhile."""
+    return f"together\n{add_with_key(number)}end\n"
 
 
 @lru_cache(maxsize=None)
 def to_be_changed(count: int) -> str:
-    """Tables of so many rows, and changes of each kind, so that what the first of them makes ready isn't counted."""
+    """Tables of `count` rows, and changes of each kind, so that the first change of a kind isn't counted."""
     keys = {"updated": "", "added": "", "keyed": "who"}
     tables = [filled(name, each_once(count), key) for name, key in keys.items()]
     ready = [change(number) for change in (update, rename, add, add_with_key) for number in range(CHANGES)]
-    return "".join([*tables, block(0), *ready])
+    return "".join([*tables, block(2 * CHANGES), *ready])
+
+
+@lru_cache(maxsize=None)
+def to_be_loaded_in_blocks(count: int) -> str:
+    """A table of `count` rows, and blocks of commands, so that the first block isn't counted."""
+    return "".join([filled("keyed", each_once(count), "who"), *map(block, range(CHANGES))])
 
 
 def of_few_rows(_: int) -> str:
-    """Tables of so few rows that many changes are most of what they have."""
+    """Tables of few rows: after many changes, most versions come from these."""
     return "".join(filled(name, each_once(10)) for name in ("updated", "added"))
 
 
 @lru_cache(maxsize=None)
 def to_be_asked(count: int) -> str:
-    """Tables of so many rows: with a past, random ones, a crowded one, those of a payroll, and one without rows."""
+    """Tables of `count` rows: one with a past, two random ones, a crowded one, a payroll's, and an empty one."""
     persons = count // 10
     return "".join([
         filled("past", each_once(count // 2)), f"update,past,{YEAR},set,amount,1\n",
@@ -137,7 +143,7 @@ def to_be_asked(count: int) -> str:
 
 @lru_cache(maxsize=None)
 def to_be_shared(_: int) -> str:
-    """A table of rows enough for four workers, and one of a quarter of them, in a script that one thread reads."""
+    """A table of enough rows for four workers, and one of a quarter of them, in a script that one thread reads."""
     made = []
     for name, rows in (("a", spread(MANY, 1)), ("b", spread(MANY // 4, 2))):
         made += [table(name), *(load(name, rows[part::LOADS]) for part in range(LOADS))]

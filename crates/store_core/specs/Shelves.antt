@@ -1,12 +1,11 @@
 -- What contracts read of a shelf.
 use Rattle.std.specs.Prelude.{ℕ}
-use Rattle.std.specs.Arc.{arc_value}
 use Rattle.book_core.specs.History.{History}
 use Rattle.store_core.specs.declared.shelf.Shelf.{Shelf}
 
 -- the history of its book
 abbrev pub shelf_history : Shelf → History
-shelf_history shelf = arc_value shelf.book
+shelf_history shelf = shelf.book
 
 -- the number of its store's passes
 abbrev pub passes_in : Shelf → ℕ

@@ -12,8 +12,10 @@
 mod pass;
 mod post;
 mod refusal;
+mod shared_book;
 mod shelf;
 mod snapshot;
+mod spare;
 mod store;
 
 pub use book_core::NoTable;

@@ -1,17 +1,17 @@
 //! The shelf: a book, shared with snapshots.
 
-ghost use Rattle.std.specs.Prelude.{◌≡◌, ◌<◌, ◌≤◌, [], ◌∷◌, ◌++◌, IfOk, IfErr, OnOk};
-ghost use Rattle.std.specs.Arc.{arc_value};
+ghost use Rattle.std.specs.Prelude.{◌≡◌, ◌<◌, ◌≤◌, [], IfOk};
 ghost use Rattle.book_core.specs.History.{IsLegal};
 ghost use Rattle.book_core.specs.Versions.{log_of};
 ghost use Rattle.turn_core.specs.Entries.{AreOfCallers};
 ghost use Rattle.turn_core.specs.Limits.{seat_limit};
-ghost use Rattle.store_core.specs.Histories.{by_of, commit, CommitsTo, IsLegal-prop, refusal_after, RefusesCommit};
+ghost use Rattle.store_core.specs.Histories.{by_of, CommitsTo, IsLegal-prop};
 ghost use Rattle.store_core.specs.Snapshots.{Shows};
 
 use crate::refusal::Future;
+use crate::shared_book::SharedBook;
 use crate::snapshot::Snapshot;
-use book_core::{Book, BookRefused, Change, Commit, Log};
+use book_core::{BookRefused, Change, Commit, Log};
 use row_core::{Failure, NoMemory};
 use std::alloc::Global;
 use std::sync::Arc;
@@ -23,11 +23,11 @@ use turn_core::Kept;
 pub struct Shelf {
     alloc: Global,
     passes: u32,
-    book: Arc<Book>,
+    book: SharedBook,
     // Each commit was accepted in the state before it.
-    pub ghost legal: { IsLegal (arc_value book) } by { IsLegal-prop (arc_value book) },
+    pub ghost legal: { IsLegal book } by { IsLegal-prop book },
     // Each commit has a pass's number.
-    pub ghost numbered: { AreOfCallers by_of passes (arc_value book) },
+    pub ghost numbered: { AreOfCallers by_of passes book },
 }
 
 impl Kept for Shelf {
@@ -42,50 +42,6 @@ impl Kept for Shelf {
     ghost mark = { passes_in };
 }
 
-// Returns a copy of a book with one change more. A change that the book refuses without testing keys is refused before
-// anything is copied.
-fn changed_copy(
-    alloc: Global,
-    book: &Book,
-    by: u32,
-    change: Change,
-) -> Result<Arc<Book>, Failure<BookRefused>>
-    ensures ok { IfOk result (λ changed. (refusal_after book.now change ≡ None)
-        × (arc_value changed ≡ book.now ++ commit by change ∷ [])) }
-    ensures err { IfErr result (RefusesCommit book.now change) }
-{
-    if let Some(refused) = book.refusal(&change) {
-        return Err(Failure::Refused(refused));
-    }
-    let mut copy = book.copy(alloc)?;
-    copy.apply(by, change)?;
-    Ok(Arc::new(alloc, copy)?)
-}
-
-// Makes a change of a shared book. If others share it, a copy is changed and replaces it here.
-fn change_book(
-    alloc: Global,
-    shared: &mut Arc<Book>,
-    by: u32,
-    change: Change,
-) -> Result<(), Failure<BookRefused>>
-    ensures ok { OnOk result ((refusal_after (arc_value shared.old) change ≡ None)
-        × (arc_value shared.new ≡ arc_value shared.old ++ commit by change ∷ [])) }
-    ensures err { IfErr result (λ why. (arc_value shared.new ≡ arc_value shared.old)
-        × RefusesCommit (arc_value shared.old) change why) }
-{
-    match Arc::get_mut(shared) {
-        Some(book) => {
-            book.apply(by, change)?;
-            Ok(())
-        }
-        None => {
-            *shared = changed_copy(alloc, shared, by, change)?;
-            Ok(())
-        }
-    }
-}
-
 impl Shelf {
     ghost use Rattle.store_core.specs.Shelves.{passes_in, shelf_history};
 
@@ -94,9 +50,8 @@ impl Shelf {
         requires { (1 ≤ passes) × (passes ≤ seat_limit) }
         ensures { IfOk result (λ shelf. (shelf_history shelf ≡ []) × (passes_in shelf ≡ passes)) }
     {
-        let book = Book::new(alloc);
-        let _ = book.commits();
-        let book = Arc::new(alloc, book)?;
+        let book = SharedBook::new(alloc)?;
+        let _ = book.current().commits();
         Ok(Shelf {
             alloc,
             passes,
@@ -105,8 +60,8 @@ impl Shelf {
     }
 
     /// Makes a change of the pass with the number `by`, and returns the number of its commit. Commits are numbered from
-    /// 1. If a snapshot shares the book, the change is made in a copy, unless it is refused before its keys are tested.
-    /// The table's versions and rows are copied only if they are shared too.
+    /// 1. If a snapshot shares the book, the change is made in the spare book, or in a copy if the spare book can't be
+    /// used.
     ///
     /// # Errors
     ///
@@ -120,8 +75,8 @@ impl Shelf {
         ensures legal { IsLegal (shelf_history self.new) }
     {
         let Shelf { alloc, book, .. } = self;
-        change_book(*alloc, book, by, change)?;
-        Ok(book.commits())
+        book.change(*alloc, by, change)?;
+        Ok(book.current().commits())
     }
 
     /// Returns a snapshot of the first `n` commits, or of all commits without a number.
@@ -133,12 +88,12 @@ impl Shelf {
     pub fn snapshot(&self, n: Option<u64>) -> Result<Snapshot, Failure<Future>>
         ensures { Shows (shelf_history self.now) n result }
     {
-        let newest = self.book.commits();
+        let newest = self.book.current().commits();
         let number = n.unwrap_or(newest);
         if number > newest {
             return Err(Failure::Refused(Future));
         }
-        match Arc::try_clone(&self.book) {
+        match Arc::try_clone(self.book.current()) {
             Ok(book) => Ok(Snapshot::of(number, book)),
             Err(_) => Err(Failure::NoMemory),
         }
@@ -148,6 +103,6 @@ impl Shelf {
     pub fn log(&self) -> Result<Log, NoMemory>
         ensures { IfOk result (λ log. log ≡ log_of (shelf_history self.now)) }
     {
-        self.book.log()
+        self.book.current().log()
     }
 }

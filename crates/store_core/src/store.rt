@@ -70,8 +70,8 @@ impl Store {
     }
 
     /// Commits a change, and returns the number of its commit. Commits are numbered from 1. If a snapshot shares the
-    /// book, the change is made in a copy, unless it is refused before its keys are tested. The table's versions and
-    /// rows are copied only if they are shared too.
+    /// book, the change is made in a second book, which takes turns with it. That one is a copy at first, and whenever
+    /// a snapshot shares it too.
     ///
     /// # Errors
     ///

@@ -1,6 +1,6 @@
 //! A store whose snapshot is alive, and its state after each call, with memory refused.
 
-ghost use Rattle.std.specs.Prelude.{IfOk};
+ghost use Rattle.std.specs.Prelude.{◌<◌, IfOk};
 ghost use Rattle.store_core.specs.Passes.{IsPassOf};
 
 use crate::fixtures::{day, name};
@@ -75,27 +75,46 @@ fn look<R: Wait>(rt: &R, store: &Store, pass: &mut Pass) -> Result<(u64, usize, 
 }
 
 // Commits a load while a snapshot is alive. If memory is refused, checks that only the call was counted and nothing
-// else changed, and commits again.
-fn commit_beside<R: Wait>(rt: &R, alloc: Global) -> Result<(), Ended> {
-    let (store, mut pass) = one_row(rt, alloc)?;
-    let kept = store.snapshot(rt, &mut pass, None)?;
+// else changed, and commits again. The table has `rows` rows, each added by a commit of its own.
+fn commit_beside<R: Wait>(
+    rt: &R,
+    alloc: Global,
+    store: &Store,
+    pass: &mut Pass,
+    rows: usize,
+) -> Result<(), Ended>
+    requires store { IsPassOf store.now pass.old }
+    requires few { rows < 100 }
+    ensures { IsPassOf store.now pass.new }
+{
+    let commits = rows as u64 + 1;
+    let kept = store.snapshot(rt, pass, None)?;
     let (change, left) = (load(alloc)?, pass.left());
-    let reply = store.commit(rt, &mut pass, change);
+    let reply = store.commit(rt, pass, change);
     holds(pass.left().checked_add(1) == Some(left))?;
     let reply = match reply {
         Err(Failure::NoMemory) => {
-            holds(look(rt, &store, &mut pass)? == (2, 1, 2))?;
-            store.commit(rt, &mut pass, load(alloc)?)
+            holds(look(rt, store, pass)? == (commits, rows, rows + 1))?;
+            store.commit(rt, pass, load(alloc)?)
         }
         reply => reply,
     };
-    holds(reply? == 3 && look(rt, &store, &mut pass)? == (3, 2, 3))?;
-    holds(shown(&kept)? == (2, 1))
+    holds(reply? == commits + 1)?;
+    holds(look(rt, store, pass)? == (commits + 1, rows + 1, rows + 2))?;
+    holds(shown(&kept)? == (commits, rows))
+}
+
+// Makes one commit in a copy, one in the book that no snapshot shares, and one in the book that was current before.
+fn take_turns<R: Wait>(rt: &R, alloc: Global) -> Result<(), Ended> {
+    let (store, mut pass) = one_row(rt, alloc)?;
+    commit_beside(rt, alloc, &store, &mut pass, 1)?;
+    store.commit(rt, &mut pass, load(alloc)?)?;
+    commit_beside(rt, alloc, &store, &mut pass, 3)
 }
 
 #[test]
 fn a_refused_commit_is_made_later(rt: HostRuntime) -> Result<(), Fault> {
-    try_each(&rt, |alloc| commit_beside(&rt, alloc))
+    try_each(&rt, |alloc| take_turns(&rt, alloc))
 }
 
 // Checks a snapshot of the first commit.
