@@ -25,7 +25,7 @@ LIBRARY = TOP / "out" / "libruzgalt.so"
 BUILT = [*PROGRAMS.values(), LIBRARY]
 sys.path.insert(0, str(TOP / "python"))
 
-from ruzgalt.version import version  # noqa: E402
+from ruzgalt.which import version  # noqa: E402
 
 
 class Package(Distribution):

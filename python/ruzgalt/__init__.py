@@ -10,8 +10,8 @@
 Frames need pandas, and everything else Python 3.9 and its library. Importing it changes nothing of the process.
 Each folder is about one subject, and its modules import only from folders and modules above it:
 
-    errors, version     the exception with which tools end early; which version this is
-    which               which program and which library answer
+    errors              the exceptions with which tools and calls end early
+    which               which program and which library answer, and which version this is
     kernel              the library over arrays of numpy
     files, progress     files that are written whole; a line that shows how far a call is
     periods             pieces of the calendar, and rules of rounding
@@ -20,6 +20,7 @@ Each folder is about one subject, and its modules import only from folders and m
     load                a CSV file with a header becomes a load
     report              answers as CSV, JSON, tables of SQLite, pictures and one page for a browser
     cli                 the command lines
+    convert             columns of pandas as numbers, texts and seconds, and back
     frames              joins and divisions of frames
     store               stores: tables with a past
 """
@@ -49,7 +50,7 @@ else:
     def __getattr__(name: str) -> Any:
         """Returns the version, the answers of scripts, or a call of frames, which needs pandas and imports it now."""
         if name == "__version__":
-            return import_module("ruzgalt.version").version()
+            return import_module("ruzgalt.which").version()
         if name == "answers":
             return import_module("ruzgalt.script.answers")
         if name not in __all__:

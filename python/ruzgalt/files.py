@@ -15,7 +15,8 @@ def whole(targets: Sequence[Path], is_replacing: bool = True) -> Iterator[List[P
     """Yields a path for each file, where the caller writes it. At the end each one is moved to where it belongs.
 
     If anything fails before that, no file is changed. Symbolic links are followed, and a file that is replaced keeps
-    its mode. A device, a pipe, and a file with a second hard link can't be replaced, and are written into.
+    its mode. A device, a pipe, and a file with a second hard link can't be replaced, and are written into. Raises
+    Misfit for the file that standard output goes to: what is printed there would be lost.
     """
     with ExitStack() as folders:
         paths = [Path(folders.enter_context(folder_for(target)), "made") for target in targets]
@@ -34,10 +35,23 @@ def folder_for(target: Path) -> "TemporaryDirectory[str]":
 
 
 def is_written_into(target: Path) -> bool:
-    if not target.exists():
+    """Raises OSError for a link that leads to itself, and Misfit for the file that standard output goes to."""
+    try:
+        found = target.stat()
+    except FileNotFoundError:
         return False
-    found = target.stat()
+    for name, stream in (("output", 1), ("error", 2)):
+        if stat.S_ISREG(found.st_mode) and is_open_as(found, stream):
+            raise Misfit(f"{target}: standard {name} goes to this file, so it can't be replaced: give another file")
     return not stat.S_ISREG(found.st_mode) or found.st_nlink > 1
+
+
+def is_open_as(file: os.stat_result, stream: int) -> bool:
+    try:
+        return os.path.samestat(file, os.fstat(stream))
+    except OSError:
+        # It is closed.
+        return False
 
 
 def put(path: Path, target: Path, is_replacing: bool) -> None:

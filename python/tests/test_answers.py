@@ -10,12 +10,11 @@ from pathlib import Path
 from typing import Iterator, List, Tuple
 from unittest import mock
 
-from ruzgalt import version, which
-from ruzgalt import progress
+from ruzgalt import progress, which
 from ruzgalt.cli import answers as answers_tool, streams
 from ruzgalt.progress import Progress
-from ruzgalt.script import reader
-from tests.support import NEEDS_PANDAS
+from ruzgalt.script import records
+from tests.support import NEEDS_PANDAS, run as run_tool
 
 PAY = "table,pay,person,text,euros,int\nload,pay\nrow,2024-01-01,2024-03-01,A,5\nrow,2024-04-01,2024-06-01,A,6\nend\n"
 ROWS = "row,1,2024-01-01,2024-03-01,A,5\nrow,2,2024-04-01,2024-06-01,A,6\nend,2\n"
@@ -50,89 +49,80 @@ def run(words: List[str]) -> Tuple[int, str, str]:
     return status, data.getvalue().decode(), said.getvalue()
 
 
-class Lists(unittest.TestCase):
-    def marks(self, part: str, script: str, answered: str) -> None:
-        _, _, said = answers("list $S --answers $A --go-on", script, answered)
-        self.assertIn(part, said)
+OTHER = "table,of,name,text\nload,of\nrow,2024-01-01,{},{}\nend\n"
+CHANGE = "update,pay,{},{},set,euros,7{}\n"
+LOADED = "load,pay\nrow,{},A,7\nend\n"
+# Lines after PAY in a script, and the possible mistake that is reported, or an empty text.
+MARKS = [
+    (CHANGE.format("2024-01-01", "2024-12-01", ""), "it has no `where`, so it changed all rows of that time: 2"),
+    ("delete,pay,2024-01-01,2024-04-30,where,person,A\n", "2024-04-30 isn't in it: a portion ends before its TO"),
+    ("delete,pay,2024-01-01,2024-05-30T23:59:59,where,person,A\n", "2024-05-30T23:59:59 isn't in it"),
+    *((CHANGE.format("2024-05-01", end, ",where,person,A"), part) for end, part in (
+        ("2024-08-01",
+         "each row that it changed ends by 2024-06-01, before 2024-08-01: an update can't lengthen a row; load"),
+        ("2024-06-01", ""), ("2024-06-01T00:00:00", ""), ("9999-12-31", ""),
+    )),
+    (LOADED.format("2024-07-01,2024-07-05T23:59:59"), "2024-07-05T23:59:59 doesn't hold in that second"),
+    *((PAY.partition("\n")[2][:-1] + end, "it has the same rows as the load at line 2") for end in ("\n", "")),
+    ("delete,pay,2030-01-01,2031-01-02\n", "no row holds in that time, so nothing was changed"),
+    (LOADED.format("2024-07-01T08:00:00,2024-07-01T12:00:00") + "at,pay,2024-07-01\n",
+     "pay has times of day, and this is the midnight"),
+    ("load,pay\nrow,2024-08-01,2024-09-01,A,1\nrow,2024-08-01,2024-09-01,A,x\nend\n"
+     + LOADED.format("2024-07-01,2024-08-01"), "1 of its other rows are in no later load"),
+    (OTHER.format("2024-03-01", "a") + "join,pay,of,on,person,name\n",
+     "no value of these columns in common, so no row matches: 'A' and 'a' look alike"),
+    ("anti,pay,pay,on,person,person\n", "without one of pay, ask by anti,pay,pay"),
+    ("table,of,name,text\nanti,of,pay,on,name,person\n", ""),
+    ('update,pay,2024-01-01,2024-12-01,set,euros,7,where,person,"A\nrows,pay\n',
+     "continues to lines that look like records"),
+    ("load,pay\nrow,2024-07-01,2024-08-01,a,6\nend\n",
+     "line 6: load,pay: 'A' and 'a' look alike, but are two texts"),
+    *((OTHER.format("2024-07-01", "A") + f"anti,pay,of,on,person,name,asof,{commit}\n", part) for commit, part in (
+        (2, "of was made by commit 3, so commit 2 has no row of it"),
+        (3, "of has rows from commit 4 on, so commit 3 has no row of it"), (4, "each row of pay is matched"),
+    )),
+]
 
-    def test_an_update_of_all_rows_is_marked(self) -> None:
-        script = PAY + "update,pay,2024-01-01,2024-12-01,set,euros,7\n"
-        self.marks("it has no `where`, so it changed all rows of that time: 2", script, "ok,1\nok,2\nok,3\n")
+
+class Lists(unittest.TestCase):
+    def noted(self, script: str, tool: str = "list") -> str:
+        return run_tool(["tools/answers", tool, "-", "--go-on"], script)[2]
+
+    def is_marked(self, script: str, part: str) -> None:
+        with self.subTest(script):
+            said = self.noted(script)
+            self.assertEqual((part in said, said == ""), (True, part == ""), said)
+
+    def test_possible_mistakes_are_marked(self) -> None:
+        for more, part in MARKS:
+            self.is_marked(PAY + more, part)
+        self.is_marked("ok,1\n", "these are answers, not a script")
+        later = PAY.replace("2024-06-01", "2024-05-31") + "delete,pay,2024-01-01,2024-05-31,where,person,A\n"
+        # A portion to the own end of a row.
+        self.is_marked(later, "")
+        for more, part in MARKS[-3:-1]:
+            self.assertIn(part, self.noted(PAY + more, "csv"))
 
     def test_marks_of_one_kind_are_one_line(self) -> None:
         nothing = "update,pay,2024-01-01,2024-02-01,set,euros,{},where,person,B\n"
-        script = PAY + "".join(map(nothing.format, range(6))) + "update,pay,2024-01-01,2024-06-01,set,euros,7\n"
-        answered = "".join(f"ok,{number}\n" for number in range(1, 10))
-        _, _, said = answers("list $S --answers $A", script, answered)
-        one, other = said.splitlines()
+        script = PAY + "".join(map(nothing.format, range(6))) + CHANGE.format("2024-01-01", "2024-06-01", "")
+        one, other = self.noted(script).splitlines()
         self.assertIn("answers: line 6: update,pay,", one)
-        places = "(likewise line 7, line 8, line 9 and 2 more, which `tools/answers refusals` lists)"
-        self.assertTrue(one.endswith(f"so nothing was changed {places}"), one)
+        others = "(likewise line 7, line 8, line 9 and 2 more, which `tools/answers refusals` lists)"
+        self.assertTrue(one.endswith(f"so nothing was changed {others}"), one)
         self.assertIn("answers: line 12: ", other)
-        _, _, said = answers("refusals $S --answers $A", script, answered)
+        said = self.noted(script, "refusals")
         self.assertEqual([line.split(": ")[1] for line in said.splitlines()], [f"line {6 + more}" for more in range(7)])
-        _, _, said = answers("list $S --answers $A", PAY + nothing.format(1) * 3, answered[:25])
+        said = self.noted(PAY + nothing.format(1) * 3)
         self.assertTrue(said.endswith("so nothing was changed (likewise line 7, line 8)\n"), said)
 
-    def test_a_portion_to_a_last_day_is_marked(self) -> None:
-        script = PAY + "delete,pay,2024-01-01,2024-04-30,where,person,A\n"
-        self.marks("2024-04-30 isn't in it: a portion ends before its TO", script, "ok,1\nok,2\nok,3\n")
-
-    def test_a_portion_to_a_row_s_own_end_isn_t_marked(self) -> None:
-        script = PAY.replace("2024-06-01", "2024-05-31") + "delete,pay,2024-01-01,2024-05-31,where,person,A\n"
-        _, _, said = answers("list $S --answers $A", script, "ok,1\nok,2\nok,3\n")
-        self.assertEqual(said, "")
-
-    def test_a_portion_to_the_last_second_is_marked(self) -> None:
-        script = PAY + "delete,pay,2024-01-01,2024-05-30T23:59:59,where,person,A\n"
-        self.marks("2024-05-30T23:59:59 isn't in it", script, "ok,1\nok,2\nok,3\n")
-
-    def test_an_update_past_the_end_of_all_rows_is_marked(self) -> None:
-        part = "each row that it changed ends by 2024-06-01, before 2024-08-01: an update can't lengthen a row; load"
-        for end, is_marked in [
-            ("2024-08-01", True), ("2024-06-01", False), ("2024-06-01T00:00:00", False), ("9999-12-31", False),
-        ]:
-            script = PAY + f"update,pay,2024-05-01,{end},set,euros,7,where,person,A\n"
-            self.assertEqual(part in answers("list $S --answers $A", script, "ok,1\nok,2\nok,3\n")[2], is_marked)
-
-    def test_a_row_to_the_last_second_is_marked(self) -> None:
-        script = PAY + "load,pay\nrow,2024-07-01,2024-07-05T23:59:59,A,1\nend\n"
-        self.marks("2024-07-05T23:59:59 doesn't hold in that second", script, "ok,1\nok,2\nok,3\n")
-
-    def test_the_same_load_twice_is_marked(self) -> None:
-        script = PAY + PAY.partition("\n")[2]
-        for end in ("\n", ""):
-            self.marks("it has the same rows as the load at line 2", script[:-1] + end, "ok,1\nok,2\nok,3\n")
-
-    def test_a_change_of_a_time_without_rows_is_marked(self) -> None:
-        script = PAY + "delete,pay,2030-01-01,2031-01-02\n"
-        self.marks("no row holds in that time, so nothing was changed", script, "ok,1\nok,2\nok,3\n")
-
-    def test_a_day_asked_of_a_table_with_hours_is_marked(self) -> None:
-        script = PAY + "load,pay\nrow,2024-07-01T08:00:00,2024-07-01T12:00:00,A,1\nend\nat,pay,2024-07-01\n"
-        self.marks("pay has times of day, and this is the midnight", script, "ok,1\nok,2\nok,3\nend,0\n")
-
-    def test_rows_that_were_refused_with_a_wrong_one_are_marked(self) -> None:
-        script = "table,t,a,int\nload,t\nrow,2024-01-01,2024-02-01,1\nrow,2024-01-01,2024-02-01,x\nend\n"
-        script += "load,t\nrow,2024-01-01,2024-02-01,2\nend\n"
-        self.marks("1 of its other rows are in no later load", script, "ok,1\nerror,4,BadNumber\nok,2\n")
-
-    def test_a_join_without_a_value_in_common_is_marked(self) -> None:
-        script = PAY + "table,of,name,text\nload,of\nrow,2024-01-01,2024-03-01,a\nend\njoin,pay,of,on,person,name\n"
-        answered = "ok,1\nok,2\nok,3\nok,4\nend,0\n"
-        self.marks("no value of these columns in common, so no row matches: 'A' and 'a' look alike", script, answered)
-
     def test_a_check_that_says_no_and_a_join_without_columns_come_first(self) -> None:
-        script = PAY + "delete,pay,2030-01-01,2030-02-01\njoin,pay,pay\ncheck,pay,1,-\npart,1\nend\n"
-        _, _, said = answers("list $S", script, "")
-        first, second, third = said.splitlines()
+        first, second, third = self.noted(
+            PAY + "delete,pay,2030-01-01,2030-02-01\njoin,pay,pay\ncheck,pay,1,-\npart,1\nend\n"
+        ).splitlines()
         self.assertIn("join,pay,pay: it has no `on`, so each row of pay is joined with every row of pay of the", first)
         self.assertIn("check,pay,1,-: No: row 2 is in no part.", second)
         self.assertIn("so nothing was changed", third)
-
-    def test_an_anti_join_of_nothing_tells_of_the_other_way_round(self) -> None:
-        script = PAY + "anti,pay,pay,on,person,person\n"
-        self.marks("without one of pay, ask by anti,pay,pay", script, "ok,1\nok,2\nend,0\n")
 
     def test_quotes_that_may_not_be_meant_are_marked(self) -> None:
         row = "load,pay\nrow,2024-01-01,2024-03-01,{},5\nrow,2024-01-01,2024-03-01,{},5\nend\n"
@@ -144,30 +134,20 @@ class Lists(unittest.TestCase):
             ('"Byron, Ada "', "D", "line 7: Byron, Ada  has a blank at an end"),
             ('"two\nlines"', "O'Neill", ""), ('"Byron, Ada"', "van D", ""),
         ]:
-            with self.subTest(first):
-                _, _, said = answers("list $S --answers $A", PAY + row.format(first, second), "ok,1\nok,2\nok,3\n")
-                self.assertEqual((part in said, said == ""), (True, part == ""), said)
+            self.is_marked(PAY + row.format(first, second), part)
 
-    def test_an_open_quote_of_a_command_is_marked(self) -> None:
-        script = PAY + 'update,pay,2024-01-01,2024-12-01,set,euros,7,where,person,"A\nrows,pay\n'
-        self.marks("continues to lines that look like records", script, "ok,1\nok,2\nok,3\n")
-
-    def test_a_script_that_is_empty_or_has_answers_is_marked(self) -> None:
+    def test_a_script_that_is_empty_is_marked(self) -> None:
         for tool in ("list", "page", "json"):
-            _, _, said = answers(f"{tool} $S --answers $A", "\n", "")
-            self.assertIn("the script is empty", said)
-        self.marks("these are answers, not a script", "ok,1\n", "error,1,BadCommand\n")
+            self.assertIn("the script is empty", self.noted("\n", tool))
 
     def test_rows_that_overlap_without_a_key_are_marked_with_the_question(self) -> None:
         script = PAY.replace("2024-04-01", "2024-02-01")
         part = "1 and 2, equal in person, hold at the same time; `tools/answers overlaps SCRIPT person --ask rows,pay`"
-        self.marks(part, script, "ok,1\nok,2\n")
+        self.is_marked(script, part)
         part = "pay has a key of all columns, and rows 1 and 2, equal in person, hold at the same time"
-        self.marks(part, script.replace("euros,int", "euros,int,key,person,euros"), "ok,1\nok,2\n")
+        self.is_marked(script.replace("euros,int", "euros,int,key,person,euros"), part)
         for other in (script.replace("euros,int", "euros,int,key,person"), script.replace("A,6", "B,6"), PAY):
-            answered = "ok,1\nerror,2,KeyOverlap\n" if "key" in other else "ok,1\nok,2\n"
-            _, _, said = answers("list $S --answers $A", other, answered)
-            self.assertEqual(said, "")
+            self.is_marked(other, "")
 
     def test_ends_of_rows_that_look_like_last_days_are_marked(self) -> None:
         follows = "TO: of rows that follow one of the same person, 1 start on the day after it (line 4 after line 3)"
@@ -181,38 +161,14 @@ class Lists(unittest.TestCase):
             (touching + other.format("01"), ""), (PAY + other.format("15"), ""),
             ("table,t\nload,t\nrow,2024-01-01,2024-03-31\nrow,2024-04-01,2024-05-01\nend\n", ""),
         ]:
-            with self.subTest(script):
-                output = "".join(f"ok,{place + 1}\n" for place in range(script.count("table,") + script.count("load,")))
-                _, _, said = answers("list $S --answers $A", script, output)
-                self.assertEqual((part in said, said == ""), (True, part == ""), said)
+            self.is_marked(script, part)
 
     def test_ends_on_which_other_rows_start_are_not_marked(self) -> None:
         """Of rows of a day each, day by day, and of a diary whose entries are of last days of months."""
         for commits, days in (("1112", ("01-29", "01-30", "01-31", "02-01", "02-02")),
                               ("2345", ("01-31", "02-29", "03-31", "04-30", "05-31"))):
             rows = "".join(f"row,2024-{one},2024-{end},{commit}\n" for one, end, commit in zip(days, days[1:], commits))
-            script = f"table,diary,newest,int\nload,diary\n{rows}end\n"
-            with self.subTest(script):
-                self.assertEqual(answers("list $S --answers $A", script, "ok,1\nok,2\n")[2], "")
-
-    def test_texts_that_look_alike_in_several_loads_are_marked(self) -> None:
-        other = "load,pay\nrow,2024-07-01,2024-08-01,a,6\nend\n"
-        self.marks("line 6: load,pay: 'A' and 'a' look alike, but are two texts", PAY + other, "ok,1\nok,2\nok,3\n")
-
-    def test_a_past_without_rows_is_marked(self) -> None:
-        script = PAY + "table,of,name,text\nload,of\nrow,2024-01-01,2024-07-01,A\nend\n"
-        for commit, part in [
-            (3, "of has rows from commit 4 on, so commit 3 has no row of it"),
-            (2, "of was made by commit 3, so commit 2 has no row of it"), (4, "each row of pay is matched"),
-        ]:
-            answered = "ok,1\nok,2\nok,3\nok,4\n" + (ROWS if commit < 4 else "end,0\n")
-            for tool in ("list", "csv") if commit < 4 else ("list",):
-                words, question = f"{tool} $S --answers $A", f"anti,pay,of,on,person,name,asof,{commit}\n"
-                self.assertIn(part, answers(words, script + question, answered)[2])
-
-    def test_an_anti_join_of_an_empty_table_isn_t_marked(self) -> None:
-        script = PAY + "table,of,name,text\nanti,of,pay,on,name,person\n"
-        self.assertEqual(answers("list $S --answers $A", script, "ok,1\nok,2\nok,3\nend,0\n")[2], "")
+            self.is_marked(f"table,diary,newest,int\nload,diary\n{rows}end\n", "")
 
 
 class Tables(unittest.TestCase):
@@ -274,7 +230,7 @@ class Tables(unittest.TestCase):
         _, _, said = answers("history $S pay --answers $A --diary diary", script.replace(",9\n", ",1\n"), answered)
         self.assertIn("commits without a day, which --retroactive leaves out: 2", said)
 
-    def test_history_of_what_isn_t_there_is_reported(self) -> None:
+    def test_history_without_rows_or_commits_is_reported(self) -> None:
         _, _, said = answers("history $S pay --answers $A --where person=a", PAY, "ok,1\nok,2\n")
         self.assertIn("no row of pay ever had the values of --where", said)
         status, _, said = answers("history $S pay --answers $A --commit 3", PAY, "ok,1\nok,2\n")
@@ -297,7 +253,7 @@ class Tables(unittest.TestCase):
 
 @contextlib.contextmanager
 def pieces_of(size: int) -> Iterator[None]:
-    with mock.patch.object(reader, "PIECE", size):
+    with mock.patch.object(records, "PIECE", size):
         yield
 
 
@@ -363,7 +319,7 @@ class Terminals(unittest.TestCase):
             self.assertIn("\r\033[Ksomething\n", said.getvalue())
         self.assertRegex(said.getvalue(), "(\n|\r\033\\[K)$")
 
-    def test_a_line_goes_where_something_is_printed_beside_it(self) -> None:
+    def test_a_line_ends_when_something_else_is_printed(self) -> None:
         with self.terminal() as said, Progress("answers"):
             self.wait_for(said, "\ranswers: 0 s\033[K")
             progress.end()
@@ -371,7 +327,7 @@ class Terminals(unittest.TestCase):
             time.sleep(0.1)
             self.assertEqual((said.getvalue(), shown[-4:]), (shown, "\r\033[K"))
 
-    def test_no_line_stands_in_a_pipe_nor_where_it_takes_no_time(self) -> None:
+    def test_no_line_is_shown_in_a_pipe_or_for_short_runs(self) -> None:
         with self.terminal(is_one=False) as said, Progress("answers"):
             time.sleep(0.1)
         self.assertEqual(said.getvalue(), "")
@@ -392,12 +348,12 @@ class Hints(unittest.TestCase):
                 _, printed, _ = answers("refusals $S --answers $A", record + "\n", "error,1,BadCommand\n")
                 self.assertIn(part, printed)
 
-    def test_two_columns_behind_by_are_reported(self) -> None:
+    def test_two_columns_after_by_are_reported(self) -> None:
         script = PAY + "agg,pay,count,by,person,euros\n"
         _, printed, _ = answers("refusals $S --answers $A", script, "ok,1\nok,2\nerror,6,BadCommand\n")
         self.assertIn("`by` takes one column", printed)
 
-    def test_the_program_is_named_or_in_the_package_or_beside_it_or_on_the_path(self) -> None:
+    def test_the_program_is_named_or_in_the_package_or_next_to_it_or_on_the_path(self) -> None:
         with tempfile.TemporaryDirectory() as name:
             folder = Path(name)
             for place in (folder, folder / "bin", folder / "within"):
@@ -416,11 +372,11 @@ class Hints(unittest.TestCase):
                 self.assertEqual(which.program(), "/another")
 
     def test_a_package_in_another_project_has_not_that_project_s_version(self) -> None:
-        with tempfile.TemporaryDirectory() as folder, mock.patch.object(version, "TOP", Path(folder)):
+        with tempfile.TemporaryDirectory() as folder, mock.patch.object(which, "TOP", Path(folder)):
             Path(folder, ".git").mkdir()
             with mock.patch.dict(os.environ):
                 os.environ.pop("SOURCE_DATE_EPOCH", None)
-                self.assertEqual(version.of_repository(), version.UNKNOWN)
+                self.assertEqual(which.version(), "0+unknown")
 
     def test_a_program_that_is_missing_is_reported_with_its_name_in_the_environment(self) -> None:
         with mock.patch.dict(os.environ, DIPQ="/none/dipq"):

@@ -4,7 +4,7 @@ import unittest
 from pathlib import Path
 from typing import NamedTuple
 
-from ruzgalt.script import questions
+from ruzgalt.script import run as program
 from tests.support import TOP, run
 
 PROGRAM = Path(os.environ.get("DIPQ", TOP / "crates/dipq/out/dipq")).resolve()
@@ -129,7 +129,7 @@ class AsOf(unittest.TestCase):
         empty = PAY + DIARY.partition("load")[0]
         self.is_refused("asof 2024-07-01: diary has no day of a commit", *question, script=empty)
 
-    def test_a_diary_is_looked_at_without_a_day_too(self) -> None:
+    def test_a_diary_is_read_without_a_day_too(self) -> None:
         none, other = "notes: no such table; the tables are pay, diary", f"pay: {NO_DIARY}"
         for tool, more in [*TOOLS.items(), ("page", "--ask a=rows,pay")]:
             twice = ["--ask", "rows,pay"] if tool == "changed" else []
@@ -154,17 +154,17 @@ class Questions(unittest.TestCase):
             "together\nrows,pay,asof,2024-03-01",
         ]:
             with self.subTest(question):
-                self.assertEqual(questions.points_of(question), [])
-                self.assertEqual(questions.with_commits(question, {}), question)
+                self.assertEqual(program.dated(question), {})
+                self.assertEqual(program.with_commits(question, {}), question)
 
-    def test_a_day_has_its_commit_in_its_place_alone(self) -> None:
+    def test_only_the_day_is_replaced_by_its_commit(self) -> None:
         for question, wanted in [
             ('\nrows,"pay",asof,2024-03-01\n', "rows,pay,asof,7\n"),
             ('at,"a,b",2024-03-01,asof,"2024-03-01"', 'at,"a,b",2024-03-01,asof,7\n'),
             ("rows,a\udcff,asof,2024-03-01", "rows,a\udcff,asof,7\n"),
         ]:
             with self.subTest(question):
-                self.assertEqual(questions.with_commits(question, {"2024-03-01": 7}), wanted)
+                self.assertEqual(program.with_commits(question, {"2024-03-01": 7}), wanted)
 
 
 if __name__ == "__main__":

@@ -1,5 +1,4 @@
 """The newest commit on a day by a diary, compared with a search from day to day."""
-import os
 import unittest
 from datetime import date, timedelta
 from typing import List, NamedTuple, Optional, Tuple
@@ -8,16 +7,10 @@ from ruzgalt.script import answers
 from ruzgalt.script import changes, run
 from ruzgalt.script.answers import Answer
 from ruzgalt.errors import Misfit
+from tests.by_hypothesis import drawn, given, st
 from tests.support import PROGRAM
 
-try:
-    from hypothesis import given, settings
-    from hypothesis import strategies as st
-except ModuleNotFoundError as error:
-    raise unittest.SkipTest("diaries that hypothesis draws") from error
-
-EXAMPLES = int(os.environ.get("TOOLS_EXAMPLES", "100"))
-DRAWN = settings(max_examples=EXAMPLES, deadline=None, database=None, derandomize=EXAMPLES <= 150)
+DRAWN = drawn(100)
 FIRST = date(2024, 1, 1)
 DAYS, COMMITS = 24, 7
 # A start, a length, and a commit, or 0.

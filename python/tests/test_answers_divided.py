@@ -1,24 +1,14 @@
 """Divisions with their rows, and by groups, compared with counts of rows on each day."""
-import os
 import unittest
 from collections import Counter, defaultdict
 from datetime import date, timedelta
-from pathlib import Path
 from typing import Counter as Counts, DefaultDict, List, Tuple
 
-from tests.support import TOP, ToolCase, run
+from tests.by_hypothesis import drawn, given, needs_program, st
+from tests.support import ToolCase, run
+from tests.test_answers_over_time import Case, cases, read
 
-try:
-    from hypothesis import given, settings
-    from hypothesis import strategies as st
-
-    from tests.test_answers_over_time import Case, cases, read
-except ModuleNotFoundError as error:
-    raise unittest.SkipTest("rows that hypothesis draws") from error
-
-PROGRAM = Path(os.environ.get("DIPQ", TOP / "crates/dipq/out/dipq")).resolve()
-EXAMPLES = int(os.environ.get("TOOLS_EXAMPLES", "100"))
-DRAWN = settings(max_examples=EXAMPLES, deadline=None, database=None, derandomize=EXAMPLES <= 150)
+DRAWN = drawn(100)
 OWN = ["part", "row_id", "instant", "valid_from", "valid_to"]
 
 
@@ -34,7 +24,7 @@ def days(start: str, end: str) -> List[date]:
     return [first + timedelta(more) for more in range((date.fromisoformat(end) - first).days)]
 
 
-@unittest.skipUnless(PROGRAM.exists(), "a built program to answer rows that hypothesis draws")
+@needs_program
 class Divided(unittest.TestCase):
     @DRAWN
     @given(cases(), st.integers(0, 2))
@@ -63,7 +53,7 @@ class Divided(unittest.TestCase):
         self.assertCountEqual(asked(case.script, "--counts", *by)[1:], counts)
 
     def test_many_groups_are_asked_in_several_runs(self) -> None:
-        rows = "".join(f"row,2024-01-01,2024-01-0{2 + place % 3},{place % 150}\n" for place in range(300))
+        rows = "".join(f"row,2024-01-01,2024-01-0{2 + number % 3},{number % 150}\n" for number in range(300))
         _, *records = asked(f"table,t,n,int\nload,t\n{rows}end\n", "--by", "n")
         self.assertEqual([record[5] for record in records], [str(place // 2) for place in range(300)])
         self.assertEqual([record[0] for record in records], ["0", "1"] * 150)

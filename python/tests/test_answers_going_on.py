@@ -3,27 +3,17 @@
 Names, texts and amounts are as odd as they may be.
 """
 import decimal
-import os
 import unittest
 from collections import Counter
 from datetime import date, timedelta
-from pathlib import Path
 from typing import Any, Counter as Counts, List, Tuple
 
-from tests.support import EXAMPLE, TOP, ToolCase, kept, run
+from tests.by_hypothesis import drawn, given, needs_program, st
+from tests.support import EXAMPLE, ToolCase, kept, run
+from tests.test_answers_hostile import printed
+from tests.test_answers_over_time import START, Case, cases, read
 
-try:
-    from hypothesis import given, settings
-    from hypothesis import strategies as st
-
-    from tests.test_answers_hostile import printed
-    from tests.test_answers_over_time import START, Case, cases, read
-except ModuleNotFoundError as error:
-    raise unittest.SkipTest("amounts that hypothesis draws") from error
-
-PROGRAM = Path(os.environ.get("DIPQ", TOP / "crates/dipq/out/dipq")).resolve()
-EXAMPLES = int(os.environ.get("TOOLS_EXAMPLES", "100"))
-DRAWN = settings(max_examples=EXAMPLES, deadline=None, database=None, derandomize=EXAMPLES <= 150)
+DRAWN = drawn(100)
 PERCENTS = ["2.5", "3", "+1.1", "-3", "-50.5", "-100", "0.000000001", "33.333333333", "100", "900", "50"]
 ROUNDINGS = {
     "half-up": decimal.ROUND_HALF_UP, "half-down": decimal.ROUND_HALF_DOWN, "half-even": decimal.ROUND_HALF_EVEN,
@@ -57,7 +47,7 @@ def answer_of(script: str) -> List[List[str]]:
     return read(text)[1:]
 
 
-@unittest.skipUnless(PROGRAM.exists(), "a built program to answer amounts that hypothesis draws")
+@needs_program
 class GoingOn(unittest.TestCase):
     @DRAWN
     @given(cases(), st.sampled_from(PERCENTS), st.sampled_from(sorted(ROUNDINGS)), st.data())
@@ -110,9 +100,14 @@ class GoingOn(unittest.TestCase):
             self.assertEqual((found[:2], note in found[2]), ((1, ""), True), found)
         more = run([*words, "2.5", "--from", "2025-01-01", "--round", "half-up", "--again"], raised)[1]
         self.assertIn("set,n,5253,where,n,5125\n", more)
-        for other in (["--from", "2026-01-01"], ["--from", "2025-01-01", "--where", "dept=A"]):
-            status, updates, said = run([*words, "2.5", *other, "--round", "half-up"], raised)
-            self.assertEqual((status, updates != ""), (0, True), said)
+        for other, is_noted in (("--from 2026-01-01", False), ("--from 2025-01-01 --where dept=A", True)):
+            status, updates, said = run([*words, "2.5", *other.split(), "--round", "half-up"], raised)
+            self.assertEqual((status, updates != "", note[12:] in said), (0, True, is_noted), said)
+        once = load + run([*words, "2.5", "--from", "2025-01-01", "--where", "dept=A"], load)[1]
+        for dept, is_noted in (("A", True), ("B", False)):
+            found = run([*words, "2.5", "--from", "2025-01-01", "--where", f"dept={dept}", "--round", "up"], once)
+            self.assertEqual((found[0], "was raised from" in found[2]), (int(is_noted), is_noted), found)
+        self.assertIn("was raised from", run([*words, "2.5", "--from", "2025-01-01", "--round", "up"], once)[2])
 
     def test_a_sum_goes_on_by_its_group(self) -> None:
         script = printed([

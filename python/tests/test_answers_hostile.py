@@ -6,7 +6,6 @@ that a plain reading of those bytes finds. TOOLS_EXAMPLES is how many are drawn.
 import csv
 import io
 import json
-import os
 import sqlite3
 import subprocess
 import sys
@@ -17,18 +16,10 @@ from datetime import date, timedelta
 from pathlib import Path
 from typing import Any, Callable, List, NamedTuple, Optional, Tuple
 
-from tests.support import TOP, run
+from tests.by_hypothesis import drawn, example, given, needs_program, st
+from tests.support import PROGRAM, run
 
-try:
-    from hypothesis import example, given, settings
-    from hypothesis import strategies as st
-except ModuleNotFoundError as error:
-    raise unittest.SkipTest("tables that hypothesis draws for tools/answers") from error
-
-PROGRAM = Path(os.environ.get("DIPQ", TOP / "crates/dipq/out/dipq")).resolve()
-EXAMPLES = int(os.environ.get("TOOLS_EXAMPLES", "150"))
-# The same ones each time, unless many are wanted.
-DRAWN = settings(max_examples=EXAMPLES, deadline=None, database=None, derandomize=EXAMPLES <= 150)
+DRAWN = drawn()
 # Names that answers have for columns of their own, and others.
 NAMES = [
     "row_id", "id", "valid_from", "valid_to", "sys_from", "sys_to", "count", "sum_n", "part", "instant", "change",
@@ -155,7 +146,7 @@ class Tools:
             return names, [[None if one is None else str(one) for one in record] for record in found]
 
 
-@unittest.skipUnless(PROGRAM.is_file(), "tables that hypothesis draws for tools/answers, since no program is built")
+@needs_program
 class Hostile(unittest.TestCase):
     @DRAWN
     @example(case=Case('table,t,row_id,text\nload,t\nrow,2024-01-01,2024-02-01,"\nend,1\n"\nend\nlog\nrows,t\n'))

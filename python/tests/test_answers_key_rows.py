@@ -3,7 +3,6 @@
 hypothesis draws a table with a key, and loads, updates and deletes of it. The program refuses some, and of each the
 pairs must be the rows that are equal in the key and share an instant. TOOLS_EXAMPLES is how many are drawn.
 """
-import os
 import re
 import subprocess
 import tempfile
@@ -13,17 +12,10 @@ from itertools import combinations
 from pathlib import Path
 from typing import Any, Callable, Dict, FrozenSet, Iterator, List, NamedTuple, Tuple
 
-from tests.support import TOP, run
+from tests.by_hypothesis import drawn, given, needs_program, st
+from tests.support import PROGRAM, run
 
-try:
-    from hypothesis import given, settings
-    from hypothesis import strategies as st
-except ModuleNotFoundError as error:
-    raise unittest.SkipTest("changes that hypothesis draws for tools/answers") from error
-
-PROGRAM = Path(os.environ.get("DIPQ", TOP / "crates/dipq/out/dipq")).resolve()
-EXAMPLES = int(os.environ.get("TOOLS_EXAMPLES", "150"))
-DRAWN = settings(max_examples=EXAMPLES, deadline=None, database=None, derandomize=EXAMPLES <= 150)
+DRAWN = drawn()
 # In the order of time. Instant 0 is that from the first of these on and before the second.
 DAYS = ["0001-01-01", "2024-02-28", "2024-02-29", "2024-03-01", "2025-01-01", "9999-12-31"]
 SECONDS = [
@@ -188,7 +180,7 @@ def shown_in(printed: str) -> Dict[int, List[Shown]]:
     return found
 
 
-@unittest.skipUnless(PROGRAM.is_file(), "changes that hypothesis draws for tools/answers, since no program is built")
+@needs_program
 class KeyRows(unittest.TestCase):
     @DRAWN
     @given(case=cases())

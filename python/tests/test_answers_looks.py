@@ -45,7 +45,7 @@ class Looks(unittest.TestCase):
 
     @DRAWN
     @given(cases(), st.booleans())
-    def test_what_is_shown_loads_as_what_it_was(self, case: Case, is_german: bool) -> None:
+    def test_shown_values_load_as_they_were(self, case: Case, is_german: bool) -> None:
         assume(not any(set("\0\r\n") & set(text) for row in case.rows for text in row.group))
         rows, german = case.rows, ["--german"] * is_german
         shown = ["--decimals", f"{case.named[-1]}=2", "--last-day", *german]
@@ -73,10 +73,10 @@ class Words(ToolCase):
     def test_words_without_a_use_are_refused(self) -> None:
         self.check([*self.PAY, "7", "--last-day"], "", 1, "--last-day: the answer has no column")
         self.check([*self.PAY, "4", "--decimals", "cents=2"], "", 1, "cents: not a column of numbers; those are row")
-        self.check([*self.PAY, "4", "--german"], "", 1, "--german needs --for-spreadsheet or --decimals")
+        self.check([*self.PAY, "4", "--german"], "", 1, "--german says how decimals are printed")
         sqlite = ["tools/answers", "sqlite", EXAMPLE, ":memory:", "--answers", EXAMPLE + ".stdout", "4=pay"]
         self.check([*sqlite, "--last-day"], "", 1, "--last-day need --query, whose answers they print")
-        self.check([*sqlite, "--query", "select 1", "--german"], "", 1, "--german needs --decimals")
+        self.check([*sqlite, "--query", "select 1", "--german"], "", 1, "--german says how decimals are printed")
         query = ["--query", "select 1.0 * euros as mean, euros from pay", "--decimals"]
         self.check([*sqlite, *query, "mean=2"], "", 1, "--decimals mean: 4800.0 isn't a whole number")
         self.check([*sqlite, *query, "cents=2"], "", 1, "cents: not a column of numbers; those are mean, euros")
@@ -132,7 +132,7 @@ class Words(ToolCase):
                 self.check([*words, "--for-spreadsheet", "--german"], script, 0, wanted)
                 note = f"a spreadsheet would run {'2 fields, the first' if 'pay' in command else ''}"
                 self.check(words, script, 0, "" if command[0] == "overlaps" else note)
-                self.check([*words, "--german"], script, 1, "--german needs --for-spreadsheet or --decimals")
+                self.check([*words, "--german"], script, 1, "--german says how decimals are printed")
 
     def test_queries_print_money(self) -> None:
         sqlite = ["tools/answers", "sqlite", EXAMPLE, ":memory:", "--answers", EXAMPLE + ".stdout", "4=pay"]

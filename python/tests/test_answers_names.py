@@ -21,7 +21,7 @@ end,1
 
 
 class Names(ToolCase):
-    def test_a_name_that_is_taken_has_a_mark_behind_it_and_takes_no_other_s(self) -> None:
+    def test_a_repeated_name_gets_a_mark_and_stays_unique(self) -> None:
         with kept(SCRIPT) as script:
             self.check(
                 ["tools/answers", "csv", script, "3", "--answers", "-"], ANSWERS, 0,

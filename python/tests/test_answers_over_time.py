@@ -4,29 +4,19 @@ Names and texts are odd. The program answers if it is built.
 """
 import csv
 import io
-import os
 import sys
 import unittest
 from collections import defaultdict
 from datetime import date, timedelta
 from fractions import Fraction
-from pathlib import Path
 from typing import Any, Callable, DefaultDict, Dict, List, NamedTuple, Optional, Set, Tuple
 from unittest import mock
 
-from tests.support import EXAMPLE, NEEDS_PANDAS, TOP, ToolCase, kept, run
+from tests.by_hypothesis import drawn, given, needs_program, st
+from tests.support import EXAMPLE, NEEDS_PANDAS, ToolCase, kept, run
+from tests.test_answers_hostile import NAMES, TEXTS, is_run, printed
 
-try:
-    from hypothesis import given, settings
-    from hypothesis import strategies as st
-
-    from tests.test_answers_hostile import NAMES, TEXTS, is_run, printed
-except ModuleNotFoundError as error:
-    raise unittest.SkipTest("records that hypothesis draws") from error
-
-PROGRAM = Path(os.environ.get("DIPQ", TOP / "crates/dipq/out/dipq")).resolve()
-EXAMPLES = int(os.environ.get("TOOLS_EXAMPLES", "100"))
-DRAWN = settings(max_examples=EXAMPLES, deadline=None, database=None, derandomize=EXAMPLES <= 150)
+DRAWN = drawn(100)
 START = date(2023, 12, 28)
 DAYS = st.integers(0, 70).map(lambda days: START + timedelta(days))
 AMOUNTS = st.one_of(st.integers(1 - (1 << 63), (1 << 63) - 1), st.integers(-9, 9))
@@ -115,7 +105,7 @@ def differences(rows: List[Row], less: List[Row], each: str, per: str) -> Dict[P
 
 
 @NEEDS_PANDAS
-@unittest.skipUnless(PROGRAM.exists(), "a built program to answer records that hypothesis draws")
+@needs_program
 class OverTime(unittest.TestCase):
     @DRAWN
     @given(cases(), EACH, EACH)
@@ -268,7 +258,7 @@ class Words(ToolCase):
         self.check(months, script.format("", change), 0, note)
         self.assertNotIn("cut a row", run([*months[:4], "rows,t,asof,2", *months[5:]], script.format("", change))[2])
 
-    def test_sums_by_what_is_summed_have_its_decimals(self) -> None:
+    def test_sums_grouped_by_the_summed_column_have_its_decimals(self) -> None:
         script = "table,t,cents,int\nload,t\nrow,2024-01-01,2024-02-01,4800\nend\n"
         months = ["tools/answers", "months", "-", "--ask", "rows,t", "--by", "cents", "--sum", "cents", *MONTHLY]
         january = "valid_from,valid_to,cents,cents_\n2024-01-01,2024-02-01,48.00,"

@@ -9,13 +9,13 @@ import unittest
 from base64 import b64encode
 from hashlib import sha256
 from pathlib import Path
-from typing import Any, Dict, List
+from typing import Any, Dict, Iterator, List
 from unittest import mock
 
 from ruzgalt.script.answers import Answer
 from ruzgalt.cli import answers as answers_tool
 from ruzgalt.errors import Misfit
-from ruzgalt.cli import sources
+from ruzgalt.cli import given as sources
 from ruzgalt.report import contents, document
 from tests.support import PROGRAM, TOP, ToolCase, kept, run
 from tests.test_answers_scripts import SCRIPTS, found_in
@@ -63,7 +63,7 @@ def hostile() -> str:
 
 
 class Documents(unittest.TestCase):
-    def test_what_stands_round_the_data_is_the_same_for_each_script(self) -> None:
+    def test_the_page_around_the_data_is_the_same_for_each_script(self) -> None:
         round_data = {BLOCK.sub("", page) for page in (hostile(), example("pay"), example("payroll"))}
         self.assertEqual(len(round_data), 1)
 
@@ -94,7 +94,7 @@ class Documents(unittest.TestCase):
             with self.subTest(name):
                 self.assertNotRegex(document.read(name), r"(?i)</(script|style)|<!--|innerHTML|\{\{")
 
-    def test_the_same_script_gives_the_same_page_wherever_it_stands(self) -> None:
+    def test_the_same_script_gives_the_same_page_in_each_folder(self) -> None:
         script, found = (Path(TOP, "examples", name).read_bytes() for name in ("pay.csv", "pay.csv.stdout"))
         pages = set()
         for _ in range(2):
@@ -308,18 +308,15 @@ class Limits(unittest.TestCase):
             "of line 1504, rows,t: 500 of 1,500 records", "the 1,500 versions of t, and so what held on each day",
         ])
 
-    def test_many_questions_share_what_is_shown_at_once(self) -> None:
+    def test_many_questions_share_the_records_shown_at_once(self) -> None:
         script = "table,t\n" + "rows,t\n" * 1200
         data = data_of(page_of(script, "ok,1\n" + "end,0\n" * 1200))["data"]
         self.assertEqual((len(data["questions"]), data["questions"][0]["shown"]), (1000, 1000))
         self.assertEqual(data["leftOut"], ["200 questions after the first 1,000"])
         self.assertEqual(data["counts"]["questions"], 1200)
-        with mock.patch.object(contents, "AT_ONCE", 22):
-            [question, *others] = data_of(example("pay"))["data"]["questions"]
-            self.assertEqual(question["shown"], 1000)
-        with mock.patch.object(contents, "AT_ONCE", 10):
-            [question, *others] = data_of(example("pay"))["data"]["questions"]
-            self.assertEqual((question["shown"], len(others)), (2, 3))
+        for most, shown in ((22, 1000), (10, 2)):
+            with mock.patch.object(contents, "AT_ONCE", most):
+                self.assertEqual(data_of(example("pay"))["data"]["questions"][0]["shown"], shown)
 
     def test_all_findings_are_counted(self) -> None:
         script = "rows,t\n" * 3 + "table,t,a,int\n" + f"delete,t,{TIME}\n" * 3 + "load,t\nend\n"
@@ -329,44 +326,41 @@ class Limits(unittest.TestCase):
         self.assertEqual([len(data[what]) for what in ("refused", "idle", "doubtful")], [1, 1, 0])
         self.assertEqual(data["counts"], {"refused": 3, "idle": 4, "doubtful": 0, "questions": 0})
 
-    def test_what_is_shown_at_once_is_there_without_room(self) -> None:
-        with mock.patch.object(contents, "ROOM", 0):
-            data = data_of(example("pay"))
-        left_out = ["the 4 versions of pay, and so what held on each day"]
-        self.assertEqual((len(data["records-6"]), data["data"]["leftOut"]), (4, left_out))
-
-    def test_many_pictures_are_cut(self) -> None:
-        with mock.patch.object(contents, "PICTURES", 1):
-            data = data_of(example("audit"))["data"]
-        self.assertEqual(sum(question["picture"] is not None for question in data["questions"]), 1)
-        self.assertIn("the page has", data["questions"][-1]["noPicture"])
-
-    def test_many_commits_are_cut(self) -> None:
-        with mock.patch.object(contents, "COMMITS", 2):
-            data = data_of(example("pay"))["data"]
-        self.assertEqual((len(data["commits"]), data["newest"]), (2, 3))
-        self.assertEqual(data["leftOut"], ["1 commits after the first 2"])
-
-    def test_a_picture_of_many_records_is_left_to_the_tool(self) -> None:
-        with mock.patch.object(contents, "MOST", 1):
-            [question, *_] = data_of(example("pay"))["data"]["questions"]
-        self.assertIn("2 records are more than 1", question["noPicture"])
-
-    def test_a_picture_has_no_element_that_could_do_anything(self) -> None:
-        for text, tree in [
-            ("<svg><script>x</script><g/></svg>", ["svg", {}, ["g", {}]]), ("<svg onload='x'/>", ["svg", {}]),
-            ("<svg><rect x='1' fill='url(//a)'/></svg>", ["svg", {}, ["rect", {"x": "1"}]]),
-            ("<svg><rect id='a' fill='url(#b)'/></svg>", ["svg", {}, ["rect", {"id": "p4-a", "fill": "url(#p4-b)"}]]),
+    def test_the_page_says_what_it_has_no_room_for(self) -> None:
+        no_versions = ["the 4 versions of pay, and so what held on each day"]
+        for limit, most, script, left_out, why in [
+            ("ROOM", 0, "pay", no_versions, None), ("COMMITS", 2, "pay", ["1 commits after the first 2"], None),
+            ("PICTURES", 1, "audit", [], "the page has"), ("MOST", 1, "pay", [], "records are more than 1"),
         ]:
-            with self.subTest(text), mock.patch("ruzgalt.report.svg.draw", return_value=text):
-                [question, *_] = data_of(example("pay"))["data"]["questions"]
-                self.assertEqual(question["picture"], tree)
+            with self.subTest(limit), mock.patch.object(contents, limit, most):
+                data = data_of(example(script))["data"]
+                self.assertEqual(data["leftOut"], left_out)
+                self.assertEqual(any(why in one["noPicture"] for one in data["questions"]) if why else True, True)
+        with mock.patch.object(contents, "ROOM", 0):
+            self.assertEqual(len(data_of(example("pay"))["records-6"]), 4)
+
+    def test_a_picture_has_only_shapes_and_texts(self) -> None:
+        kinds = {"svg", "g", "defs", "pattern", "title", "text", "line", "rect", "polygon"}
+        for page in (hostile(), example("audit"), example("payroll")):
+            trees = [one["picture"] for one in data_of(page)["data"]["questions"] if one["picture"]]
+            elements = [one for tree in trees for one in elements_of(tree)]
+            self.assertEqual({name for name, *_ in elements} - kinds, set())
+            words = {f"{key}={value}" for _, attributes, *_ in elements for key, value in attributes.items()}
+            self.assertEqual([one for one in words if re.search(r"^(on|style|href)|:|url\((?!#p\d+-)", one)], [])
+        ids = [one[1]["id"] for one in elements if "id" in one[1]]
+        self.assertTrue(all(re.fullmatch(r"p\d+-stripes\d+", one) for one in ids))
+
+
+def elements_of(tree: List[Any]) -> Iterator[List[Any]]:
+    yield tree
+    for one in tree[2:]:
+        yield from elements_of(one) if isinstance(one, list) else ()
 
 
 class Programs(unittest.TestCase):
     def sources(self, script: str, *ask: str) -> contents.Sources:
         with kept(script) as name:
-            return sources.ask(answers_tool.options_of("page", [name, "--go-on", *(f"--ask={one}" for one in ask)]))
+            return sources.sources(answers_tool.options_of("page", [name, "--go-on", *(f"--ask={one}" for one in ask)]))
 
     def versions(self, script: str, *ask: str) -> Dict[str, List[str]]:
         """The versions that a page has of each table, as records."""
@@ -398,7 +392,7 @@ class Programs(unittest.TestCase):
         self.assertEqual((status, printed), (1, ""))
         self.assertIn("it was run again on the same script, and printed other answers: name it by DIPQ", said)
 
-    def test_the_program_that_a_command_runs_is_shown_beside_it(self) -> None:
+    def test_the_program_that_a_command_runs_is_shown_next_to_it(self) -> None:
         with tempfile.TemporaryDirectory() as folder:
             files = [Path(folder, "dipq"), Path(folder, sources.PROGRAMS[0])]
             for file in files:

@@ -148,7 +148,7 @@ class Grids(BrowserCase):
         self.value(f"{button}.click(), {button}.click()")
         self.assertEqual([int(row[4]) - 10 ** 18 for row in self.cells("#questions")], list(range(11, -1, -1)))
 
-    def test_empty_fields_stand_before_numbers(self) -> None:
+    def test_empty_fields_come_before_numbers(self) -> None:
         page = example("pay")
         self.open(page)
         numbers = [question["number"] for question in data_of(page)["data"]["questions"]]
@@ -157,7 +157,7 @@ class Grids(BrowserCase):
             self.value(f"{grid}.querySelectorAll('th button')[4].click()")
             self.assertEqual([row[4] for row in self.cells("#questions", numbers.index(6))], wanted)
 
-    def test_what_is_typed_filters(self) -> None:
+    def test_typed_text_filters(self) -> None:
         self.open(example("payroll"))
         search = GRID.format("#questions", 0) + ".querySelector('input')"
         self.value(f"{search}.focus()")
@@ -190,7 +190,7 @@ class Grids(BrowserCase):
         text, name = self.value("Promise.all(saved)")
         self.assertEqual((text.count("\n"), name), (1501, "3-rows.csv"))
 
-    def test_what_is_saved_is_what_the_tool_prints(self) -> None:
+    def test_saved_files_equal_the_tool_s_output(self) -> None:
         for name in (*EXAMPLES, "insurance"):
             script = f"examples/{name}.csv"
             page = example(name)
@@ -204,7 +204,7 @@ class Grids(BrowserCase):
                     words = [script, str(question["number"]), "--answers", f"{script}.stdout", "--go-on"]
                     self.assertEqual(text, run(["tools/answers", "csv", *words])[1])
 
-    def test_what_is_saved_for_a_spreadsheet_is_what_the_tool_prints_for_one(self) -> None:
+    def test_files_saved_for_a_spreadsheet_equal_the_tool_s_output(self) -> None:
         texts = ["=1+1", "-5", "-5.5", "-5-1", "+49", "@x;y", "a;b", "\ty", "\uff1d1", "Jos\u00e9"]
         loaded = "".join(f"row,{TIME},{text},-5\n" for text in texts)
         rows = "".join(f"row,{number},{TIME},{text},-5\n" for number, text in enumerate(texts, 1))
@@ -342,7 +342,7 @@ class Times(BrowserCase):
             found = self.value(f"{parts}.map((one) => one.textContent)")
             self.assertEqual([one for one in found if "said both" not in one], wanted)
 
-    def test_rows_that_are_cut_alone_are_no_differences(self) -> None:
+    def test_rows_that_are_only_cut_are_no_differences(self) -> None:
         rows = "table,t,n,int\nload,t\nrow,2024-01-01,2024-05-01,1\nend\nupdate,t,2024-02-01,2024-03-01,set,n,2\n"
         then = "row,1,2024-01-01,2024-05-01,1\nend,1\n"
         now = "row,2,2024-01-01,2024-02-01,1\nrow,3,2024-02-01,2024-03-01,2\nrow,4,2024-03-01,2024-05-01,1\nend,3\n"
@@ -366,7 +366,7 @@ class Shown(BrowserCase):
         script = f"table,t,cents,int\nload,t\n{rows}end\nrows,t\n"
         self.open(page_of(script, f"ok,1\nok,2\n{answered}", "--decimals", "cents=2", "--last-day", *words))
 
-    def test_amounts_and_last_days_stand_in_all_tables(self) -> None:
+    def test_amounts_and_last_days_are_in_all_tables(self) -> None:
         self.of()
         wanted = [["1", "2024-01-01", "2024-02-29", "12,345.67"], ["2", "2024-03-01", "9999-12-31", "-0.05"]]
         self.assertEqual(self.cells("#questions"), wanted)
@@ -381,7 +381,7 @@ class Shown(BrowserCase):
         self.of("--german")
         self.assertEqual([row[3] for row in self.cells("#questions")], ["12.345,67", "-0,05"])
 
-    def test_what_is_saved_is_exact_or_for_a_spreadsheet(self) -> None:
+    def test_saved_files_are_exact_or_for_a_spreadsheet(self) -> None:
         self.of("--german")
         grid = "blockOf('records-3'), data.questions[0].columns"
         saved = "((records, columns) => FORMS.map((form) => csvOf(columns, records, form)))"
@@ -394,7 +394,7 @@ class Shown(BrowserCase):
         german = made[1].replace(",", ";").replace(".", ",")
         self.assertEqual(made[2], german)
 
-    def test_a_title_and_a_note_stand_above_all(self) -> None:
+    def test_a_title_and_a_note_come_first(self) -> None:
         self.of("--title", "<i>May</i>", "--note", "One\n\nTwo", "3=all")
         self.assertEqual(self.value("[document.title, document.querySelector('h1').textContent]"), ["<i>May</i>"] * 2)
         notes = self.value("[...document.querySelectorAll('header p.note')].map((one) => one.textContent)")
@@ -407,7 +407,7 @@ class Looks(BrowserCase):
         if "PICTURES" in os.environ:
             Path(os.environ["PICTURES"], name).write_bytes(data)
 
-    def test_nothing_stands_past_the_edge_wide_or_narrow_light_or_dark(self) -> None:
+    def test_nothing_passes_the_edge_wide_or_narrow_light_or_dark(self) -> None:
         for name in EXAMPLES:
             self.open(example(name))
             for width in (1280, 400):
@@ -419,7 +419,7 @@ class Looks(BrowserCase):
                         self.keep(f"{name}-{width}-{scheme}.png", self.browser.picture())
             self.browser.show(1280, "light")
 
-    def test_it_is_printed_on_a4_without_what_is_pressed(self) -> None:
+    def test_it_is_printed_on_a4_without_buttons(self) -> None:
         for name in EXAMPLES:
             with self.subTest(name):
                 self.open(example(name))

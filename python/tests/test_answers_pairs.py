@@ -1,20 +1,13 @@
 """Which records of two answers to one question differ, compared with counts for each day; and verdicts in sentences."""
-import os
 import unittest
 from collections import Counter
 from typing import Counter as Counts, List, Tuple
 
 from ruzgalt.script import answers
 from ruzgalt.report import contents
+from tests.by_hypothesis import drawn, given, st
 
-try:
-    from hypothesis import given, settings
-    from hypothesis import strategies as st
-except ModuleNotFoundError as error:
-    raise unittest.SkipTest("records that hypothesis draws") from error
-
-EXAMPLES = int(os.environ.get("TOOLS_EXAMPLES", "200"))
-DRAWN = settings(max_examples=EXAMPLES, deadline=None, database=None, derandomize=EXAMPLES <= 200)
+DRAWN = drawn(200)
 Row = Tuple[int, int, str]
 ROWS = st.lists(
     st.tuples(st.integers(1, 20), st.integers(1, 8), st.sampled_from(["a", "b", '"'])).map(
@@ -30,8 +23,8 @@ def script_of(then: List[Row], now: List[Row]) -> Tuple[str, str]:
 
     def listed(rows: List[Row], first: int) -> str:
         lines = (
-            f"row,{first + place},2024-01-{start:02},2024-01-{end:02},{quoted(text)}\n"
-            for place, (start, end, text) in enumerate(rows)
+            f"row,{first + index},2024-01-{start:02},2024-01-{end:02},{quoted(text)}\n"
+            for index, (start, end, text) in enumerate(rows)
         )
         return "".join([*lines, f"end,{len(rows)}\n"])
 

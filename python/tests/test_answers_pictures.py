@@ -108,7 +108,7 @@ class Labels(unittest.TestCase):
                 self.assertIn(f">{lane}</text>", drawn)
                 self.assertEqual(bars_of(drawn), ["A 5"])
 
-    def test_a_day_has_its_label_beside_it(self) -> None:
+    def test_a_day_has_its_label_next_to_it(self) -> None:
         rows = ["2024-01-01,2024-01-02,A,5", "2024-12-31,2025-01-01,A,6", "2024-01-01,2025-01-01,B,7"]
         drawn = picture(*rows_of(rows))
         [first, last] = re.findall(r'<text x="([0-9.]+)"[^>]*>[56]</text>', drawn)
@@ -136,7 +136,7 @@ class Sums(unittest.TestCase):
         for text in ("A", "B", "100,000", "123,450", "5,000"):
             self.assertIn(f">{text}</text>", drawn)
 
-    def test_a_group_s_name_stands_in_one_line(self) -> None:
+    def test_a_group_s_name_is_in_one_line(self) -> None:
         script, answered = rows_of(['2024-01-01,2024-02-01,"A\n9 ####",5'])
         sums = 'row,"A\n9 ####",2024-01-01,2024-02-01,5\nend,1\n'
         drawn = picture(f"{script}agg,t,sum,cents,by,flat\n", answered + sums)
@@ -216,7 +216,7 @@ class Limits(unittest.TestCase):
 
 
 class Documents(unittest.TestCase):
-    def test_the_pictures_of_docs_are_what_is_drawn_of_the_answers(self) -> None:
+    def test_the_pictures_of_docs_are_drawn_from_the_answers(self) -> None:
         with tempfile.TemporaryDirectory() as folder:
             subprocess.run([str(TOP / "tools" / "draw-pictures"), folder], check=True)
             drawn = {file.name: file.read_bytes() for file in Path(folder).iterdir()}
@@ -224,7 +224,7 @@ class Documents(unittest.TestCase):
         self.assertEqual(drawn, {file.name: file.read_bytes() for file in (TOP / "docs").glob("*.svg")})
         # The photograph carries the checksum of the page that it was taken of, whichever program answered.
         marked = sha256(re.sub(rb'"files":\[.*?\],', b"", page)).hexdigest().encode()
-        self.assertIn(marked, (TOP / "docs" / "audit-page.png").read_bytes())
+        self.assertTrue(marked in (TOP / "docs" / "audit-page.png").read_bytes(), "tools/draw-pictures docs makes it")
 
 
 if __name__ == "__main__":

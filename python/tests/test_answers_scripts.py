@@ -8,14 +8,11 @@ import xml.etree.ElementTree
 from pathlib import Path
 from typing import Iterator, List, Tuple
 
-from ruzgalt.script import answers
-from ruzgalt.report import databases, export, picks
+from ruzgalt.errors import Misfit
+from ruzgalt.report import databases, export, figures, picks, svg
+from ruzgalt.script import answers, commands, overlaps, records, refusals
 from ruzgalt.script.answers import Answer
 from ruzgalt.script.run import Past
-from ruzgalt.script import overlaps, refusals
-from ruzgalt.errors import Misfit
-from ruzgalt.report import figures, svg
-from ruzgalt.script import commands, reader, records
 from tests.support import PROGRAM, TOP
 
 SCRIPTS = sorted([*TOP.glob("examples/*.csv"), *TOP.glob("tests/**/*.csv")])
@@ -41,14 +38,14 @@ def found_in(script: Path) -> List[Answer]:
 
 
 def past_of(script: Path) -> Past:
-    source = reader.Source(script.read_bytes())
+    source = records.Source(script.read_bytes())
     begun = list(commands.commands(source))
     return Past(str(PROGRAM), source, output_of(script), begun, found_in(script))
 
 
 def damaged(output: bytes) -> Iterator[Tuple[int, bytes]]:
     """The output with a record too few, or one twice."""
-    kept = [list(record.fields) for record in reader.Reader(reader.Source(output))]
+    kept = [list(record.fields) for record in records.Reader(records.Source(output))]
     for place in range(min(len(kept), DAMAGED)):
         for wrong in (kept[:place] + kept[place + 1:], kept[:place] + kept[place:place + 1] + kept[place:]):
             yield place + 1, records.encode(records.to_text(wrong))

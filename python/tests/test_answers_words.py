@@ -1,12 +1,15 @@
 """The words of tools/answers, with the scripts of examples/ and others, and with answers that are given here."""
 import os
+import re
 import tempfile
 import unittest
 from pathlib import Path
 from unittest import mock
 
+from ruzgalt.cli import answers as answers_tool
+from ruzgalt.cli.options import OPTIONS
 from ruzgalt.script.records import to_text
-from tests.support import EXAMPLE, TOP, ToolCase, kept, run
+from tests.support import EXAMPLE, NEEDS_PANDAS, TOP, ToolCase, kept, run
 
 
 class Reading(ToolCase):
@@ -58,7 +61,7 @@ class Reading(ToolCase):
             ("euros=4.800", "not a whole number in digits only"), ("valid_to=2025-1-1", "not a date or time as it "),
         ]:
             self.check([*pay, "4", "--where", value], "", 1, f"answers: --where {value}: {wrong}")
-        self.check([*pay, "4", "--german"], "", 1, "answers: --german needs --decimals: only")
+        self.check([*pay, "4", "--german"], "", 1, "answers: --german says how decimals are printed, so give --dec")
         self.check([*pay, "4", "--german", "--decimals", "euros=2"], "", 0, ">54,00</text>")
         drawn = ">Byron, Ada 5400</text>"
         self.check([*pay, "6", "--where", "sys_to=", "--where", "euros=5400"], "", 0, drawn)
@@ -79,7 +82,7 @@ class Reading(ToolCase):
 
 
 class Options(ToolCase):
-    def test_an_option_of_one_value_stands_once(self) -> None:
+    def test_an_option_of_one_value_is_given_once(self) -> None:
         given = ["--answers", EXAMPLE + ".stdout"]
         for tool, option, value in [
             ("csv", "--folder", "a"), ("csv", "--answers", "a"), ("history pay", "--commit", "2"),
@@ -102,17 +105,54 @@ class Options(ToolCase):
 
 class Helps(ToolCase):
     def test_help_begins_with_an_example_and_has_the_first_options(self) -> None:
-        for words, first, other in (
-            (["tools/csv-to-load"], "--last-day", "--plain-spaces"),
-            (["tools/answers", "months"], "--ask", "--no-zeros"),
-        ):
+        for words in (["tools/csv-to-load"], *(["tools/answers", name] for name in answers_tool.TOOLS)):
             _, printed, _ = run([*words, "--help"])
-            self.assertTrue(printed.startswith(f"For example:\n\n    {' '.join(words)} pay"), printed)
-            options = {line.split()[0] for line in printed.split("\n") if line.startswith("  --")}
-            self.assertEqual((first in options, len(options), other in printed), (True, 6, False), printed)
-            self.assertIn("\n--help-all lists ", printed)
-            _, printed, _ = run([*words, "--help-all"])
-            self.assertIn(f"\n  {other}", printed)
+            _, whole, _ = run([*words, "--help-all"])
+            with self.subTest(words):
+                self.assertTrue(printed.startswith(f"For example:\n\n    {' '.join(words)} "), printed)
+                shown, there = (re.findall("^  (--[a-z-]+)", text, re.MULTILINE) for text in (printed, whole))
+                count = min(len(there), OPTIONS)
+                self.assertEqual((len(shown), set(shown) <= set(there)), (count, True), printed)
+                self.assertEqual("--help-all lists " in printed, len(there) > count)
+
+
+STAFF = """table,pay,person,text,cents,int,key,person
+load,pay
+row,2024-01-01,9999-12-31,Ada,500000
+row,2024-01-15,2025-01-01,Bob,300001
+end
+rows,pay
+"""
+
+
+class Mistakes(ToolCase):
+    """What a new user gets wrong is refused or noted, with what to write instead."""
+
+    def test_nothing_is_advised_that_was_given_or_does_not_help(self) -> None:
+        german = "--german says how decimals are printed, so give --decimals COLUMN=DIGITS"
+        for words, given, part, other in (
+            ("csv - --ask at,pay,31.12.2024 --german", STAFF, german, "needs"),
+            ("csv - --ask at,pay,31.12.2024", STAFF, "isn't a date or time, such as 2024-01-05", "--go-on"),
+            ("csv - --ask at,pay,31.12.2024 --go-on", STAFF, "isn't a date or time, such as 2024-01-05", "--go-on"),
+            ("csv -", f"{STAFF}at,pay,x\n", "--go-on goes on", "--ask"),
+            ("csv - rows,pay", STAFF, "that is a question, not an answer of the script: --ask rows,pay asks it", "@"),
+            ("changed - --ask rows,pay,asof,2", STAFF, "1 answer given, but it takes 2: give one more", "`ok`"),
+            ("csv - --ask agg,pay,sum,zz", STAFF, "zz, isn't a column of pay; its columns are person, cents", "docs/"),
+        ):
+            self.check(["tools/answers", *words.split()], given, 1, part)
+            self.assertNotIn(other, run(["tools/answers", *words.split()], given)[2])
+        self.check(["tools/answers", "csv", "-", "--ask", "rows pay"], STAFF, 1, "separate fields by commas")
+        self.check(["tools/answers", "xlsx", "-", "rows,pay"], STAFF, 2, "rows,pay: not the name of a workbook")
+
+    @NEEDS_PANDAS
+    def test_the_last_day_of_a_month_is_counted_or_reported(self) -> None:
+        months = ["tools/answers", "months", "-", "--sum", "cents", "--per", "month", "--from", "2024-12-01", "--to"]
+        note = "--to 2024-12-31: that day isn't counted; --to 2025-01-01, or --last-day, counts it"
+        self.check([*months, "2024-12-31"], STAFF, 0, note)
+        for more in (["2024-12-31", "--last-day"], ["2025-01-01"], ["2024-12-20"]):
+            status, printed, said = run([*months, *more], STAFF)
+            self.assertEqual((status, "isn't counted" in said), (0, False), said)
+            self.assertTrue(more[0] > "2024-12-31" or f"2024-12-01,{more[0]}," in printed, printed)
 
 
 class Questions(ToolCase):
@@ -173,7 +213,7 @@ class Sqlite(ToolCase):
         self.check([*words, "5=pay", *given], "", 1, "answers: 5=pay: the DATABASE is missing")
         self.check([*words, ":memory:", "5=pay", "6=PAY", *given], "", 1, "give each its own, such as 6=PAY_6\n")
 
-    def test_what_is_in_a_database_isn_t_lost(self) -> None:
+    def test_the_contents_of_a_database_aren_t_lost(self) -> None:
         given = ["--answers", EXAMPLE + ".stdout"]
         words = ["tools/answers", "sqlite", EXAMPLE]
         with tempfile.TemporaryDirectory() as folder:
@@ -189,7 +229,7 @@ class Sqlite(ToolCase):
             self.check([*words, file, "4=few", *given, "--replace"], "", 1, "answers: use DROP VIEW to delete view few")
             self.check([*words, file, "5=a", *given, "--query", "select count(*) from few"], "", 0, "count(*)\n1\n")
 
-    def test_what_is_wrong_with_queries_is_reported(self) -> None:
+    def test_wrong_queries_are_reported(self) -> None:
         given = ["--answers", EXAMPLE + ".stdout"]
         words = ["tools/answers", "sqlite", EXAMPLE]
         for query, status, part in [
@@ -291,7 +331,7 @@ class Folders(ToolCase):
         wrong = f"answers: --less a=rows,pay,asof,2: {self.ONLY} rows,pay,asof,2\n"
         self.check([*less, "--answers", EXAMPLE + ".stdout"], "", 1, wrong)
 
-    def test_a_name_is_refused_of_what_is_no_question_or_has_one(self) -> None:
+    def test_only_questions_without_a_name_take_one(self) -> None:
         with kept("table,t\n") as name, kept("ok,1\nok,2\nend,0\n") as answers:
             for tool in ("json", "sqlite :memory:", "page"):
                 command, *more = tool.split()
@@ -333,7 +373,7 @@ class Spreadsheets(ToolCase):
                     status, printed, said = run(["tools/answers", "csv", name, "--answers", answers, *words.split()])
                     self.assertEqual((status, printed, said[:len(one[1])]), (0, *one))
                     self.assertEqual("spreadsheet" in said, bool(one[1]))
-            self.check(["tools/answers", "csv", name, "--german"], "", 1, "answers: --german needs --for-spreadsheet")
+            self.check(["tools/answers", "csv", name, "--german"], "", 1, "--german says how decimals are printed")
 
     def test_a_number_in_quotes_is_one_up_to_its_end(self) -> None:
         said = "answers: a spreadsheet would run a field, -2,x: --for-spreadsheet prevents it\n"
@@ -346,7 +386,7 @@ class Spreadsheets(ToolCase):
 
 
 class Asked(ToolCase):
-    def test_a_question_is_taken_beside_what_is_picked(self) -> None:
+    def test_a_question_is_taken_with_picked_answers(self) -> None:
         rows = "row,1,2024-01-01,2024-02-01,5\nend,1\n"
         output = f"ok,1\nok,2\ndip,1,1,2024-01-01\npart,0,1\n{rows}"
         with kept("table,t,a,int\nload,t\nrow,2024-01-01,2024-02-01,5\nend\ndip,t\n") as name, kept(output) as answers:
@@ -393,7 +433,7 @@ class Asked(ToolCase):
 
 
 class Reported(ToolCase):
-    def test_what_is_made_of_answers_to_a_table_of_numbers(self) -> None:
+    def test_tools_on_answers_about_a_table_of_numbers(self) -> None:
         january, february = "row,2024-01-01,2024-02-01,{}\n", "row,2024-02-01,2024-03-01,{}\n"
         half, row, end = 1 << 62, "row,1,2024-01-01,2024-02-01,5\nend,1\n", "end,0\n"
         two = january.format(-2) + february.format(2)

@@ -8,7 +8,7 @@ from tests.support import TOP
 
 PACKAGE = TOP / "python" / "ruzgalt"
 # Modules at the top come first. Frames and stores need pandas, and import from all of these.
-ORDER = ["", "kernel", "periods", "script", "lint", "load", "report", "cli"]
+ORDER = ["", "kernel", "script", "lint", "load", "report", "cli"]
 
 
 def modules() -> Iterator[Path]:

@@ -3,11 +3,9 @@ import re
 import unittest
 from unittest import mock
 
-from ruzgalt.script import answers
-from ruzgalt.report import picks
-from ruzgalt.script import refusals
-from ruzgalt.report import figures
-from ruzgalt.script.language import COMMANDS, Answered, Form, Role
+from ruzgalt.report import figures, picks
+from ruzgalt.script import answers, refusals
+from ruzgalt.script.commands import COMMANDS, Answered, Form, Role
 from tests.support import TOP
 
 HOLDING = Form("holding,T,POINT[,asof,N]", Answered.ROWS, more=(Role.POINT,))
@@ -16,8 +14,8 @@ DECIDING = (
     "checking/again.py", "checking/fitting.py", "checking/replay.py", "answers/calendar.py", "periods/spans.py",
     "periods/amounts.py", "frames/standing.py", "frames/batches.py", "frames/unmeant.py", "store/batches.py",
 )
-# Modules of a store that do its changes and know its commits; without arrays they can't look at rows.
-SENDING = ("live", "script", "store")
+# The module with the calls of a store. It has no arrays, so it can't read rows.
+SENDING = ("store",)
 SCRIPT = b"""table,t,k,text
 load,t
 row,2024-01-01,2024-02-01,a
@@ -44,7 +42,7 @@ class Language(unittest.TestCase):
         self.assertEqual([name for name in DECIDING if (package / name).exists()], [])
         texts = {file.stem: file.read_text(encoding="utf-8") for file in package.joinpath("store").glob("*.py")}
         self.assertEqual([name for name in SENDING if "numpy" in texts[name]], [])
-        # The program finds the rows because of which a key refuses a change.
+        # Only the program finds the rows that make a key refuse a change.
         self.assertEqual([name for name, text in texts.items() if 'Refused("KeyOverlap"' in text], ["state"])
         self.assertIn("Live(", texts["state"])
 

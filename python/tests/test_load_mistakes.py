@@ -6,7 +6,7 @@ from typing import List, Tuple, Union
 from unittest import mock
 
 from ruzgalt.cli import load as load_tool
-from tests.support import Stream, run
+from tests.support import Stream, kept, run
 from tests.test_load import HEADER, WORDS, Case, load, rows
 
 CENTS = [*WORDS, "--decimals", "Pay=2"]
@@ -40,14 +40,14 @@ class Refused(Case):
         for number, part in [
             ("5 k", "leave out the text around it"), ("5 Mio.", "has only 5"), ("5 CR", "has only 5"),
             ("1.2E3", "its digits are rounded off"), ("+5", "leave out the +"), ("1/2", "not a number"),
-            ("٥", "not a number"), ("５", "not a number"), ("", "not a number"), ("-", "not a number"),
+            ("٥", "not a number"), ("５", "not a number"), ("", "no number is given"), ("-", "not a number"),
             ("--5", "not a number"),
             ("4800.5000000001", "more than 2 decimals"), ("TRUE", "not a number"), ("5O", "not a number"),
         ]:
             with self.subTest(number):
                 self.refused(part, rows(f"A,{number},{PERIOD}"), *CENTS)
 
-    def test_a_number_with_zeros_in_front_is_offered_no_decimals(self) -> None:
+    def test_a_number_with_leading_zeros_is_offered_no_decimals(self) -> None:
         table = [*WORDS, "--table", "table,pay,name,text,pay,int"]
         for number, digits in (("05", 0), ("00", 0), ("5,5", 2)):
             self.refused(f"such as 5000; --decimals Pay={digits} makes", rows(f'A,"{number}",{PERIOD}'), *table)
@@ -103,6 +103,53 @@ class Files(Case):
             file.flush()
             wanted = (0, f"load,pay\nrow,{PERIOD},A,1\nend\n", "")
             self.assertEqual(run(["tools/csv-to-load", *WORDS, file.name]), wanted)
+
+    def test_a_number_without_its_currency_and_a_unit_in_a_name_are_reported(self) -> None:
+        for other in ("7", "7.50", "0.500"):
+            text = rows(f"A,5.50 EUR,{PERIOD}", f"B,{other},{PERIOD}")
+            _, said = load(text, *CENTS, "--bare", "whole", "--decimal-mark", ".")
+            self.assertEqual(said, [f"Pay: the currency EUR was left out of its numbers, but '{other}' has none"])
+        for name in ("Pay (TEUR)", "Pay in T\u20ac", "Pay in Tsd.", "Raise %", "Pay, thousands of EUR"):
+            text, words = f'Name,"{name}",Start,End\nA,5,{PERIOD}\n', ["pay", "Start", "End", "Name", f"pay={name}"]
+            self.noted("and its numbers are loaded as they are", text, *words)
+        for words in (CENTS, [*WORDS, "--table", "table,pay,name,text,pay,int"]):
+            self.refused("Pay is '': no number is given; write 0 if it is 0", rows(f"A,,{PERIOD}"), *words)
+
+    def test_rows_may_start_on_the_day_after_a_last_day(self) -> None:
+        text = "Name,Letzter Tag\nA,2024-02-29\nB,31.12.2024\n"
+        words = ["pay", "Letzter Tag", "9999-12-31", "name=Name"]
+        wanted = "delete,pay,{},9999-12-31,where,name,{}\n"
+        made = wanted.format("2024-03-01", "A") + wanted.format("2025-01-01", "B")
+        self.loaded(made, text, *words, "--delete", "--german", "--day-after")
+        part = "Letzter Tag: its name says that it is a last day, and here it is where rows start; use --day-after if"
+        self.refused(part, text, *words, "--delete", "--german")
+        self.refused("not in the header: End", text, *words[:2], "End", "name=Name", "--delete", "--day-after")
+        self.refused("a last day has no time", text.replace("29", "29T08:00:00"), *words, "--german", "--day-after")
+        late = "Name,Last,End\nA,2024-02-29,2024-03-01\n"
+        part = "line 2: Last, 2024-03-01, the day after the last one there, isn't before End, 2024-03-01"
+        self.refused(part, late, "pay", "Last", "End", "Name", "--day-after")
+
+    def test_a_day_makes_the_diary_s_entry(self) -> None:
+        script, update = "table,pay,name,text,pay,int,key,name\ntable,diary,newest,int\n", "--update name".split()
+        cases: List[Tuple[str, List[str], str]] = [
+            ("", [], "load,diary\nrow,2024-07-25,9999-12-31,3\nend\n"),
+            ("load,diary\nend\nrows,diary\nx\n", [], ",4\nend\n"),
+            ("load,diary\nrow,2024-01-01,9999-12-31,2\nend\n", [], "update,diary,2024-07-25,9999-12-31,set,newest,4\n"),
+            ("load,diary\nrow,2024-07-25,9999-12-31,2\nend\n", update, ",set,newest,5\n"),
+            ("load,diary\nrow,2024-08-01,9999-12-31,2\nend\n", [], "a later entry already, from 2024-08-01 on"),
+            (f"load,pay\nrow,{PERIOD},A,1\nend\n", [], "--day: after the script of --table, line "),
+        ]
+        for more, words, entry in cases:
+            with self.subTest(more=more, words=words), kept(script + more) as file:
+                text = rows(f"A,1,{PERIOD}", f"B,2,{PERIOD}")
+                made, said = load(text, *WORDS, *words, "--table", file, "--day", "2024-07-25")
+                self.assertTrue((made or said[0]).endswith(entry) or entry in said[0], (made, said))
+        table = ["--table", "table,pay,name,text,pay,int"]
+        self.refused("--day needs --table SCRIPT", rows(f"A,1,{PERIOD}"), *WORDS, *table, "--day", "2024-07-25")
+        self.refused("--day x: not a day such as 2024-07-25", rows(f"A,1,{PERIOD}"), *WORDS, *table, "--day", "x")
+        with kept(script + "table,notes,newest,int,who,text\n") as file:
+            for name, part in (("notes", "notes isn't a diary of one column"), ("none", "NoTable")):
+                self.refused(part, rows(f"A,1,{PERIOD}"), *WORDS, "--table", file, "--day", f"{name}=2024-07-25")
 
     def test_a_forgotten_column_is_named(self) -> None:
         part = "FROM and TO are columns too, and person=Name isn't: did you forget one?"

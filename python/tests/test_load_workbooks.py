@@ -11,6 +11,7 @@ from pathlib import Path
 from typing import Any, Dict, List, NamedTuple, Sequence
 from unittest import mock
 
+from ruzgalt.load import workbooks
 from tests.support import ToolCase, run
 
 try:
@@ -56,6 +57,10 @@ ROWS = st.lists(st.builds(
 ), max_size=5)
 
 
+# The codes of formats that a workbook has by their number alone.
+CODES = {10: "0.00%"}
+
+
 def workbook(sheets: Dict[str, Sequence[Sequence[Any]]]) -> bytes:
     openpyxl: Any = importlib.import_module("openpyxl")
     book = openpyxl.Workbook()
@@ -63,8 +68,11 @@ def workbook(sheets: Dict[str, Sequence[Sequence[Any]]]) -> bytes:
     for name, rows in sheets.items():
         sheet = book.create_sheet(name)
         for number, row in enumerate(rows, 1):
-            for place, value in enumerate(row, 1):
+            for place, one in enumerate(row, 1):
+                value, code = one if isinstance(one, Styled) else (one, None)
                 cell = sheet.cell(number, place, value)
+                if code is not None:
+                    cell.number_format = CODES[code] if code in CODES else code
                 # A text is one, whatever it begins with.
                 cell.data_type = "s" if isinstance(value, str) and not value.startswith("=SUM") else cell.data_type
     data = io.BytesIO()
@@ -92,11 +100,19 @@ def loaded(data: bytes, words: List[str]) -> Any:
         return run([*LOADS, *words, "--file", str(file)])
 
 
+class Styled(NamedTuple):
+    """A value with a format."""
+
+    value: Any
+    code: Any
+
+
+PERIOD = [date(2024, 1, 1), date(2024, 2, 1)]
 HEADER = ["From", "To", "Text", "Whole", "Cents"]
 VALUES = ["Text", "Whole", "Cents", "--decimals", "Cents=2"]
 
 
-@unittest.skipUnless(importlib.util.find_spec("openpyxl"), "openpyxl, which reads workbooks")
+@unittest.skipUnless(importlib.util.find_spec("openpyxl"), "openpyxl, which writes workbooks")
 class Workbooks(ToolCase):
     @DRAWN
     @given(ROWS, st.sampled_from([[], ["--german"], ["--decimal-mark", ","]]), st.integers(0, 2))
@@ -141,7 +157,7 @@ class Workbooks(ToolCase):
         rows: List[List[Any]] = [["From", "To", "N"], [date(2024, 1, 1), date(2024, 2, 1), "=SUM(1,2)"]]
         status, text, said = loaded(computed(workbook({"A": rows}), "3"), ["N"])
         self.assertEqual((status, text), (0, "load,t\nrow,2024-01-01,2024-02-01,3\nend\n"))
-        self.assertIn("csv-to-load: N has formulas in 1 cells, loaded with their last computed values\n", said)
+        self.assertIn("csv-to-load: N is '3', and is loaded as that: a formula's last computed value (line 2)\n", said)
         status, text, said = loaded(computed(workbook({"A": rows}), "", "str"), ["N"])
         self.assertEqual((status, text), (0, "load,t\nrow,2024-01-01,2024-02-01,\nend\n"))
         status, text, said = loaded(workbook({"A": rows}), ["N"])
@@ -161,7 +177,7 @@ class Workbooks(ToolCase):
         rows: List[List[Any]] = [["From", "To", "Grade"], [date(2024, 1, 1), date(2024, 2, 1), date(2024, 2, 1)]]
         status, text, said = loaded(workbook({"A": rows}), ["Grade"])
         self.assertEqual((status, text), (0, "load,t\nrow,2024-01-01,2024-02-01,2024-02-01\nend\n"))
-        self.assertIn("Grade has dates in 1 cells: a spreadsheet turns 1-2 into a date", said)
+        self.assertIn("Grade is '2024-02-01', and is loaded as that: a spreadsheet turns 1-2 into a date", said)
 
     def test_rows_that_a_reader_of_the_sheet_misses_are_reported(self) -> None:
         styles: Any = importlib.import_module("openpyxl.styles")
@@ -183,6 +199,38 @@ class Workbooks(ToolCase):
             rows.append(f"1 row is struck out, at line {struck}")
             self.assertEqual(said, "".join(f"csv-to-load: the sheet: {row}, and all rows are loaded\n" for row in rows))
 
+    def test_what_a_format_shows_otherwise_is_reported(self) -> None:
+        for number, code, field, note in [
+            (0.05, "0%", "0.05", "its format, 0%, shows it otherwise (line 2)"),
+            (1234567, "#,##0,", "1234567", "#,##0,"), (1234, '#,##0 "TEUR"', "1234", "shows it otherwise"),
+            (1.5, "[h]:mm", "1.5", "[h]:mm"), (0.25, 10, "0.25", "its format, 0.00%, shows"),
+            (12345678901234567890, "0", "12345678901234600000", "15 digits"),
+            (1e17, "0", "100000000000000000", "a spreadsheet keeps 15 digits, so the last ones are lost"),
+            (5, '#,##0.00 "EUR"', "5", ""), (-5, "#,##0.00 [$\u20ac-407];[Red]-0.00 [$\u20ac-407]", "-5", ""),
+            (5, "General", "5", ""), (5, "0.00E+00", "5", ""), (5, '_-* #,##0.00 "\u20ac"_-', "5", ""),
+            (5, "[Red]0", "5", ""),
+        ]:
+            with self.subTest(code):
+                cell = Styled(number, code)
+                status, text, said = loaded(workbook({"A": [HEADER[:3], [*PERIOD, cell]]}), ["Text"])
+                self.assertEqual((status, text), (0, f"load,t\nrow,2024-01-01,2024-02-01,{field}\nend\n"))
+                self.assertEqual((note in said, bool(said)), (True, bool(note)), said)
+
+    def test_two_currencies_of_a_column_are_refused(self) -> None:
+        rows = [[*PERIOD, Styled(5, code)] for code in ('0 "EUR"', "[$$-409]0", '0 "EUR"')]
+        data = workbook({"A": [HEADER[:3], *rows]})
+        status, text, said = loaded(data, ["Text"])
+        self.assertEqual((status, text), (1, "csv-to-load failed\n"))
+        self.assertIn("Text has formats of EUR and $: give each currency a column of its own", said)
+        self.assertEqual(loaded(data, [])[0], 0)
+
+    def test_cells_that_only_have_a_style_take_no_time(self) -> None:
+        rows: List[List[Any]] = [HEADER[:3], *[[*PERIOD, "A", *[Styled(None, "0%")] * 16381]] * 2]
+        text_of = workbooks.Workbook.text_of
+        with mock.patch.object(workbooks.Workbook, "text_of", autospec=True, side_effect=text_of) as read:
+            self.assertEqual(loaded(workbook({"A": rows}), ["Text"])[0], 0)
+        self.assertEqual(read.call_count, 9)
+
     def test_merged_cells_are_reported(self) -> None:
         book: Any = importlib.import_module("openpyxl").Workbook()
         for row in (["From", "To", "Dept"], *[[date(2024, 1, 1), date(2024, 2, 1), "A"]] * 2):
@@ -202,25 +250,67 @@ class Workbooks(ToolCase):
         found = loaded(data, ["Name", "--sheet", "Löhne"])
         self.assertEqual(found, (0, "load,t\nrow,2024-01-01,2024-02-01,x\nend\n", ""))
 
-    def test_what_is_no_workbook_is_refused(self) -> None:
+    def test_other_files_than_workbooks_are_refused(self) -> None:
         for data in (b"PK\x03\x04", b"PK\x03\x04" + b"x" * 100, workbook({"A": [["From"]]})[:-40]):
             status, text, said = loaded(data, ["Name"])
             self.assertEqual((status, text), (1, "csv-to-load failed\n"))
-            self.assertRegex(said, "^csv-to-load: openpyxl can't read it as an Excel workbook: ")
-        self.assertIn("an old spreadsheet workbook, not a CSV file: save it", loaded(b"\xd0\xcf\x11\xe0", ["Name"])[2])
+            self.assertRegex(said, "^csv-to-load: it can't be read as an Excel workbook: ")
+        self.assertIn("an old spreadsheet workbook, or one with a password", loaded(b"\xd0\xcf\x11\xe0", ["Name"])[2])
 
     def test_a_sheet_without_rows_has_no_header(self) -> None:
         self.assertIn("the file has no header, just empty lines", loaded(workbook({"A": []}), ["N"])[2])
         self.assertIn("not in the header: N", loaded(workbook({"A": [["From", "To"]]}), ["N"])[2])
 
 
-class WithoutOpenpyxl(ToolCase):
-    def test_a_workbook_is_refused_with_a_remedy(self) -> None:
-        with mock.patch.dict("sys.modules", {"openpyxl": None}):
-            status, text, said = loaded(b"PK\x03\x04", ["Name"])
-        self.assertEqual((status, text), (1, "csv-to-load failed\n"))
-        self.assertIn("openpyxl, which reads it, isn't installed: apt-get install python3-openpyxl, or save", said)
+def by_hand(rows: str, strings: str = "", book: str = "") -> bytes:
+    """A workbook as other programs write it: prefixes, absolute targets, no places of cells, and no openpyxl."""
+    main = "http://schemas.openxmlformats.org/spreadsheetml/2006/main"
+    office = "http://schemas.openxmlformats.org/officeDocument/2006/relationships"
+    formats = '<x:numFmts><x:numFmt numFmtId="164" formatCode="[$-407]d\\. mmm\\ yyyy;@"/></x:numFmts>'
+    parts = {
+        "xl/workbook.xml": f'<x:workbook xmlns:x="{main}" xmlns:r="{office}">{book}<x:sheets>'
+        '<x:sheet name="A" r:id="a"/></x:sheets></x:workbook>',
+        "xl/_rels/workbook.xml.rels": "<Relationships>" + "".join(
+            f'<Relationship Id="{key}" Type="{office}/{kind}" Target="/xl/{name}"/>' for key, kind, name in (
+                ("a", "worksheet", "one.xml"), ("b", "sharedStrings", "texts.xml"), ("c", "styles", "styles.xml"),
+            )) + "</Relationships>",
+        "xl/one.xml": f'<x:worksheet xmlns:x="{main}"><x:sheetData>{rows}</x:sheetData></x:worksheet>',
+        "xl/texts.xml": f'<x:sst xmlns:x="{main}">{strings}</x:sst>',
+        "xl/styles.xml": f'<x:styleSheet xmlns:x="{main}">{formats}<x:fonts><x:font/><x:font><x:strike/></x:font>'
+        '</x:fonts><x:cellXfs><x:xf numFmtId="0" fontId="0"/><x:xf numFmtId="14" fontId="0"/>'
+        '<x:xf numFmtId="164" fontId="1"/></x:cellXfs></x:styleSheet>',
+    }
+    data = io.BytesIO()
+    with zipfile.ZipFile(data, "w") as file:
+        for name, text in parts.items():
+            file.writestr(name, text)
+    return data.getvalue()
 
+
+class ByHand(ToolCase):
+    HEAD = "".join(f'<x:c t="inlineStr"><x:is><x:t>{name}</x:t></x:is></x:c>' for name in ("From", "To", "Text"))
+
+    def test_workbooks_of_other_programs_are_read(self) -> None:
+        day = '<x:c s="1"><x:v>{}</x:v></x:c>'.format
+        texts = "<x:si><x:r><x:t>Hi</x:t></x:r><x:r><x:t>ll_x000D_</x:t></x:r><x:rPh><x:t>no</x:t></x:rPh></x:si>"
+        for cells, book, wanted, note in [
+            (f'{day(45292)}{day(45323)}<x:c t="s"><x:v>0</x:v></x:c>', "",
+             '2024-01-01,2024-02-01,"Hill\r"', ""),
+            (f'{day(43830)}{day(43861.25)}<x:c t="str"><x:f>A1</x:f><x:v>x</x:v></x:c>',
+             '<x:workbookPr date1904="1"/>', "2024-01-01,2024-02-01T06:00:00,x", "a formula's last computed value"),
+            ('<x:c t="d"><x:v>2024-01-01T00:00:00</x:v></x:c><x:c s="2"><x:v>45323</x:v></x:c>'
+             '<x:c t="e"><x:v>#REF!</x:v></x:c>', "", "2024-01-01,2024-02-01,#REF!", "1 row is struck out, at line 2"),
+            (f"{day(1)}{day(61)}{day(0.5)}", "",
+             "1900-01-01,1900-03-01,12:00:00", "turns 1-2 into a date"),
+        ]:
+            with self.subTest(cells):
+                rows = f"<x:row>{self.HEAD}</x:row><x:row>{cells}</x:row>"
+                status, text, said = loaded(by_hand(rows, texts, book), ["Text"])
+                self.assertEqual((status, text), (0, f"load,t\nrow,{wanted}\nend\n"), said)
+                self.assertIn(note, said)
+
+
+class Csv(ToolCase):
     def test_a_csv_has_no_sheets(self) -> None:
         self.check([*LOADS, "Name", "--sheet", "A"], "From,To,Name\n", 1, "--sheet A: the file isn't an Excel workbook")
 

@@ -1,4 +1,5 @@
 """The tools as a shell runs them: with closed streams, on a full disk, and ended by Ctrl-C."""
+import errno
 import os
 import pty
 import re
@@ -9,9 +10,13 @@ import tempfile
 import time
 import tty
 import unittest
+from concurrent.futures import ThreadPoolExecutor
 from pathlib import Path
 from typing import List, Tuple
+from unittest import mock
 
+from ruzgalt import which
+from ruzgalt.errors import Stopped
 from tests.support import PROGRAM, TOP
 
 LOADS = f"{sys.executable} tools/csv-to-load pay Start End Name"
@@ -48,27 +53,45 @@ class ClosedStreams(unittest.TestCase):
 
     def test_each_tool_writes_all_or_fails(self) -> None:
         """A full disk takes a part of a write. By PYTHONUNBUFFERED, Python doesn't try to write the rest."""
-        names = [f"Name {number}" for number in range(100)]
-        rows = [f"2024-01-01,2024-02-01,{name}\n" for name in names]
-        script = f"table,t,a,text\nload,t\n{''.join(f'row,{row}' for row in rows)}end\nrows,t\n"
-        answered = "".join(f"row,{number},{row}" for number, row in enumerate(rows, 1))
+        rows = [f"2024-01-{1 + number % 28:02},2024-02-01,Name {number},{number}\n" for number in range(100)]
+        script = f"table,t,a,text,n,int\nload,t\n{''.join(f'row,{row}' for row in rows)}end\nrows,t\n"
+        # The program itself may write all of its answers.
+        program = f"#!/bin/sh\nulimit -S -f unlimited\nexec {PROGRAM}\n"
+        more = "".join(f"rows,none{number}\n" for number in range(20))
         with tempfile.TemporaryDirectory() as folder:
             for name, text in (
-                ("s", script), ("a", f"ok,1\nok,2\n{answered}end,100\n"), ("c", f"Start,End,Name\n{''.join(rows)}"),
+                ("s", script), ("p", program), ("r", script + more), ("c", f"Start,End,Name,n\n{''.join(rows)}"),
+                ("u", script.replace(",Name", ",").replace("rows,t\n", "delete,t,2024-01-01,2025-01-01\nrows,t\n")),
             ):
                 Path(folder, name).write_text(text)
-            for command in (
-                *(f"{ANSWERS} {words} --answers {folder}/a" for words in (
-                    f"csv {folder}/s", f"coalesce {folder}/s a", f"history {folder}/s t", f"json {folder}/s",
+            Path(folder, "p").chmod(0o700)
+            commands = [
+                *(f"{ANSWERS} {words}" for words in (
+                    f"list {folder}/r", f"csv {folder}/s", f"coalesce {folder}/s a", f"history {folder}/s t",
+                    f"json {folder}/s",
                     f"sqlite {folder}/s :memory: 3=t --query 'select * from t'", f"next {folder}/s --table t",
-                    f"page {folder}/s",
+                    f"page {folder}/s", f"picture {folder}/s", f"changed {folder}/u --ask rows,t,asof,2 --ask rows,t",
+                    f"months {folder}/s --sum n --per month --by a", f"refusals {folder}/r",
+                    f"raise {folder}/s t n --percent 50 --from 2024-01-01 --round up",
+                    f"xlsx {folder}/s {folder}/w.xlsx",
                 )),
                 f"{ANSWERS} --help", f"{ANSWERS} csv --help", f"{LOADS} --help", f"{LOADS} --file {folder}/c",
                 "tools/man-page dipq-answers",
-            ):
+            ]
+            small = f"ulimit -S -f 1; DIPQ={folder}/p PYTHONUNBUFFERED=1"
+            with ThreadPoolExecutor() as pool:
+                lines = [f"{small} {command} > {folder}/o{index}" for index, command in enumerate(commands)]
+                ended = list(pool.map(run, lines))
+            for command, (status, _, said) in zip(commands, ended):
                 with self.subTest(command):
-                    status, _, said = run(f"ulimit -f 1; PYTHONUNBUFFERED=1 {command} > {folder}/out")
-                    self.assertEqual((status, said.partition(": ")[2]), (1, "File too large\n"))
+                    self.assertEqual((status, said.partition(": ")[2].splitlines()), (1, ["File too large"]))
+            self.assertFalse(Path(folder, "w.xlsx").exists())
+
+    def test_a_process_without_free_descriptors_reports_that(self) -> None:
+        with mock.patch("subprocess.run", side_effect=OSError(errno.EMFILE, "Too many open files")):
+            which.is_built_at.cache_clear()
+            with self.assertRaisesRegex(Stopped, "couldn't look whether dipq is built: Too many open files"):
+                which.is_built_at(TOP, "dipq", 0)
 
 
 # Characters that act on a terminal, can't be seen, or turn the text after them.
@@ -109,7 +132,7 @@ class Terminals(unittest.TestCase):
                 for line in shown.replace(b"\r\x1b[K", b"").split(b"\n"):
                     self.assertTrue(line.decode().isprintable(), line)
 
-    def test_what_is_there_is_shown_by_codes(self) -> None:
+    def test_such_characters_are_shown_by_codes(self) -> None:
         wanted = f'row_id,valid_from,valid_to,a\n1,2024-01-01,2024-02-01,"{CODES}"\n'
         self.assertEqual(on_terminal(f"{self.words('csv', '--go-on')} 2>/dev/null").decode(), wanted)
 

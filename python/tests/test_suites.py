@@ -27,13 +27,13 @@ class Suites(unittest.TestCase):
                 ran = self.run_alone(suite, [unittest.FunctionTestCase(self.warns(module))])
                 self.assertEqual((ran.testsRun, len(ran.errors)), (1, errors))
 
-    def test_what_is_left_out_says_why(self) -> None:
-        ran = self.run_alone(suites.OfFrames, [suites.LeftOut("frames", "there is none")])
-        self.assertEqual([(str(test), reason) for test, reason in ran.skipped], [("frames", "there is none")])
+    def test_a_test_that_is_left_out_says_why(self) -> None:
+        ran = self.run_alone(suites.OfFrames, [suites.LeftOut("frames", "it is missing")])
+        self.assertEqual([(str(test), reason) for test, reason in ran.skipped], [("frames", "it is missing")])
 
     def test_discovery_finds_those_of_tools_and_of_frames(self) -> None:
         # One of each, by their names.
-        words = ["-k", "test_what_is_left_out_says_why", "-k", "test_other_names_are_no_attributes"]
+        words = ["-k", "test_a_test_that_is_left_out_says_why", "-k", "test_other_names_are_no_attributes"]
         unset = ("PYTHONPATH", "DIPQ")
         environment = {name: value for name, value in os.environ.items() if name not in unset}
         for folder in (TOP, TOP / "python"):

@@ -7,13 +7,13 @@ from pathlib import Path
 from typing import Iterator, List, Optional, Sequence, Tuple
 
 from ruzgalt.cli import streams
-from ruzgalt.cli.words import Words, decimals as digits_of, filled
+from ruzgalt.cli.options import Option, Words, add_all, decimals as digits_of, filled
 from ruzgalt.errors import Misfit
 from ruzgalt.load import dates, making
 from ruzgalt.load.columns import mark_of
 from ruzgalt.load.making import Load
 from ruzgalt.load.sheets import Records, Sheet, composed
-from ruzgalt.load.table import fit, rename, schema_of, take_names_of_file
+from ruzgalt.load.table import entry, fit, refuse_day, rename, schema_of, take_names_of_file
 from ruzgalt.load.workbooks import Workbook, is_workbook
 from ruzgalt.progress import Progress
 from ruzgalt.script import records
@@ -33,7 +33,7 @@ FAILED = b"csv-to-load failed\n"
 # A division has no periods, and its parts and ids are taken as they are.
 UNUSED_BY_CHECK = (
     "update", "empty", "delete", "record", "print_table", "german", "dates", "decimals", "decimal_mark", "bare",
-    "last_day", "open", "no_end", "plain_spaces", "drop_equal",
+    "last_day", "day_after", "day", "open", "no_end", "plain_spaces", "drop_equal",
 )
 
 
@@ -50,93 +50,58 @@ def count(word: str) -> int:
     return int(word)
 
 
+# FROM, TO and the columns, and how they are read.
+FORMS = dates.names_of_forms()
+OPTIONS = [
+    Option("table", "", "TABLE", "the table of the store"),
+    Option("start", "", "FROM", "the file's column with the start of a row"),
+    Option("end", "", "TO", "the file's column with the end of a row"),
+    Option("column", "", "[NAME=]COLUMN", "the file's columns with values, in the order of the table's; grade=Neu "
+           "takes the file's Neu as grade", more={"nargs": "*"}),
+    Option("--file", "", "FILE", "the file; without it, it is the last word, or standard input", filled),
+    Option("--encoding", "", "NAME", "the file's encoding, such as cp1252, if it isn't UTF-8", encoding),
+    Option("--skip", "", "N", "leaves out N lines before the header", count, {"default": 0}),
+    Option("--sheet", "", "NAME", "the sheet of an Excel workbook (.xlsx) that has several"),
+    Option("--check", "", "INSTANT", "prints a check of a division: FROM is the column of a row's part, TO of its "
+           "id"),
+    Option("--table", "", "RECORD", "the table's record, such as table,pay,person,text, or a script that has it: what "
+           "doesn't fit it is refused, and its columns are the COLUMNs if none is given", more={"dest": "record"}),
+    Option("--day", "", "[TABLE=]DAY", "also prints the entry of the diary (the table `diary` of the script of "
+           "--table): from this day on the newest commit is that of the load"),
+    Option("--print-table", "", "", "prints that record before the load; updates and deletes are of a table that is "
+           "there"),
+    Option("--update", "", "COLUMN..", "prints updates of the rows with this column's value instead of a load: FROM "
+           "and TO are the portion, other columns are set"),
+    Option("--empty", "", "COLUMN..", "an empty cell of this column sets the empty text in updates, which is refused "
+           "otherwise"),
+    Option("--delete", "", "", "prints deletes of the rows that have the COLUMNs' values instead of a load: FROM and "
+           "TO are the portion; with --table, the COLUMNs are the table's key if none is given"),
+    Option("--german", "", "", "reads dates as 31.12.2024, and decimals as 1.234,50"),
+    Option("--dates", "", "FORM", f"the last day of 2024 in the form of the file's dates: {', '.join(FORMS)}; "
+           f"{dates.EXCEL} is Excel's number of a day", more={"choices": FORMS}),
+    Option("--decimals", "", "COLUMN=DIGITS..", "numbers with at most DIGITS decimals become whole: with euros=2, "
+           "4800.5 becomes 480050 cents", digits_of),
+    Option("--decimal-mark", "", "{.,,}", "the decimal mark of numbers such as 7,500, which could be read either way",
+           more={"choices": (".", ",")}),
+    Option("--bare", "", "{whole,decimals}", "what a number without a mark is if others of its column have a "
+           "decimal mark: by whole 500 is 500.00, and by decimals 5.00",
+           more={"choices": ("whole", "decimals"), "default": ""}),
+    Option("--last-day", "", "", "TO is the last day of a row, not the day after it"),
+    Option("--day-after", "", "", "FROM is the last day before a row, which starts on the next one; TO may be "
+           f"{NO_END} without a column"),
+    Option("--open", "", "", f"an empty TO is {NO_END}"),
+    Option("--no-end", "", "VALUE..", f"a TO of this value, such as NULL, is {NO_END}"),
+    Option("--plain-spaces", "", "", "no-break spaces become spaces"),
+    Option("--drop-equal", "", "", "leaves out rows that are equal to an earlier one in all of the file's fields"),
+]
+
+
 def words() -> ArgumentParser:
     example = f"{LOAD} pay Start End person=Name cents=Pay --decimals cents=2 --last-day pay.csv"
     first = "record", "german", "dates", "decimals", "last_day", "open"
     parser = Words(example, first, prog=LOAD, description=ABOUT)
-    parser.add_argument("table", metavar="TABLE", help="the table of the store")
-    parser.add_argument("start", metavar="FROM", help="the file's column with the start of a row")
-    parser.add_argument("end", metavar="TO", help="the file's column with the end of a row")
-    parser.add_argument(
-        "column", nargs="*", metavar="[NAME=]COLUMN",
-        help="the file's columns with values, in the order of the table's; grade=Neu takes the file's Neu as grade",
-    )
-    parser.add_argument(
-        "--file", type=filled, metavar="FILE", help="the file; without it, it is the last word, or standard input",
-    )
-    parser.add_argument(
-        "--encoding", type=encoding, metavar="NAME", help="the file's encoding, such as cp1252, if it isn't UTF-8",
-    )
-    parser.add_argument("--skip", type=count, default=0, metavar="N", help="leaves out N lines before the header")
-    parser.add_argument(
-        "--sheet", metavar="NAME", help="the sheet of an Excel workbook (.xlsx) that has several",
-    )
-    parser.add_argument(
-        "--check", metavar="INSTANT",
-        help="prints a check of a division: FROM is the column of a row's part, TO of its id",
-    )
-    words_of_table(parser)
-    words_of_values(parser)
-    parser.add_argument(
-        "--drop-equal", action="store_true",
-        help="leaves out rows that are equal to an earlier one in all of the file's fields",
-    )
+    add_all(parser, OPTIONS)
     return parser
-
-
-def words_of_table(parser: ArgumentParser) -> None:
-    parser.add_argument(
-        "--table", dest="record", metavar="RECORD",
-        help="the table's record, such as table,pay,person,text, or a script that has it: what doesn't fit it is "
-        "refused, and its columns are the COLUMNs if none is given",
-    )
-    parser.add_argument(
-        "--print-table", action="store_true",
-        help="prints that record before the load; updates and deletes are of a table that is there",
-    )
-    parser.add_argument(
-        "--update", action="append", default=[], metavar="COLUMN",
-        help="prints updates of the rows with this column's value instead of a load: FROM and TO are the portion, "
-        "other columns are set",
-    )
-    parser.add_argument(
-        "--empty", action="append", default=[], metavar="COLUMN",
-        help="an empty cell of this column sets the empty text in updates, which is refused otherwise",
-    )
-    parser.add_argument(
-        "--delete", action="store_true",
-        help="prints deletes of the rows that have the COLUMNs' values instead of a load: FROM and TO are the "
-        "portion; with --table, the COLUMNs are the table's key if none is given",
-    )
-
-
-def words_of_values(parser: ArgumentParser) -> None:
-    parser.add_argument("--german", action="store_true", help="reads dates as 31.12.2024, and decimals as 1.234,50")
-    parser.add_argument(
-        "--dates", choices=dates.names_of_forms(), metavar="FORM",
-        help=f"the last day of 2024 in the form of the file's dates: {', '.join(dates.names_of_forms())}; "
-        f"{dates.EXCEL} is Excel's number of a day",
-    )
-    parser.add_argument(
-        "--decimals", type=digits_of, action="append", default=[], metavar="COLUMN=DIGITS",
-        help="numbers with at most DIGITS decimals become whole: with euros=2, 4800.5 becomes 480050 cents",
-    )
-    parser.add_argument(
-        "--decimal-mark", choices=(".", ","),
-        help="the decimal mark of numbers such as 7,500, which could be read either way",
-    )
-    parser.add_argument(
-        "--bare", choices=("whole", "decimals"), default="",
-        help="what a number without a mark is if others of its column have a decimal mark: by whole 500 is 500.00, and "
-        "by decimals 5.00",
-    )
-    parser.add_argument("--last-day", action="store_true", help="TO is the last day of a row, not the day after it")
-    parser.add_argument("--open", action="store_true", help=f"an empty TO is {NO_END}")
-    parser.add_argument(
-        "--no-end", action="append", default=[], metavar="VALUE",
-        help=f"a TO of this value, such as NULL, is {NO_END}",
-    )
-    parser.add_argument("--plain-spaces", action="store_true", help="no-break spaces become spaces")
 
 
 def refuse_words(options: Namespace) -> None:
@@ -158,6 +123,8 @@ def refuse_words(options: Namespace) -> None:
         raise Misfit("--update: no column is left to set")
     if options.bare and not options.decimals:
         raise Misfit("--bare needs --decimals: values of other columns are taken as they are")
+    if options.day:
+        refuse_day(options)
     if options.print_table and not options.record:
         raise Misfit("--print-table needs --table")
     if options.print_table and (options.update or options.delete):
@@ -257,7 +224,9 @@ def made(options: Namespace) -> Tuple[List[bytes], List[str], List[str], int]:
         load.add_fault(str(error))
         pieces = []
     notes = [] if load.count_of_faults else [*notes, *load.noted()]
-    return [head, opening, *pieces, end], load.faults, notes, load.count_of_faults
+    whole = [head, opening, *pieces, end]
+    more = [entry(options, b"".join(whole))] if options.day and not load.count_of_faults else []
+    return [*whole, *more], load.faults, notes, load.count_of_faults
 
 
 def made_of(load: Load) -> Iterator[bytes]:
@@ -274,8 +243,9 @@ def report(notes: List[str], count: int) -> None:
         streams.report(f"{LOAD_SAYS}: {one}")
 
 
-def main(arguments: Sequence[str]) -> int:
-    return streams.run(LOAD_SAYS, lambda: run(arguments))
+def main(arguments: Optional[Sequence[str]] = None) -> int:
+    given_words = sys.argv[1:] if arguments is None else arguments
+    return streams.run(LOAD_SAYS, lambda: run(given_words))
 
 
 def run(arguments: Sequence[str]) -> int:

@@ -1,6 +1,6 @@
-"""The options of `months`, `coalesce`, `gaps` and `overlaps` of tools/answers, which the package's frames compute."""
+"""`months`, `coalesce`, `gaps` and `overlaps` of tools/answers, which the package's frames compute."""
 import warnings
-from argparse import ArgumentParser, Namespace
+from argparse import Namespace
 from contextlib import contextmanager
 from datetime import datetime, timedelta
 from importlib import import_module
@@ -8,21 +8,19 @@ from typing import Any, Iterator, List, NamedTuple, Optional, Sequence, Tuple
 
 from ruzgalt.cli import given
 from ruzgalt.cli.given import Found, last, read, refuse_names, warn
-from ruzgalt.cli.words import filled, words_of_where
 from ruzgalt.errors import Misfit
-from ruzgalt.periods.pieces import EACH
 from ruzgalt.report import picks
 from ruzgalt.report.shown import Amounts
 from ruzgalt.script import schemas
 from ruzgalt.script.answers import Answer
 from ruzgalt.script.changes import IDS
-from ruzgalt.script.forms import POINTS, print_point, read_point
-from ruzgalt.script.language import Answered
+from ruzgalt.script.commands import Answered
+from ruzgalt.script.forms import POINTS, is_month_end, print_point, printed, read_point, shifted
 from ruzgalt.script.records import short
-from ruzgalt.script.schemas import PERIOD, Column, Kind, Table, refuse_other_kinds, unique
+from ruzgalt.script.schemas import PERIOD, Column, Kind, Table, ints, refuse_other_kinds, unique
 
 START, END = (column.name for column in PERIOD)
-ROW_ID, IDS_OF_PAIR = Column("row_id", Kind.INT), ("row_id", "other_row_id")
+IDS_OF_PAIR = ints("row_id", "other_row_id")
 FIRST, LAST = datetime(1, 1, 1), datetime(9999, 12, 31, 23, 59, 59)
 # An end from then on stands for none that is known.
 NO_END = datetime(9999, 1, 1)
@@ -34,20 +32,10 @@ count one more. An amount --in-total is divided by days over the whole period of
 record has that part of the amount, rounded half up, so that its months add up to its amount. With --less the sums are
 differences: for each group and each month that a record of one of the two answers touches, the answer's sum less
 the other's. It needs pandas."""
-WHICH_AMOUNT = """say what an amount is: --per month if a record has it in each month, such as a pay (or each day, week,
-quarter or year), or --in-total if a record has it once for its whole period, such as a premium"""
-OF_COALESCE = """The periods are as long as possible. Without a COLUMN all records are one group. It needs pandas."""
-NEEDS = "It needs pandas."
-
-
-def words_of_groups(parser: ArgumentParser, nargs: str = "+") -> None:
-    parser.add_argument("column", nargs=nargs, metavar="COLUMN", help="a column whose equal values make a group")
-    parser.add_argument("--of", action="append", default=[], metavar="PICK", help="the answer, if it isn't the last")
-    given.words_of_tables(parser)
-
-
-def words_of_coalesce(parser: ArgumentParser) -> None:
-    words_of_groups(parser, "*")
+WHICH_AMOUNT = (
+    "say what an amount is: --per month if a record has it in each month, such as a pay (or each day, week, quarter or "
+    "year), or --in-total if a record has it once for its whole period, such as a premium"
+)
 
 
 def do_coalesce(options: Namespace) -> None:
@@ -60,7 +48,7 @@ def do_gaps(options: Namespace) -> None:
 
 def show_periods(options: Namespace, call: str) -> None:
     """Prints the periods that a call finds for each group of equal values."""
-    [answer] = last(read(options), options.of, 1)
+    [answer] = last(read(options), options.of)
     columns = columns_of(answer, options.column)
     with calling() as package:
         found = getattr(package, call)(frame_of(answer, columns), by_of(columns), period=(START, END))
@@ -69,17 +57,17 @@ def show_periods(options: Namespace, call: str) -> None:
 
 def do_overlaps(options: Namespace) -> None:
     """Prints each pair of rows of equal values that hold at one time."""
-    [answer] = last(read(options), options.of, 1)
-    columns = columns_of(answer, options.column)
+    [answer] = last(read(options), options.of)
+    columns, row_id = columns_of(answer, options.column), IDS_OF_PAIR[0]
     if answer.command.word != "rows":
-        raise Misfit(f"{answer.where}: {short(answer.command.text)}: not a list of rows: ask by `rows`")
-    if ROW_ID in columns:
-        raise Misfit(f"{ROW_ID.name}: no two rows have one id: give a column of the table")
+        raise Misfit(f"{answer.shown}: not a list of rows: ask by `rows`")
+    if row_id in columns:
+        raise Misfit(f"{row_id.name}: no two rows have one id: give a column of the table")
     with calling() as package:
-        found = package.overlaps(frame_of(answer, [*columns, ROW_ID]), by_of(columns), period=(START, END))
-    found = found.rename(columns=dict(zip(("row_id_left", "row_id_right"), IDS_OF_PAIR)))
-    pairs = [Column(name, Kind.INT) for name in IDS_OF_PAIR]
-    show_frame(options, found.sort_values(by_of(columns), kind="stable"), [*pairs, *PERIOD, *columns])
+        found = package.overlaps(frame_of(answer, [*columns, row_id]), by_of(columns), period=(START, END))
+    names = dict(zip(("row_id_left", "row_id_right"), (one.name for one in IDS_OF_PAIR)))
+    found = found.rename(columns=names).sort_values(by_of(columns), kind="stable")
+    show_frame(options, found, [*IDS_OF_PAIR, *PERIOD, *columns])
 
 
 def by_of(columns: Sequence[Column]) -> Optional[List[str]]:
@@ -88,13 +76,13 @@ def by_of(columns: Sequence[Column]) -> Optional[List[str]]:
 
 def columns_of(answer: Answer, names: Sequence[str]) -> List[Column]:
     """Returns these columns of an answer whose records are periods of one commit. Raises Misfit for any other."""
-    which = f"{answer.where}: {short(answer.command.text)}"
+    answered = answer.command.form.answered
     if answer.command.word == "at":
-        raise Misfit(f"{which}: an `at` is of one point only: ask by `rows`")
-    if answer.command.form.answered is Answered.VERSIONS:
-        raise Misfit(f"{which}: its records are versions of several commits: ask by `rows` as of one commit")
-    if answer.command.form.answered not in IDS:
-        raise Misfit(f"{which}: its records aren't periods: ask by `rows`, `join`, `anti` or `agg`")
+        raise Misfit(f"{answer.shown}: an `at` is of one point only: ask by `rows`")
+    if answered is Answered.VERSIONS:
+        raise Misfit(f"{answer.shown}: its records are versions of several commits: ask by `rows` as of one commit")
+    if answered not in IDS:
+        raise Misfit(f"{answer.shown}: its records aren't periods: ask by `rows`, `join`, `anti` or `agg`")
     places = [answer.table.index_of(name) for name in dict.fromkeys(names)]
     for name in names:
         if name in (START, END):
@@ -141,14 +129,15 @@ def frame_of(answer: Answer, columns: Sequence[Column], where: schemas.Where = (
     return pandas.DataFrame(made)
 
 
+def records_of(frame: Any, columns: Sequence[Column]) -> List[Tuple[str, ...]]:
+    """Returns these columns of a frame as records."""
+    texts = ([print_point(one) if column.kind is Kind.POINT else str(one) for one in frame[column.name].tolist()]
+             for column in columns)
+    return list(zip(*texts))
+
+
 def show_frame(options: Namespace, frame: Any, columns: Sequence[Column]) -> None:
-    """Prints these columns of a frame."""
-    cells = zip(*([printed_as(column, one) for one in frame[column.name].tolist()] for column in columns))
-    given.show(options, Table(unique(columns), list(cells)))
-
-
-def printed_as(column: Column, cell: Any) -> str:
-    return print_point(cell) if column.kind is Kind.POINT else str(cell)
+    given.show(options, Table(unique(columns), records_of(frame, columns)))
 
 
 class Wish(NamedTuple):
@@ -161,40 +150,10 @@ class Wish(NamedTuple):
     def limits(self) -> Tuple[datetime, datetime]:
         return self.start or FIRST, self.end or LAST
 
-    @property
-    def within(self) -> Optional[Tuple[datetime, datetime]]:
-        return self.limits if self.start or self.end else None
-
-
-def words_of_months(parser: ArgumentParser) -> None:
-    parser.add_argument("pick", type=filled, nargs="?", metavar="PICK", help="the answer, if it isn't the last")
-    parser.add_argument("--sum", required=True, metavar="COLUMN", help="the column of the amounts")
-    parser.add_argument("--per", choices=EACH, help="a record has its amount in each of these pieces")
-    parser.add_argument("--in-total", action="store_true", help="a record has its amount once, for its whole period")
-    parser.add_argument(
-        "--by", action="append", default=[], metavar="COLUMN", help="sums for each of its values; may be repeated",
-    )
-    parser.add_argument("--each", choices=EACH, default="month", help="the pieces; weeks begin on Mondays")
-    parser.add_argument("--from", dest="start", metavar="POINT", help="counts from there on")
-    parser.add_argument(
-        "--to", dest="end", metavar="POINT",
-        help="counts up to there, or with --last-day including that day; needed if an end isn't known",
-    )
-    words_of_where(parser)
-    parser.add_argument(
-        "--less", metavar="ANSWER",
-        help="subtracts the sums of this answer: a PICK, or a question such as rows,T,asof,3",
-    )
-    parser.add_argument(
-        "--no-zeros", action="store_true",
-        help="leaves out sums that are exactly 0, such as differences of equal amounts",
-    )
-    given.words_of_tables(parser)
-
 
 def do_months(options: Namespace) -> None:
     if bool(options.per) == options.in_total:
-        raise Misfit(f"--sum {options.sum}: {' '.join(WHICH_AMOUNT.split())}")
+        raise Misfit(f"--sum {options.sum}: {WHICH_AMOUNT}")
     wish = wish_of(options)
     found, answer, less = summed(options)
     sides = [answer, *([less] if less else [])]
@@ -207,31 +166,40 @@ def do_months(options: Namespace) -> None:
         other.columns = frames[0].columns
         other[named[-1].name] = negative(other[named[-1].name])
     sums = spread(frames, named, options, wish)
-    table = Table(named, [one.record for one in sums if one.exact or not options.no_zeros])
-    options.decimals = decimals_with(options, named[-1].name)
+    # The column of sums has another name than the amounts if --by has taken theirs.
+    digits, name = Amounts(options.decimals).of(options.sum), named[-1].name
+    if digits is not None and Amounts(options.decimals).of(name) is None:
+        options.decimals = [*options.decimals, (name, digits)]
+    table = Table(named, [record for record, exact in sums if exact or not options.no_zeros])
     given.show(options, table)
-    rounded = sum(one.is_rounded for one in sums)
-    warn_of_sums(options, sides, found.answers, sum(map(len, frames)), (rounded, len(table.records)))
+    warn_of_sums(options, sides, found.answers, sum(map(len, frames)))
+    rounded = sum(bool(exact != int(record[-1])) for record, exact in sums)
+    if rounded:
+        warn(f"{rounded:,} of {len(table.records):,} {how_rounded(options)}")
+    if options.end and not options.last_day and is_month_end(printed(options.end)):
+        later = shifted(printed(options.end), 1)
+        warn(f"--to {options.end}: that day isn't counted; --to {later}, or --last-day, counts it")
     given.warn_of_mistakes(found, given.MISTAKES)
 
 
-def warn_of_sums(options: Namespace, taken: Sequence[Answer], found: Sequence[Answer], count: int,
-                 rounded: Tuple[int, int]) -> None:
-    """Warns of cut rows whose amounts count twice, of --where that no record meets, and of rounded sums."""
-    for change in cuts(found, taken) if options.in_total else ():
-        cut = "if it has cut a row, each part of the row has the whole amount"
-        warn(f"{change.where}: {short(change.command.text)}: {cut}, and so the amount counts twice")
+def how_rounded(options: Namespace) -> str:
+    exact = "difference" if options.less else "sum"
+    whose = f"the sums of each group add up to its exact {exact}" if options.by else f"all add up to the exact {exact}"
+    how = f"{whose}, rounded once, half up: the largest remainders count up"
+    return f"{exact}s were rounded, and {'the sums of a record add up to its amount' if options.in_total else how}"
+
+
+def warn_of_sums(options: Namespace, taken: Sequence[Answer], found: Sequence[Answer], count: int) -> None:
+    """Warns of cut rows whose amounts count twice, and of --where that no record meets."""
+    known = {answer.command.front[1]: answer.commit for answer in taken}
+    for change in found if options.in_total else ():
+        texts = change.command.record.fields
+        if texts[0] in ("update", "delete") and not change.refusal and change.commits <= known.get(texts[1], 0):
+            cut = "if it has cut a row, each part of the row has the whole amount"
+            warn(f"{change.shown}: {cut}, and so the amount counts twice")
+            break
     if options.where and not count:
         warn("no record has the values of --where")
-    if rounded[0]:
-        exact = "difference" if options.less else "sum"
-        whose = (
-            f"the sums of each group add up to its exact {exact}"
-            if options.by else f"all add up to the exact {exact}"
-        )
-        how = f"{whose}, rounded once, half up: the largest remainders count up"
-        how = "the sums of a record add up to its amount" if options.in_total else how
-        warn(f"{rounded[0]:,} of {rounded[1]:,} {exact}s were rounded, and {how}")
 
 
 def negative(amounts: Any) -> Any:
@@ -241,32 +209,24 @@ def negative(amounts: Any) -> Any:
     return -amounts
 
 
-class Sum(NamedTuple):
-    """A record of a group and a piece, and its exact sum."""
+def spread(
+    frames: Sequence[Any], columns: Sequence[Column], options: Namespace, wish: Wish,
+) -> List[Tuple[Tuple[str, ...], Any]]:
+    """Returns the record of each group and piece, with the exact sum.
 
-    record: List[str]
-    exact: Any
-
-    @property
-    def is_rounded(self) -> bool:
-        return bool(self.exact != int(self.record[-1]))
-
-
-def spread(frames: Sequence[Any], columns: Sequence[Column], options: Namespace, wish: Wish) -> List[Sum]:
-    """Returns the sums of each group and piece. A piece that isn't counted whole has the time that counts."""
-    *_, amount = columns
+    A piece that isn't counted whole has the time that counts.
+    """
+    name = columns[-1].name
     how = {
         "amount": f"per {options.per}" if options.per else "in total", "each": options.each[0].upper(),
-        "by": by_of(columns[2:-1]), "within": wish.within, "period": (START, END),
+        "by": by_of(columns[2:-1]), "within": wish.limits if wish.start or wish.end else None, "period": (START, END),
     }
     with calling() as package:
         frame = imported("pandas").concat(frames, ignore_index=True)
-        whole, exact = (package.spread(frame, amount.name, exact=is_exact, **how) for is_exact in (False, True))
-    for name, cut in ((START, max), (END, min)):
-        limit = wish.limits[name == END]
-        whole[name] = [cut(point, limit) for point in whole[name].tolist()]
-    records = zip(*([printed_as(column, one) for one in whole[column.name].tolist()] for column in columns))
-    return [Sum(list(record), one) for record, one in zip(records, exact[amount.name].tolist())]
+        whole, exact = (package.spread(frame, name, exact=is_exact, **how) for is_exact in (False, True))
+    for point, cut, limit in zip((START, END), (max, min), wish.limits):
+        whole[point] = [cut(one, limit) for one in whole[point].tolist()]
+    return list(zip(records_of(whole, columns), exact[name].tolist()))
 
 
 def side_of(answer: Answer, columns: Sequence[Column], options: Namespace, wish: Wish) -> Any:
@@ -294,7 +254,7 @@ def amounts_of(answer: Answer, options: Namespace) -> List[Column]:
     groups = columns_of(answer, options.by)
     if options.in_total and answer.command.word != "rows":
         why = "its records are parts of rows, and each part has the whole amount"
-        raise Misfit(f"{answer.where}: {short(answer.command.text)}: {why}; with --in-total ask by `rows`")
+        raise Misfit(f"{answer.shown}: {why}; with --in-total ask by `rows`")
     [amount] = columns_of(answer, [options.sum])
     if amount.name in IDS[answer.command.form.answered]:
         raise Misfit(f"--sum {amount.name}: a column of ids, whose sums mean nothing; give a column of amounts")
@@ -319,25 +279,6 @@ def wish_of(options: Namespace) -> Wish:
     return Wish(start, end)
 
 
-def decimals_with(options: Namespace, name: str) -> List[Tuple[str, int]]:
-    """Returns the decimals of columns. The column of sums, of this name, has the amounts' unless it has others.
-
-    It has another name than the amounts if --by has taken their name.
-    """
-    given: List[Tuple[str, int]] = options.decimals
-    digits = Amounts(given).of(options.sum)
-    return given if digits is None or Amounts(given).of(name) is not None else [*given, (name, digits)]
-
-
-def cuts(found: Sequence[Answer], answers: Sequence[Answer]) -> List[Answer]:
-    """Returns the first change that may have cut rows of one of these answers: an update or a delete of its table."""
-    known = {answer.command.front[1]: answer.commit for answer in answers}
-    return [
-        one for one in found if one.command.word in ("update", "delete") and not one.refusal
-        and one.commits <= known.get(one.command.front[1], 0)
-    ][:1]
-
-
 def summed(options: Namespace) -> Tuple[Found, Answer, Optional[Answer]]:
     """Returns all answers, the one whose amounts are summed, and the one whose sums are subtracted, if one is given.
 
@@ -346,14 +287,14 @@ def summed(options: Namespace) -> Tuple[Found, Answer, Optional[Answer]]:
     words = [options.pick] if options.pick else []
     if options.less is None:
         found = read(options)
-        return found, last(found, words, 1)[0], None
+        return found, last(found, words)[0], None
     # No pick has a comma, and each question of records does.
     is_question = "," in options.less
     if is_question:
         refuse_names("--less", [options.less])
+        options.ask = [options.less, *options.ask]
     else:
         picks.refuse_names([options.less])
-    options.ask = [*([options.less] if is_question else []), *options.ask]
     found = read(options)
     less = found.asked[0] if is_question else picks.picked(found.answers, options.less, found.names).answer
     others = [one for one in found.answers if one is not less and picks.is_asked(one)]

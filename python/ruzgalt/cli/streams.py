@@ -10,8 +10,7 @@ from typing import Callable, Iterable, Iterator, Optional, Sequence
 from ruzgalt import progress
 from ruzgalt.errors import Misfit
 from ruzgalt.script import records
-from ruzgalt.script.reader import LONGEST_FIELD
-from ruzgalt.script.records import code_of, encode, is_seen
+from ruzgalt.script.records import LONGEST_FIELD, code_of, encode, is_seen
 
 
 def visible(text: str, keeps: str = "") -> str:

@@ -7,23 +7,23 @@ from __future__ import annotations
 from dataclasses import replace
 from fractions import Fraction
 from math import lcm
-from typing import Any, NamedTuple, Tuple
+from typing import Any, NamedTuple, Optional, Tuple
 
 import numpy as np
 
-from ruzgalt.frames import doubts, groups, instants, pairs, points, split, zones
-from ruzgalt.frames.answer import Columns
-from ruzgalt.frames.arrays import Cells, Ints, narrowed, of_objects
-from ruzgalt.frames.ask import Found
-from ruzgalt.frames.errors import Refused, label_at
-from ruzgalt.frames.kinds import Kind
+from ruzgalt import periods as pieces
+from ruzgalt.convert import instants, points
+from ruzgalt.convert.arrays import Cells, Ints, narrowed, of_objects
+from ruzgalt.convert.errors import Refused, label_at
+from ruzgalt.convert.instants import Span
+from ruzgalt.convert.kinds import DAY, begins_of, has_time, walls_of
+from ruzgalt.convert.values import GREATEST, Values
+from ruzgalt.frames import groups, split
 from ruzgalt.frames.measures import Measure
-from ruzgalt.frames.named import with_levels
 from ruzgalt.frames.options import AMOUNTS, IN_TOTAL, PIECES, Options
 from ruzgalt.frames.sides import Side
-from ruzgalt.frames.values import GREATEST, Values
-from ruzgalt.periods import pieces
-from ruzgalt.periods.pieces import DAY, Calendar
+from ruzgalt.frames.split import Found
+from ruzgalt.periods import Calendar
 
 # Pieces are of seconds from the year 1 on.
 OFFSET = -points.FIRST
@@ -41,24 +41,17 @@ class Shares(NamedTuple):
 
 
 def spread(frame: Any, column: Any, options: Options) -> Any:
-    by = options.by or ()
-    frame = with_levels(frame, by)
-    side = groups.side_of(frame, [Measure("sum", column)], options)
-    doubts.of_frame(frame, side, side.columns[:len(by)], options)
-    side = replace(side, kind=Kind("D")) if side.kind.is_long else side
-    zone, amount = side.kind.zone, side.columns[-1]
-    rows = counted(side, options)
-    codes, firsts = groups.group_codes(rows, len(by))
-    sums = sums_of(side, replace(shown(rows, options), columns=[codes, rows.columns[-1]]), options)
-    columns = Columns(groups.groups_at(frame, by, rows.places[firsts[sums.group]]))
-    times = [zones.begins_of(walls, zone) for walls in (sums.start, sums.end)]
-    columns.add(pairs.period_of(times[0], times[1], [side], options, options.form))
-    columns.add([(amount.name, (fractions if options.exact else restored)(sums.value, amount))])
-    return columns.frame()
+    whole = groups.grouped(frame, [Measure("sum", column)], options)
+    amount, zone = whole.side.columns[-1], whole.side.kind.zone
+    side = replace(whole.side, columns=[whole.codes, amount])
+    sums = sums_of(side, counted(side, whole.span, options), options)
+    start, end = (begins_of(walls, zone) for walls in (sums.start, sums.end))
+    values = [(amount.name, restored(sums.value, amount, options.exact))]
+    return groups.framed(whole, start, end, sums.group, values, options)
 
 
 def sums_of(side: Side, rows: Side, options: Options) -> Shares:
-    """The sums of the rows that count, of a group's rank and an amount. Raises Refused if one in total has no end."""
+    """Returns the sums of the rows that count. Raises Refused if one in total has no end."""
     each = pieces.calendar(PIECES[options.each])
     if options.amount != IN_TOTAL:
         found = split.agg(rows, "sum", options.workers)
@@ -70,13 +63,11 @@ def sums_of(side: Side, rows: Side, options: Options) -> Shares:
     return in_total(rows_of_groups, whole.start, whole.end, each, options.exact)
 
 
-def counted(side: Side, options: Options) -> Side:
-    """The rows in the time that counts. Raises Refused if a row's end isn't known."""
-    if options.within is not None:
-        start, end = options.within
-        side = side.clipped(*instants.span(start, end, options.form, side.kind.zone))
-    refuse_endless(side, "no end is known; give within=(START, END), up to whose end it counts", options)
-    return side
+def counted(side: Side, span: Optional[Span], options: Options) -> Side:
+    """Returns the rows in the time that counts, as clocks show it. Raises Refused if a row's end isn't known."""
+    rows = side if span is None else side.clipped(*span)
+    refuse_endless(rows, "no end is known; give within=(START, END), up to whose end it counts", options)
+    return shown(rows, options)
 
 
 def refuse_endless(side: Side, reason: str, options: Options) -> None:
@@ -86,28 +77,26 @@ def refuse_endless(side: Side, reason: str, options: Options) -> None:
 
 
 def shown(side: Side, options: Options) -> Side:
-    """The rows with the days that they have in their zone, each from midnight on, though clocks may begin it at one.
+    """Returns the rows with the days of their zone, each from midnight on, even if clocks begin it at one.
 
-    Raises Refused of times there, since an hour may be shown twice.
+    Raises Refused for times, since clocks may show an hour twice.
     """
     zone = side.kind.zone
     if zone is None:
         return side
     for name, seconds in zip((options.period[0], options.period[-1]), (side.start, side.end)):
-        has_time = zones.has_time(seconds, zone)
-        if has_time.any():
+        is_time = has_time(seconds, zone)
+        if is_time.any():
             reason = f"in {zone} days have 23 to 25 hours, so points must be days; .dt.floor('D') drops the time"
-            raise Refused("BadPoint", reason, name, label_at(has_time, side.labels[side.places]))
-    walls = [zones.walls_of(seconds, zone) for seconds in (side.start, side.end)]
-    return side.during(*(one - one % zones.DAY for one in walls))
+            raise Refused("BadPoint", reason, name, label_at(is_time, side.labels[side.places]))
+    walls = [walls_of(seconds, zone) for seconds in (side.start, side.end)]
+    return side.during(*(one - one % DAY for one in walls))
 
 
-def fractions(sums: Cells, amount: Values) -> Any:
-    return of_objects([one / 10 ** (amount.digits or 0) for one in sums])
-
-
-def restored(sums: Cells, amount: Values) -> Any:
-    """As agg has sums: in the column's dtype if it has decimals, otherwise int64 or Python's numbers."""
+def restored(sums: Cells, amount: Values, is_exact: bool) -> Any:
+    """Returns exact sums as Fractions, others as agg does: in the column's dtype if it has decimals."""
+    if is_exact:
+        return of_objects([one / 10 ** (amount.digits or 0) for one in sums])
     return sums if amount.digits is None else amount.restored(sums)
 
 
@@ -123,7 +112,7 @@ def per_piece(found: Found, each: Calendar, per: Calendar, is_exact: bool) -> Sh
     held = (np.minimum(end[rows], cuts[cut + 1]) - np.maximum(start[rows], cuts[cut])) // unit
     below = (np.diff(whole) // unit)[place_in(whole, cuts[cut])]
     common = lcm(*np.unique(below).tolist())
-    # At most so many pieces of `per` touch one of `each`.
+    # At most this number of pieces of `per` touch one of `each`.
     many = int(np.diff(edges).max(initial=0)) // int(np.diff(whole).min(initial=GREATEST)) + 2
     value = lengthened(value, many * max(common, len(edges)))
     sums = summed(edges, group[rows], place_in(edges, cuts[cut]), value[rows] * held * (common // below))

@@ -7,9 +7,10 @@ from typing import TYPE_CHECKING, Any, Callable, Mapping, Optional, TypeVar, Uni
 
 import pandas as pd
 
-from ruzgalt.frames import amounts, checks, coverage, division, groups, instants, measures, pairs
+from ruzgalt.convert import checks, instants
+from ruzgalt.convert.errors import Refused
+from ruzgalt.frames import amounts, division, groups, measures, pairs
 from ruzgalt.frames.division import Checked, Division
-from ruzgalt.frames.errors import Refused
 from ruzgalt.frames.options import (
     INNER, MONTH, NO_DECIMALS, PERIOD, SUFFIXES, WORKERS, Functions, Names, OneSided, Options, PairOfSuffixes,
     PeriodNames, documented, options_in,
@@ -29,25 +30,15 @@ def join(left: Frame, right: Right, on: Names = None, *, left_on: Names = None, 
          right_period: Optional[PeriodNames] = None, keep_periods: bool = False, open_end: OneSided = False,
          last_day: OneSided = False, decimals: Mapping[Any, int] = NO_DECIMALS, suffixes: PairOfSuffixes = SUFFIXES,
          workers: int = WORKERS, progress: Optional[bool] = None) -> Union[Frame, Right]:
-    """Returns the pairs of a left and a right row with equal values in `on`, each for the time in which both hold.
-
-    Parameters
-    ----------
-    left, right : DataFrame
-        Frames of pandas or of Dask; one of each is allowed.
-    on : name or list of names, optional
-        Columns of both frames whose values must be equal. `on=[]` compares none.
-    {options}
+    """Returns the pairs of a left and a right row with equal values in `on`, each for the time when both hold.
 
     Returns
     -------
     DataFrame
         The period with the left frame's names, then the left frame's other columns, then the right frame's; compared
-        columns once. Columns keep their dtype, or with missing cells get that of pandas.merge. Points of two kinds
+        columns once. Columns keep their dtype, or with missing cells get the one of pandas.merge. Points of two kinds
         become period[S] or the coarser kind. Rows are by start, end, left and right position, unmatched ones last. Of
         Dask if one frame is: rows are in this order within each partition.
-
-    {raises}
 
     Examples
     --------
@@ -56,20 +47,14 @@ def join(left: Frame, right: Right, on: Names = None, *, left_on: Names = None, 
     ...                     "person": ["Ada", "Ada"], "cents": [5000, 5400]})
     >>> contract = pd.DataFrame({"from": day(["2024-02-01"]), "to": day(["2024-09-01"]),
     ...                          "person": ["Ada"], "centre": ["press"]})
-    >>> ruzgalt.join(pay, contract, on="person", open_end=True)
-            from         to person  cents centre
-    0 2024-02-01 2024-07-01    Ada   5000  press
-    1 2024-07-01 2024-09-01    Ada   5400  press
     >>> ruzgalt.join(pay, contract, on="person", how="left", open_end=True)
             from         to person  cents centre
     0 2024-01-01 2024-02-01    Ada   5000    NaN
     1 2024-02-01 2024-07-01    Ada   5000  press
     2 2024-07-01 2024-09-01    Ada   5400  press
     3 2024-09-01        NaT    Ada   5400    NaN
-    >>> list(ruzgalt.join(pay, contract, on="person", open_end="left", keep_periods=True))
-    ['from', 'to', 'from_left', 'to_left', 'from_right', 'to_right', 'person', 'cents', 'centre']
     """
-    return paired(pairs.join, left, right, on, options_in("join", locals()))
+    return paired(pairs.join, left, right, options_in("join", locals()))
 
 
 @documented
@@ -78,15 +63,7 @@ def anti(left: Frame, right: Right, on: Names = None, *, left_on: Names = None, 
          right_period: Optional[PeriodNames] = None, open_end: OneSided = False, last_day: OneSided = False,
          decimals: Mapping[Any, int] = NO_DECIMALS, workers: int = WORKERS,
          progress: Optional[bool] = None) -> Union[Frame, Right]:
-    """Returns the left rows, each for the time in which no right row with equal values in `on` holds.
-
-    Parameters
-    ----------
-    left, right : DataFrame
-        Frames of pandas or of Dask; one of each is allowed.
-    on : name or list of names, optional
-        Columns of both frames whose values must be equal. `on=[]` compares none.
-    {options}
+    """Returns the left rows, each for the time when no right row with equal values in `on` holds.
 
     Returns
     -------
@@ -94,8 +71,6 @@ def anti(left: Frame, right: Right, on: Names = None, *, left_on: Names = None, 
         The left frame's columns, dtypes and labels. A row may be there several times, or not at all; periods are as
         long as possible. Rows are by left position, then start. Of Dask if one frame is: rows are in this order
         within each partition.
-
-    {raises}
 
     Examples
     --------
@@ -107,14 +82,14 @@ def anti(left: Frame, right: Right, on: Names = None, *, left_on: Names = None, 
     c1 2024-02-01 2024-03-01    Ada
     c1 2024-07-01        NaT    Ada
     """
-    return paired(pairs.anti, left, right, on, options_in("anti", locals()))
+    return paired(pairs.anti, left, right, options_in("anti", locals()))
 
 
 @documented
 def agg(frame: Frame, function: Functions, column: Any = None, *, by: Names = None, period: PeriodNames = PERIOD,
         open_end: bool = False, last_day: bool = False, decimals: Mapping[Any, int] = NO_DECIMALS,
         workers: int = WORKERS, progress: Optional[bool] = None) -> Frame:
-    """Returns count, sum, min, max or mean of the rows that hold, for each period in which it stays the same.
+    """Returns count, sum, min, max or mean of the rows that hold, for each period while it stays the same.
 
     Parameters
     ----------
@@ -122,20 +97,17 @@ def agg(frame: Frame, function: Functions, column: Any = None, *, by: Names = No
         A frame of pandas or of Dask.
     function : str or dict
         count, sum, min, max or mean. Or a dict of columns, each with one of these or a list of them, for several at
-        once: a period is one in which all stay the same.
+        once: in a period all stay the same.
     column : name, optional
         The column of numbers of a sum, min, max or mean. A count has none, nor has a dict.
-    {options}
 
     Returns
     -------
     DataFrame
         The columns of `by`, the period, and the values, named count or FUNCTION_COLUMN: a mean is a float, a count and
         a sum of whole numbers are int64, or objects of int if a sum has more than 64 bits; others have the column's
-        dtype. Rows are by group, then start; there is none for a time in which no row holds. Of Dask if the frame is:
+        dtype. Rows are by group, then start; times when no row holds are left out. Of Dask if the frame is:
         with `by` partitions are in no order, without there is one.
-
-    {raises}
 
     Examples
     --------
@@ -147,10 +119,6 @@ def agg(frame: Frame, function: Functions, column: Any = None, *, by: Names = No
     0 2024-01-01 2024-03-01       5000
     1 2024-03-01 2024-07-01       9800
     2 2024-07-01 2024-10-01       4800
-    >>> ruzgalt.agg(pay, "count", by="person")
-      person       from         to  count
-    0    Ada 2024-01-01 2024-07-01      1
-    1  Grace 2024-03-01 2024-10-01      1
     >>> ruzgalt.agg(pay, {"person": "count", "cents": ["max", "mean"]})
             from         to  count_person  max_cents  mean_cents
     0 2024-01-01 2024-03-01             1       5000      5000.0
@@ -171,16 +139,13 @@ def dip(frame: pd.DataFrame, by: Names = None, *, period: PeriodNames = PERIOD, 
     ----------
     frame : DataFrame
         A frame of pandas, of at most 1,000,000 rows, or of that many in each group.
-    {options}
 
     Returns
     -------
     Division
         Its `parts` are a Series with the frame's index: the number of each row's part, from 0 on. `count` is the number
-        of parts; `instant` is the first point at which that many rows hold, so that fewer parts aren't enough. With
+        of parts; `instant` is the first point when `count` rows hold, so that fewer parts aren't enough. With
         `by` each group has its own parts, from 0 on, and count and instant are Series by group.
-
-    {raises}
 
     Examples
     --------
@@ -192,19 +157,14 @@ def dip(frame: pd.DataFrame, by: Names = None, *, period: PeriodNames = PERIOD, 
     2 parts of 3 rows, as many as hold at 2024-01-03 00:00:00
     >>> division.parts.to_dict(), division.count, division.instant
     ({'a': 0, 'b': 1, 'c': 0}, 2, Timestamp('2024-01-03 00:00:00'))
-    >>> by_ward = ruzgalt.dip(stay.assign(ward=["A", "A", "B"]), by="ward")
-    >>> by_ward
-    3 rows in 2 groups of 1 to 2 parts
-    'A': 2 parts, as many as hold at 2024-01-03 00:00:00
-    'B': 1 part, as many as hold at 2024-01-05 00:00:00
-    >>> by_ward.count.to_dict()
+    >>> ruzgalt.dip(stay.assign(ward=["A", "A", "B"]), by="ward").count.to_dict()
     {'A': 2, 'B': 1}
     """
     options = options_in("dip", locals())
     if checks.are_spread(frame=frame):
         raise Refused("BadCommand", f"dip can't be called with a frame of Dask; {division.OTHERWISE}")
     with of_call(options.call, options.progress):
-        return division.dip_by(frame, options) if options.by else division.dip(frame, options)
+        return division.dip(frame, options)
 
 
 @documented
@@ -218,15 +178,12 @@ def check(frame: pd.DataFrame, part: Names, *, period: PeriodNames = PERIOD, ope
         A frame of pandas, of at most 1,000,000 rows.
     part : name or list of names
         The column of each row's part, or several, such as a ward and a bed.
-    {options}
 
     Returns
     -------
     Checked
         It is true if no two rows of a part hold at one time. Otherwise it has two rows that do, by their labels, their
         part and the time that they share.
-
-    {raises}
 
     Examples
     --------
@@ -255,14 +212,11 @@ def at(frame: Frame, point: Any, *, period: PeriodNames = PERIOD, open_end: bool
         A frame of pandas or of Dask.
     point : str, date, datetime, Timestamp or Period
         A day is its begin. If the frame's points have a time zone, a point without one is what clocks show there.
-    {options}
 
     Returns
     -------
     DataFrame
         These rows, unchanged, in their order.
-
-    {raises}
 
     Examples
     --------
@@ -273,7 +227,7 @@ def at(frame: Frame, point: Any, *, period: PeriodNames = PERIOD, open_end: bool
             from  to  cents
     1 2024-07-01 NaT   5400
     """
-    return coverage.held(frame, options_in("at", locals()), lambda zone, _: instants.one_second(point, zone))
+    return groups.held(frame, options_in("at", locals()), lambda zone, _: instants.one_second(point, zone))
 
 
 @documented
@@ -286,16 +240,13 @@ def during(frame: Frame, start: Any, end: Any, *, period: PeriodNames = PERIOD, 
     frame : DataFrame
         A frame of pandas or of Dask.
     start, end : str, date, datetime, Timestamp or Period
-        With `last_day` the end is the last day. None as the end is no end. If the frame's points have a time zone,
+        With `last_day` the end is the last day. None as the end means no end. If the frame's points have a time zone,
         points without one are what clocks show there.
-    {options}
 
     Returns
     -------
     DataFrame
         These rows, unchanged, in their order.
-
-    {raises}
 
     Examples
     --------
@@ -307,28 +258,20 @@ def during(frame: Frame, start: Any, end: Any, *, period: PeriodNames = PERIOD, 
     0 2024-01-01 2024-07-01   5000
     """
     options = options_in("during", locals())
-    return coverage.held(frame, options, lambda zone, form: instants.span(start, end, form, zone))
+    return groups.held(frame, options, lambda zone, form: instants.span(start, end, form, zone))
 
 
 @documented
 def coalesce(frame: Frame, by: Names = None, *, period: PeriodNames = PERIOD, open_end: bool = False,
              last_day: bool = False, decimals: Mapping[Any, int] = NO_DECIMALS, workers: int = WORKERS,
              progress: Optional[bool] = None) -> Frame:
-    """Returns the periods, as long as possible, in which some row of a group holds.
-
-    Parameters
-    ----------
-    frame : DataFrame
-        A frame of pandas or of Dask.
-    {options}
+    """Returns the longest periods when some row of a group holds.
 
     Returns
     -------
     DataFrame
         The columns of `by` and the period. Rows are by group, then start. Of Dask if the frame is: with `by` partitions
         are in no order, without there is one.
-
-    {raises}
 
     Examples
     --------
@@ -347,13 +290,12 @@ def coalesce(frame: Frame, by: Names = None, *, period: PeriodNames = PERIOD, op
 def gaps(frame: Frame, by: Names = None, *, within: Any = None, period: PeriodNames = PERIOD, open_end: bool = False,
          last_day: bool = False, decimals: Mapping[Any, int] = NO_DECIMALS, workers: int = WORKERS,
          progress: Optional[bool] = None) -> Frame:
-    """Returns the periods, as long as possible, in which no row of a group holds.
+    """Returns the longest periods when no row of a group holds.
 
     Parameters
     ----------
     frame : DataFrame
         A frame of pandas, or with `by` of Dask.
-    {options}
 
     Returns
     -------
@@ -362,43 +304,35 @@ def gaps(frame: Frame, by: Names = None, *, within: Any = None, period: PeriodNa
         Rows are by group, then start; partitions of Dask are in no order. A group without a row has no gap. Without
         `by` all of `within` is a gap if no row holds in it.
 
-    {raises}
-
     Examples
     --------
     >>> day = pd.to_datetime
     >>> pay = pd.DataFrame({"from": day(["2024-01-01", "2024-07-01", "2024-11-01"]),
     ...                     "to": day(["2024-07-01", "2024-10-01", "2025-01-01"]), "person": "Ada"})
-    >>> ruzgalt.gaps(pay, "person")
-      person       from         to
-    0    Ada 2024-10-01 2024-11-01
     >>> ruzgalt.gaps(pay, "person", within=("2024-08-01", "2025-02-01"))
       person       from         to
     0    Ada 2024-10-01 2024-11-01
     1    Ada 2025-01-01 2025-02-01
     """
-    return grouped(coverage.gaps, frame, options_in("gaps", locals()))
+    return grouped(groups.gaps, frame, options_in("gaps", locals()))
 
 
 @documented
 def overlaps(frame: Frame, by: Names = None, *, keep_periods: bool = False, period: PeriodNames = PERIOD,
              open_end: bool = False, last_day: bool = False, decimals: Mapping[Any, int] = NO_DECIMALS,
              suffixes: PairOfSuffixes = SUFFIXES, workers: int = WORKERS, progress: Optional[bool] = None) -> Frame:
-    """Returns the pairs of different rows of a group, each for the time in which both hold.
+    """Returns the pairs of different rows of a group, each for the time when both hold.
 
     Parameters
     ----------
     frame : DataFrame
         A frame of pandas, or with `by` of Dask.
-    {options}
 
     Returns
     -------
     DataFrame
         The join of the frame with itself on `by`, with each pair once: the left row is before the right one in the
         frame.
-
-    {raises}
 
     Examples
     --------
@@ -422,7 +356,7 @@ def spread(frame: Frame, column: Any, *, amount: Optional[str] = None, each: str
 
     Amounts are divided by days, or by seconds if a point has a time of day. An amount "per month" is a row's amount in
     each whole month, and in a part of a month that part of it. The whole numbers of a group add up to its exact sum,
-    rounded once, half up: those with the largest remainders count one more, of equal ones the first.
+    rounded once, half up: numbers with the largest remainders count one more, the first of equal ones.
 
     An amount "in total" is divided over all of a row's own period. Up to an instant a row has that part of its amount,
     rounded half up, so that its pieces add up to the amount, months to quarters, and two answers to one of both times.
@@ -433,7 +367,6 @@ def spread(frame: Frame, column: Any, *, amount: Optional[str] = None, each: str
         A frame of pandas, or with `by` of Dask.
     column : name
         The column of amounts.
-    {options}
 
     Returns
     -------
@@ -441,8 +374,6 @@ def spread(frame: Frame, column: Any, *, amount: Optional[str] = None, each: str
         The columns of `by`, the period of each piece that some row of the group touches, and the sum under its column's
         name, as agg returns sums. Rows are by group, then start; partitions of Dask are in no order. Pieces of a frame
         of longer periods are period[D].
-
-    {raises}
 
     Examples
     --------
@@ -464,13 +395,13 @@ def spread(frame: Frame, column: Any, *, amount: Optional[str] = None, each: str
     return grouped(amounts.spread, frame, options, checks.name("column", column))
 
 
-def paired(asked: Callable[..., Any], left: Any, right: Any, on: Any, options: Options) -> Any:
-    """Returns the answer of two frames, of which one may be of Dask."""
+def paired(asked: Callable[..., Any], left: Any, right: Any, options: Options) -> Any:
+    """Returns the answer of two frames. One may be of Dask."""
     if checks.are_spread(left=left, right=right):
         from ruzgalt.frames import partitions
-        return partitions.paired(asked, left, right, on, options)
+        return partitions.paired(asked, left, right, options)
     with of_call(options.call, options.progress):
-        return asked(left, right, on, options)
+        return asked(left, right, options)
 
 
 def grouped(asked: Callable[..., Any], frame: Any, options: Options, *given: Any) -> Any:

@@ -1,4 +1,4 @@
-"""A division: of a frame of pandas by dip, and what one is, of a store's table too."""
+"""Divisions of frames of pandas: dip and check. A store's table has a Division too."""
 from __future__ import annotations
 
 from dataclasses import dataclass
@@ -7,10 +7,11 @@ from typing import Any, Generic, Iterator, Tuple, TypeVar
 import numpy as np
 import pandas as pd
 
-from ruzgalt.frames import ask, checks, doubts, groups, pairs, points, sides, split
-from ruzgalt.frames.errors import Refused
-from ruzgalt.frames.kinds import Kind
-from ruzgalt.frames.named import with_levels
+from ruzgalt.convert import checks, points
+from ruzgalt.convert.errors import Refused
+from ruzgalt.convert.kinds import Kind
+from ruzgalt.frames import groups, split
+from ruzgalt.frames.answer import period_of
 from ruzgalt.frames.options import Options
 from ruzgalt.kernel import library, threads
 from ruzgalt.kernel.library import Rows
@@ -19,11 +20,12 @@ from ruzgalt.kernel.library import Rows
 SHOWN = 10
 # The number that the library has for an overlap of two rows of a part.
 OVERLAP = 6
-OTHERWISE = "agg(frame, 'count') has the number of parts, its greatest count, and the instant, at which that begins"
-REMEDY = "its parts are division.parts, as in frame.assign(part=division.parts)"
+OTHERWISE = "agg(frame, 'count') has the number of parts as its greatest count, and the instant as that period's start"
+REMEDY = "its parts are division.parts: frame.assign(part=division.parts)"
 OPERATIONS = """eq ne lt le gt ge add radd sub rsub mul rmul truediv rtruediv floordiv rfloordiv mod rmod pow rpow
-and rand or ror xor rxor neg pos abs invert bool int float index len iter getitem setitem contains array"""
-# The parts of a frame's division are a Series, those of a store's a DataFrame.
+and rand or ror xor rxor neg pos abs invert bool int float index len iter getitem setitem contains array
+array_function"""
+# A Series for a frame's division, a DataFrame for a store's.
 Parts = TypeVar("Parts")
 
 
@@ -41,8 +43,8 @@ class Division(Generic[Parts]):
     count : int
         How many parts there are. With groups it is a Series of them, by group.
     instant : point or None
-        The first point at which that many rows hold, so that fewer parts aren't enough. It has the type of the rows'
-        starts, and is None if there are no rows. With groups it is a Series.
+        The first point when `count` rows hold, so that fewer parts aren't enough. It has the type of the rows'
+        starts, and is None without rows. With groups it is a Series.
 
     Examples
     --------
@@ -53,8 +55,6 @@ class Division(Generic[Parts]):
     2 parts of 2 rows, as many as hold at 2024-01-03 00:00:00
     >>> division.count, division.instant, division.parts.tolist()
     (2, Timestamp('2024-01-03 00:00:00'), [0, 1])
-    >>> stay.assign(part=division.parts)["part"].tolist()
-    [0, 1]
     >>> ruzgalt.dip(stay.assign(ward=["A", "B"]), by="ward")
     2 rows in 2 groups of 1 part
     'A': 1 part, as many as hold at 2024-01-01 00:00:00
@@ -151,7 +151,8 @@ class Checked:
             one, other = map(shown, self.rows)
             times = " to ".join(str(point).replace(" 00:00:00", "") for point in (self.start, self.end))
             return f"No: rows {one} and {other} of part {shown(self.part)} both hold from {times}."
-        number = f"The rows have {many(self.count, 'part')}, and {self.least:,} are enough"
+        enough = "is enough" if self.least == 1 else "are enough"
+        number = f"The rows have {many(self.count, 'part')}, and {self.least:,} {enough}"
         if self.count == self.least:
             number = f"Fewer than {many(self.count, 'part')} aren't enough"
         return f"Yes: no two rows of a part hold at one time. {number}."
@@ -159,49 +160,41 @@ class Checked:
 
 def check(frame: Any, options: Options) -> Checked:
     """Checks the division whose parts are the values of `by`."""
-    by = options.by or ()
-    if not by:
+    if not options.by:
         raise checks.wrong("part", None, "must be the name of a column, or a list of names")
-    whole = with_levels(frame, by)
-    side = groups.side_of(whole, [], options)
-    doubts.of_frame(whole, side, [], options)
+    whole, side, codes, firsts, _ = groups.grouped(frame, [], options)
     refuse_many(len(side), "a frame")
-    codes, firsts = groups.group_codes(side, len(by))
-    _, least, second = ask.answer(library.dip, side.start, side.end)
+    _, least, second = split.answer(library.dip, side.start, side.end)
     count = len(firsts) if len(side) else 0
-    found = ask.answer(library.check, side.start, side.end, codes.codes, count, second or 0)
+    found = split.answer(library.check, side.start, side.end, codes.codes, count, second or 0)
     if found[0] != OVERLAP:
         return Checked(count, least)
     rows = np.array(found[1:], np.int64)
-    part = tuple(cells.iloc[0] for _, cells in groups.groups_at(whole, by, rows[:1]))
-    period = pairs.period_of(side.start[rows].max(keepdims=True), side.end[rows].min(keepdims=True), [side], options,
-                             options.form)
-    bounds = [cells.iloc[0] for _, cells in period]
-    start, end = bounds if len(bounds) == 2 else (bounds[0].left, bounds[0].right)
-    return Checked(count, least, tuple(frame.index[rows]), part if len(part) > 1 else part[0], start, end)
+    part = [pythons(cells.iloc[0]) for _, cells in groups.groups_at(whole, options.by, rows[:1])]
+    start, end = side.start[rows].max(keepdims=True), side.end[rows].min(keepdims=True)
+    bounds = [cells.iloc[0] for _, cells in period_of(start, end, [side], options, options.form)]
+    first, last = bounds if len(bounds) == 2 else (bounds[0].left, bounds[0].right)
+    return Checked(count, least, tuple(frame.index[rows]), tuple(part) if len(part) > 1 else part[0], first, last)
+
+
+def pythons(cell: Any) -> Any:
+    """Returns a number of numpy as Python's own, other cells as they are."""
+    return cell.item() if isinstance(cell, np.generic) else cell
 
 
 def dip(frame: Any, options: Options) -> Division[Any]:
-    side = sides.side_of(frame, [], options.period, options.form, {})
-    doubts.of_frame(frame, side, [], options)
-    refuse_many(len(side), "a frame")
-    part, count, second = ask.answer(library.dip, side.start, side.end)
-    instant = None if second is None else point_of(second, side.kind)
-    return Division(pd.Series(part.astype(np.int64), frame.index, name="part"), count, instant)
-
-
-def dip_by(frame: Any, options: Options) -> Division[Any]:
-    """Of each group by itself."""
-    frame = with_levels(frame, options.by or ())
-    side = groups.side_of(frame, [], options)
-    doubts.of_frame(frame, side, side.columns, options)
-    codes, firsts = groups.group_codes(side, len(options.by or ()))
-    refuse_many(int(np.bincount(codes.codes).max(initial=0)), "a group")
-    part, counts, seconds = ask.answer(threads.dips, Rows(codes.codes, side.start, side.end), options.workers)
-    index = groups.index_at(frame, options.by or (), firsts)
-    count = pd.Series(counts, index, name="count")
+    """Divides the rows, or with `by` the rows of each group."""
+    by = options.by or ()
+    whole, side, codes, firsts, _ = groups.grouped(frame, [], options)
+    refuse_many(int(np.bincount(codes.codes).max(initial=0)), "a group" if by else "a frame")
+    rows = Rows(codes.codes, side.start, side.end)
+    part, counts, seconds = split.answer(threads.dips, rows, options.workers)
+    parts = pd.Series(part, frame.index, name="part")
+    if not by:
+        return Division(parts, *((int(counts[0]), point_of(seconds[0], side.kind)) if len(side) else (0, None)))
+    index = groups.index_at(whole, by, firsts)
     instant = points.series_of(seconds, side.kind, index).rename("instant")
-    return Division(pd.Series(part, frame.index, name="part"), count, instant)
+    return Division(parts, pd.Series(counts, index, name="count"), instant)
 
 
 def refuse_many(rows: int, what: str) -> None:

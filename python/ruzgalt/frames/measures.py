@@ -1,7 +1,7 @@
-"""What an aggregate answers of the rows that hold: one measure, or several at once.
+"""The measures of an aggregate: count, sum, min, max and mean, one or several at once.
 
-A mean is a sum by a count, in lowest terms until it is given back. Several measures are cut at the edges of all, so
-that all have one value in each period, and periods that follow one another with the same values are one.
+A mean is a sum divided by a count, a fraction in lowest terms until it is returned. Several measures are cut at the
+edges of all, so that each has one value in a period, and coalesced if successive periods have the same values.
 """
 from __future__ import annotations
 
@@ -10,23 +10,24 @@ from typing import Any, Dict, List, Mapping, Sequence, Tuple
 
 import numpy as np
 
-from ruzgalt.frames import checks, split
+from ruzgalt.convert import checks
+from ruzgalt.convert.arrays import Cells, Ints
+from ruzgalt.convert.errors import Refused
+from ruzgalt.convert.named import same
+from ruzgalt.convert.values import GREATEST, Values
+from ruzgalt.frames import split
 from ruzgalt.frames.answer import Column
-from ruzgalt.frames.arrays import Cells, Ints
-from ruzgalt.frames.ask import Found
-from ruzgalt.frames.errors import Refused
-from ruzgalt.frames.named import same
 from ruzgalt.frames.sides import Side
-from ruzgalt.frames.values import GREATEST, Values
+from ruzgalt.frames.split import Found
 
 FUNCTIONS = ("count", "sum", "min", "max", "mean")
-# A function of the library, and the column whose numbers come together, except for a count.
+# A function of the library, and the column whose numbers it takes, except for a count.
 Ask = Tuple[Any, ...]
 
 
 @dataclass(frozen=True)
 class Measure:
-    """A function, and the column of which it is; a count may have none."""
+    """A function and its column; a count may have no column."""
 
     function: str
     column: Any = None
@@ -34,17 +35,17 @@ class Measure:
 
     @property
     def name(self) -> str:
-        """Of the answer's column."""
+        """The name of the answer's column."""
         return f"{self.function}_{self.column}" if self.is_of_column else self.function
 
     @property
     def amount(self) -> Tuple[Any, ...]:
-        """The column whose numbers come together, where it has one."""
+        """The column whose numbers it takes, if any."""
         return (self.column,) if self.function not in ("count", "held") else ()
 
     @property
     def asks(self) -> Sequence[Ask]:
-        """What the library is asked for it."""
+        """The questions to the library."""
         if self == HELD:
             return [("max",)]
         functions = ("sum", "count") if self.function == "mean" else (self.function,)
@@ -54,12 +55,12 @@ class Measure:
 Measures = Sequence[Measure]
 # Floats hold each whole number up to this one.
 EXACT = 2**53
-# That some row holds, whichever: the greatest of a column that has 1 in each row. No column of an answer has it.
+# Whether some row holds: the greatest of a column that has 1 in each row. Answers don't have it as a column.
 HELD = Measure("held", None, False)
 
 
 def of_call(function: Any, column: Any) -> List[Measure]:
-    """What is given to a call: a function with its column, or a dict of columns with functions. Raises Refused."""
+    """Returns the measures of a call: of a function with its column, or of a dict of columns with functions."""
     if not isinstance(function, Mapping):
         refuse_call(function, column)
         return [Measure(function, same(column), column is not None)]
@@ -89,20 +90,24 @@ def refuse_call(function: Any, column: Any) -> None:
 
 
 def amounts_of(measures: Measures) -> List[Any]:
-    """The columns whose numbers come together, each once."""
+    """Returns the columns whose numbers the measures take, each once."""
     return list(dict.fromkeys(name for one in measures for name in one.amount))
 
 
 def refuse_texts(measures: Measures, columns: Mapping[Any, Values]) -> None:
-    for one in measures:
-        for name in one.amount:
-            if columns[name].kind != "int":
-                reason = f"{one.function} needs numbers, but these are texts; give texts by by="
-                raise Refused("WrongKind", reason, columns[name].name)
+    """Raises Refused for texts, and for min or max of a category that has another order than its numbers."""
+    for function, column in ((one.function, columns[name]) for one in measures for name in one.amount):
+        if column.kind != "int":
+            reason = f"{function} needs numbers, but these are texts; give texts by by="
+            raise Refused("WrongKind", reason, column.name)
+        is_ordered = getattr(column.dtype, "ordered", False) and not column.dtype.categories.is_monotonic_increasing
+        if is_ordered and function in ("min", "max"):
+            reason = f"{function} needs numbers, but this category has another order"
+            raise Refused("WrongKind", f"{reason}; .astype('int64') makes numbers of it", column.name)
 
 
 def asks_of(measures: Measures) -> List[Ask]:
-    """What the library is asked for them, each once."""
+    """Returns the questions to the library, each once."""
     return list(dict.fromkeys(asked for one in measures for asked in one.asks))
 
 
@@ -114,7 +119,8 @@ def measured(side: Side, columns: Mapping[Any, Values], measures: Measures, work
 def answers(side: Side, columns: Mapping[Any, Values], measures: Measures, workers: int) -> Dict[Ask, Found]:
     """Returns the library's answer to each ask of the measures."""
     def answer(asked: Ask) -> Found:
-        amounts = [columns[name] for name in asked[1:]] or ([ones(len(side))] if asked[0] != "count" else [])
+        ones = Values(None, "int", np.ones(len(side), np.int64))
+        amounts = [columns[name] for name in asked[1:]] or ([ones] if asked[0] != "count" else [])
         return split.agg(replace(side, columns=[*side.columns, *amounts]), asked[0], workers)
 
     return {asked: answer(asked) for asked in asks_of(measures)}
@@ -128,12 +134,8 @@ def together(found: Mapping[Ask, Found], measures: Measures) -> Found:
     return (start, end, group, *values) if len(found) == 1 else closed_up((start, end, group, *values))
 
 
-def ones(count: int) -> Values:
-    return Values(None, "int", np.ones(count, np.int64))
-
-
 def in_lowest_terms(value: Cells, *count: Cells) -> Sequence[Cells]:
-    """A value as it is, or a sum and a count as the fraction that is their mean: equal exactly where means are."""
+    """Returns a value, or a sum and a count as the fraction that is their mean: equal exactly if the means are."""
     if not count:
         return [value]
     # The rest has the same divisors with the count, and no sign.
@@ -142,10 +144,10 @@ def in_lowest_terms(value: Cells, *count: Cells) -> Sequence[Cells]:
 
 
 def cut_at_all(found: Sequence[Found]) -> Found:
-    """Aggregates of the same rows, each cut where one of them is: start, end and group, and the value of each.
+    """Cuts aggregates of the same rows at the edges of all. Returns start, end, group, and the value of each aggregate.
 
-    All have values at the same time of a group. So a period begins where a row of any does, and until the first of
-    those that hold there ends.
+    All have values at the same time of a group. So a period begins at the start of any row, and ends at the first end
+    of the rows that hold there.
     """
     if len(found) == 1 or not len(found[0][0]):
         return (*found[0][:3], *(one[3] for one in found))
@@ -157,29 +159,22 @@ def cut_at_all(found: Sequence[Found]) -> Found:
     ranks[order] = np.cumsum(is_new) - 1
     firsts = order[is_new]
     begins = np.split(ranks, np.cumsum([len(one[0]) for one in found])[:-1])
-    rows = [held_at(begun, len(firsts)) for begun in begins]
+    # The last row of each aggregate that began at or before each start.
+    rows = [np.cumsum(np.bincount(begun, minlength=len(firsts))) - 1 for begun in begins]
     end = np.minimum.reduce([one[1][row] for one, row in zip(found, rows)])
     return (start[firsts], end, group[firsts], *(one[3][row] for one, row in zip(found, rows)))
 
 
 def by_group(start: Ints, group: Ints) -> Ints:
-    """The order by group and start of rows several stretches of which are in order: by one number, where it fits."""
+    """Returns the order by group and start. Rows are several sorted lists, so sorting by one number is fast."""
     low, many = int(start.min()), int(start.max()) - int(start.min()) + 1
     fits = (int(group.max()) + 1) * many <= GREATEST
     order: Ints = np.argsort(group * many + (start - low), kind="stable") if fits else np.lexsort((start, group))
     return order
 
 
-def held_at(begins: Ints, count: int) -> Ints:
-    """The last row that began at or before each of so many places, of rows that begin at these."""
-    is_begun = np.zeros(count, np.int64)
-    is_begun[begins] = 1
-    rows: Ints = np.cumsum(is_begun) - 1
-    return rows
-
-
 def closed_up(found: Found) -> Found:
-    """One row in place of several that follow one another, and differ in their periods alone."""
+    """Coalesces rows that follow one another and differ only in their periods."""
     start, end, *columns = found
     is_new = np.ones(len(start), bool)
     is_new[1:] = start[1:] != end[:-1]
@@ -198,7 +193,7 @@ def columns_of(values: Sequence[Cells], measures: Measures, columns: Mapping[Any
 
 
 def restored(value: Sequence[Cells], measure: Measure, columns: Mapping[Any, Values]) -> Any:
-    """A least or greatest value is of the column's dtype, so is a sum of decimals; other sums are int64 or longer."""
+    """Returns min, max and a sum of decimals in the column's dtype, other sums as int64 or Python's numbers."""
     if measure.function == "count":
         return value[0]
     column = columns[measure.column]
@@ -208,7 +203,7 @@ def restored(value: Sequence[Cells], measure: Measure, columns: Mapping[Any, Val
 
 
 def nearest(above: Cells, below: Cells, scale: int) -> Cells:
-    """The floats nearest to fractions. Where floats hold both numbers, their division is that; else Python's is."""
+    """Returns the floats nearest to fractions: numpy's division if floats hold both numbers, otherwise Python's."""
     is_held = np.asarray((-EXACT <= above) & (above <= EXACT) & (below <= EXACT // scale), bool)
     found = np.empty(len(above), "f8")
     found[is_held] = above[is_held].astype("f8") / (below[is_held].astype("f8") * scale)

@@ -15,15 +15,15 @@ import dask.dataframe as dd
 import numpy as np
 import pandas as pd
 
-from ruzgalt.frames import doubts, groups, measures, pairs, split, values
-from ruzgalt.frames.answer import Columns
-from ruzgalt.frames.ask import Found
-from ruzgalt.frames.errors import Refused
+from ruzgalt.convert import values
+from ruzgalt.convert.errors import Refused
+from ruzgalt.convert.named import column_of, names_of, with_levels
+from ruzgalt.frames import doubts, groups, measures, split
+from ruzgalt.frames.answer import with_labels_twice
 from ruzgalt.frames.measures import Ask, Measures
-from ruzgalt.frames.named import column_of, names_of, with_levels
-from ruzgalt.frames.options import Names, Options, compared
-from ruzgalt.frames.pairs import with_labels_twice
+from ruzgalt.frames.options import Options
 from ruzgalt.frames.sides import Period
+from ruzgalt.frames.split import Found
 from ruzgalt.frames.worker import sent
 
 # Columns that are added while rows are sent, and one that Dask itself adds.
@@ -34,7 +34,7 @@ HOW = {"shuffle_method" if "shuffle_method" in WORDS else "shuffle": "tasks"}
 # Partitions whose answers are combined at once.
 COMBINED = 16
 INTERVALS = "Dask can't send intervals: give two columns, their .array.left and .array.right"
-OBJECTS = "objects, of which a partition doesn't know the others' kind; .astype('datetime64[s]') makes one kind of all"
+OBJECTS = "objects: a partition doesn't know the kind of the others; .astype('datetime64[s]') makes one kind of all"
 Answers = Dict[Ask, Found]
 
 
@@ -63,10 +63,9 @@ def as_one(frame: Any) -> Any:
     return dd.from_delayed([dask.delayed(frame)], meta=frame.iloc[:0], verify_meta=False)
 
 
-def paired(asked: Callable[..., Any], left: Any, right: Any, on: Names, options: Options) -> Any:
+def paired(asked: Callable[..., Any], left: Any, right: Any, options: Options) -> Any:
     """Returns the answers of two frames' partitions. One of the frames may be of pandas."""
-    options = replace(options, is_part=True)
-    names = compared(on, options)
+    options, names = replace(options, is_part=True), options.keys
     if not names[0]:
         raise Refused("BadCommand", "frames of Dask need on=: without it, each row may meet each")
     spread = [frame if isinstance(frame, dd.DataFrame) else with_labels_flat(frame) for frame in (left, right)]
@@ -74,13 +73,13 @@ def paired(asked: Callable[..., Any], left: Any, right: Any, on: Names, options:
     for meta, period in zip(metas, options.periods):
         refuse_unsent(meta, period)
     doubts.of_decimals(options.decimals, *map(with_levels, metas, names))
-    meta = asked(metas[0], metas[1], on, options)
+    meta = asked(*metas, options)
     with keeping_objects(meta, *metas):
         frames = [frame if isinstance(frame, dd.DataFrame) else as_one(frame) for frame in spread]
         parts = max(frame.npartitions for frame in frames)
         rows = [by_value(frame, own, options.decimals, parts) for frame, own in zip(frames, names)]
         words = {"meta": meta, "align_dataframes": False, "transform_divisions": False}
-        return dd.map_partitions(sent(asked, on, options), *rows, **words)
+        return dd.map_partitions(sent(asked, options), *rows, **words)
 
 
 def with_labels_flat(frame: Any) -> Any:
@@ -106,10 +105,11 @@ def parted(frame: Any, asked: Callable[..., Any], span: Any, options: Options) -
 
 
 def grouped(asked: Callable[..., Any], frame: Any, given: Sequence[Any], options: Options) -> Any:
-    """Returns the answers of a frame's partitions, each of which has all rows of its groups."""
-    by, options = options.by or (), replace(options, is_part=True)
+    """Returns the answers of a frame's partitions. Each has all rows of its groups."""
     refuse_unsent(frame._meta, options.period)
-    doubts.of_decimals(options.decimals, with_levels(frame._meta, by))
+    # Warns of possible mistakes in the options.
+    groups.grouped(frame._meta, [], options)
+    by, options = options.by or (), replace(options, is_part=True)
     if not by and asked is not groups.agg:
         raise Refused("BadCommand", "a frame of Dask needs by=: without it, all rows belong together")
     meta = asked(frame._meta, *given, options)
@@ -134,27 +134,26 @@ def delayed(function: Callable[..., Any], *given: Any) -> Any:
 
 
 def answers_of(frame: Any, asked: Measures, options: Options) -> Answers:
-    side = groups.side_of(frame, asked, options)
-    numbered = replace(side, columns=[groups.group_codes(side, 0)[0]])
-    return measures.answers(numbered, groups.amounts_in(side, asked), asked, options.workers)
+    rows = groups.grouped(frame, asked, options)
+    numbered = replace(rows.side, columns=[rows.codes])
+    return measures.answers(numbered, groups.amounts_in(rows.side, asked), asked, options.workers)
 
 
 def combined(found: Sequence[Answers], workers: int) -> Answers:
-    """Returns the answers of all rows, from those of some of them each. Counts are added."""
-    rows = {ask: split.rows_of(split.all_of([one[ask] for one in found])) for ask in found[0]}
+    """Returns the answers of all rows, from the answers of some rows each. Counts are added."""
+    rows = {ask: split.side_of(split.all_of([one[ask] for one in found])) for ask in found[0]}
     return {ask: split.agg(side, "sum" if ask[0] == "count" else ask[0], workers) for ask, side in rows.items()}
 
 
 def framed(found: Answers, asked: Measures, options: Options, meta: Any) -> Any:
-    side = groups.side_of(meta, asked, options)
-    start, end, _, *cells = measures.together(found, asked)
-    columns = Columns(pairs.period_of(start, end, [side], options, options.form))
-    columns.add(measures.columns_of(cells, asked, groups.amounts_in(side, asked)))
-    return columns.frame()
+    rows = groups.grouped(meta, asked, options)
+    start, end, group, *cells = measures.together(found, asked)
+    values = measures.columns_of(cells, asked, groups.amounts_in(rows.side, asked))
+    return groups.framed(rows, start, end, group, values, options)
 
 
 def by_value(frame: Any, names: Sequence[Any], decimals: Mapping[Any, int], parts: int) -> Any:
-    """Returns the rows, those of equal values in one partition."""
+    """Returns the rows, with all rows of equal values in one partition."""
     meta = frame._meta
     for name in (PART, LABEL, OF_DASK):
         if name in names_of(frame):

@@ -1,9 +1,9 @@
-"""Rows past the library's limit in parts that it takes, and the parts' answers put together.
+"""Calls of the library over rows. If there are too many rows for a call, they are split, and the answers combined.
 
-Rows of different values never meet, so whole values go into parts. A value that is too much for a call is cut by time:
-rows are clipped at the cut, each half is answered, and periods that go on over the cut are joined. If too many rows
-hold at one time for that, rows go into blocks. A join pairs each block of left rows with each block of right ones. In
-an anti-join each block of right rows leaves less of the left ones. The answers of an aggregate's blocks are the rows
+Rows of different values never meet, so whole values go into parts. A value with too many rows for a call is cut by
+time: rows are clipped at the cut, each half is answered, and periods that go on over the cut are joined. If too many
+rows hold at one time for that, rows go into blocks. A join pairs each block of left rows with each block of right ones.
+In an anti-join each block of right rows leaves less of the left ones. The answers of an aggregate's blocks are the rows
 of another one.
 """
 from __future__ import annotations
@@ -12,21 +12,69 @@ from typing import Any, Callable, Iterator, List, Sequence, Tuple
 
 import numpy as np
 
-from ruzgalt.frames import ask
-from ruzgalt.frames.arrays import Cells, Ints
-from ruzgalt.frames.ask import Found
-from ruzgalt.frames.classes import with_classes
-from ruzgalt.frames.errors import Refused
-from ruzgalt.frames.sides import Side, together
-from ruzgalt.frames.values import Values
+from ruzgalt.convert.arrays import NO_INTS, Cells, Ints
+from ruzgalt.convert.errors import Refused
+from ruzgalt.convert.values import Values
+from ruzgalt.errors import Stopped
+from ruzgalt.frames import worker
+from ruzgalt.frames.sides import Side, together, with_codes
 from ruzgalt.kernel import library, threads
+from ruzgalt.kernel.library import Rows
 
 # A call takes that many rows of a side; less in tests.
 ROWS = library.ROWS
-# A cut by time is worth its while if at most one row of four holds on both sides of it.
+# A cut by time pays if at most one row of four holds on both sides of it.
 HELD = 4
+# The columns of an answer: start, end, and what its rows differ in.
+Found = Tuple[Cells, ...]
 Sides = Sequence[Side]
 Asked = Callable[[Sides], Found]
+
+
+def answer(asked: Callable[..., Any], *given: Any) -> Any:
+    """Calls a function of the library. Raises Stopped, which names the worker of Dask that called it."""
+    try:
+        return asked(*given)
+    except Stopped as ended:
+        place = worker.place()
+        raise type(ended)(f"{ended};{place}" if place else str(ended)) from None
+
+
+def rows_of(side: Side) -> Rows:
+    """Returns the rows with the codes of their only column as classes. Without a column they have one class."""
+    classes = side.columns[0].codes if side.columns else np.zeros(len(side), np.int64)
+    return Rows(classes, side.start, side.end)
+
+
+def pairs_of(sides: Sides, workers: int) -> Found:
+    """Returns start, end, index of the left row and index of the right row of a join, in this order, by one call."""
+    left, right = sides
+    if not len(left) or not len(right):
+        return (NO_INTS,) * 4
+    one, other, start, end = answer(threads.join, *map(rows_of, sides), workers)
+    return start, end, left.places[one], right.places[other]
+
+
+def rest_of(sides: Sides, workers: int) -> Side:
+    """Returns the rest of the left rows of an anti-join, by index and start, by one call."""
+    left, right = sides
+    if not len(left) or not len(right):
+        return left
+    index, start, end = answer(threads.anti, *map(rows_of, sides), workers)
+    return left.take(index).during(start, end)
+
+
+def found_of(side: Side) -> Found:
+    return side.start, side.end, side.places
+
+
+def steps_of(side: Side, function: str, workers: int) -> Found:
+    """Returns start, end, group and value of an aggregate, by one call.
+
+    The side has a column of groups and, except for `count`, one of amounts.
+    """
+    group, start, end, value = answer(threads.agg, rows_of(side), side.columns[-1].codes, function, workers)
+    return start, end, group, value
 
 
 def fits(sides: Sides) -> bool:
@@ -46,41 +94,33 @@ def over_time(sides: Sides, asked: Asked, otherwise: Asked) -> Found:
     """Returns the answer of rows that may be too many for a call, by `otherwise` if a cut parts too few of them."""
     if fits(sides) or not all(map(len, sides)):
         return asked(sides)
-    cut = middle_of(sides)
-    before, behind = [side.clipped(None, cut) for side in sides], [side.clipped(cut, None) for side in sides]
-    counts = [sum(map(len, one)) for one in (sides, before, behind)]
+    seconds = np.concatenate([times for side in sides for times in (side.start, side.end)])
+    cut = int(np.partition(seconds, len(seconds) // 2)[len(seconds) // 2])
+    before, after = [side.clipped(None, cut) for side in sides], [side.clipped(cut, None) for side in sides]
+    counts = [sum(map(len, one)) for one in (sides, before, after)]
     if counts[1] + counts[2] > counts[0] + counts[0] // HELD or max(counts[1:]) == counts[0]:
         return otherwise(sides)
-    first, second = (over_time(half, asked, otherwise) for half in (before, behind))
+    first, second = (over_time(half, asked, otherwise) for half in (before, after))
     return closed_up(first, second, cut)
 
 
-def middle_of(sides: Sides) -> int:
-    """Returns the median of all starts and ends."""
-    seconds = np.concatenate([times for side in sides for times in (side.start, side.end)])
-    return int(np.partition(seconds, len(seconds) // 2)[len(seconds) // 2])
-
-
-def closed_up(before: Found, behind: Found, cut: int) -> Found:
+def closed_up(before: Found, after: Found, cut: int) -> Found:
     """Returns both answers, with one row for two that meet at the cut and have equal columns after start and end."""
-    ending, starting = np.flatnonzero(before[1] == cut), np.flatnonzero(behind[0] == cut)
-    pairs = matches([column[ending] for column in before[2:]], [column[starting] for column in behind[2:]])
+    ending, starting = np.flatnonzero(before[1] == cut), np.flatnonzero(after[0] == cut)
+    pairs = matches([column[ending] for column in before[2:]], [column[starting] for column in after[2:]])
     first, second = ending[pairs[0]], starting[pairs[1]]
     end = before[1].copy()
-    end[first] = behind[1][second]
-    is_left = np.ones(len(behind[0]), bool)
+    end[first] = after[1][second]
+    is_left = np.ones(len(after[0]), bool)
     is_left[second] = False
-    return tuple(np.concatenate([one, other[is_left]]) for one, other in zip((before[0], end, *before[2:]), behind))
-
-
-def rows(columns: List[Cells]) -> Iterator[Tuple[Any, ...]]:
-    return zip(*(column.tolist() for column in columns))
+    return tuple(np.concatenate([one, other[is_left]]) for one, other in zip((before[0], end, *before[2:]), after))
 
 
 def matches(left: List[Cells], right: List[Cells]) -> Tuple[Ints, Ints]:
     """Returns the indices of equal rows; a side has each row once. By Python's numbers, since sums may be long."""
-    places = {row: place for place, row in enumerate(rows(left))}
-    found = [(places[row], place) for place, row in enumerate(rows(right)) if row in places]
+    rows = [list(zip(*(column.tolist() for column in columns))) for columns in (left, right)]
+    places = {row: place for place, row in enumerate(rows[0])}
+    found = [(places[row], place) for place, row in enumerate(rows[1]) if row in places]
     return np.array([one for one, _ in found], np.int64), np.array([other for _, other in found], np.int64)
 
 
@@ -91,12 +131,12 @@ def all_of(found: List[Found]) -> Found:
 def join(sides: Sides, workers: int) -> Found:
     """Returns start, end, index of the left row and index of the right row, in this order."""
     def asked(part: Sides) -> Found:
-        return ask.join(part, workers)
+        return pairs_of(part, workers)
 
     def by_blocks(part: Sides) -> Found:
         return all_of([asked([left, right]) for left in part[0].blocks(ROWS) for right in part[1].blocks(ROWS)])
 
-    sides = with_classes(sides)
+    sides = with_codes(sides)
     if fits(sides):
         return asked(sides)
     return by_period(all_of([over_time(part, asked, by_blocks) for part in by_value(sides)]))
@@ -110,35 +150,25 @@ def by_period(found: Found) -> Found:
 def anti(sides: Sides, workers: int) -> Found:
     """Returns start, end and index of the rest of the left rows, by index and start."""
     def asked(part: Sides) -> Found:
-        return found_of(ask.anti(part, workers))
+        return found_of(rest_of(part, workers))
 
     def by_blocks(part: Sides) -> Found:
         left = part[0]
         for right in part[1].blocks(ROWS):
-            left = together([left_of(block, asked([block, right])) for block in left.blocks(ROWS)] or [left])
+            left = together([rest_of([block, right], workers) for block in left.blocks(ROWS)] or [left])
         return found_of(left)
 
-    sides = with_classes(sides)
+    sides = with_codes(sides)
     if fits(sides):
         return asked(sides)
     found = all_of([over_time(part, asked, by_blocks) for part in by_value(sides)])
     return tuple(threads.in_order(found, found[2]))
 
 
-def found_of(side: Side) -> Found:
-    return side.start, side.end, side.places
-
-
-def left_of(side: Side, found: Found) -> Side:
-    """Returns the rest of rows as rows. Their indices rise."""
-    start, end, places = found
-    return side.take(np.searchsorted(side.places, places)).during(start, end)
-
-
 def agg(side: Side, function: str, workers: int) -> Found:
-    """Returns start, end, group and value, by group and start. The side has the same columns as for ask.agg."""
+    """Returns start, end, group and value, by group and start. The side has the columns that steps_of needs."""
     def asked(part: Sides) -> Found:
-        return ask.agg(part[0], function, workers)
+        return steps_of(part[0], function, workers)
 
     def by_blocks(part: Sides) -> Found:
         blocks = part[0].blocks(ROWS)
@@ -146,14 +176,14 @@ def agg(side: Side, function: str, workers: int) -> Found:
         if len(blocks) > ROWS // HELD:
             raise Refused("Full", f"{len(part[0]):,} rows of one value at one time are too many")
         found = all_of([asked([block]) for block in blocks])
-        return agg(rows_of(found), "sum" if function == "count" else function, workers)
+        return agg(side_of(found), "sum" if function == "count" else function, workers)
 
     if fits([side]):
         return asked([side])
     return all_of([over_time(part, asked, by_blocks) for part in by_value([side])])
 
 
-def rows_of(found: Found) -> Side:
+def side_of(found: Found) -> Side:
     """Returns the answers of some aggregates as rows."""
     start, end, group, value = found
     if value.dtype == object:

@@ -7,9 +7,9 @@ from typing import Any, Callable, Optional, Tuple
 
 
 def sent_whole() -> Tuple[Callable[[], Optional[Any]], Callable[[], str]]:
-    """Functions within one are sent by what they do, and not by their names: so they work where this package isn't."""
+    """Returns two functions. They are sent to workers by content, not by name, so they work without this package."""
     def current() -> Optional[Any]:
-        """The worker of this task; None elsewhere."""
+        """Returns the worker of this task, or None."""
         distributed = sys.modules.get("distributed")
         try:
             return distributed.get_worker() if distributed is not None else None
@@ -17,7 +17,7 @@ def sent_whole() -> Tuple[Callable[[], Optional[Any]], Callable[[], str]]:
             return None
 
     def place() -> str:
-        """The worker of this task by its name, its address and its host, to be put after a word; elsewhere nothing."""
+        """Returns " on worker NAME at ADDRESS of HOST" for the worker of this task, or nothing."""
         worker = current()
         if worker is None:
             return ""
@@ -31,17 +31,17 @@ current, place = sent_whole()
 
 
 def memory() -> Optional[int]:
-    """So many bytes a run of the program may take: of a worker's limit one part in as many as it runs at once."""
+    """Returns the bytes that a run of the program may take: a worker's limit divided by its number of threads."""
     worker = current()
     limit = worker.memory_manager.memory_limit if worker is not None else None
     return limit // worker.state.nthreads if worker is not None and limit else None
 
 
 def sent(function: Callable[..., Any], *given: Any) -> Callable[..., Any]:
-    """The function of partitions, with what is given after them, as any worker can be asked for it.
+    """Returns a function of partitions, with further arguments, that any worker can unpickle.
 
-    It goes as bytes that are read when it is called. A worker without this package couldn't read it before, and Dask
-    doesn't say which worker that was.
+    It contains bytes that are unpickled when it is called. Otherwise a worker without this package would fail before,
+    and Dask wouldn't say which worker that was.
     """
     import cloudpickle  # type: ignore[import]  # Debian's has no types.
     packed = cloudpickle.dumps((function, given))

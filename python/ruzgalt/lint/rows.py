@@ -1,8 +1,10 @@
-"""Possible mistakes in rows that are loaded: each is reported once a column, with a count and a line."""
+"""Possible mistakes in rows that are loaded. A rule gets the rows in pieces, and its notes have a count and a line."""
 from array import array
 from collections import Counter
+from functools import lru_cache
 from itertools import chain
-from typing import Counter as Counts, Dict, Iterable, Iterator, List, NamedTuple, Optional, Sequence, Set, Tuple
+from typing import Counter as Counts, Dict, Iterable, Iterator, List, NamedTuple, Optional, Protocol, Sequence, Set
+from typing import Tuple
 
 from ruzgalt.script.forms import is_far_off, is_month_end, shifted
 from ruzgalt.script.records import visible
@@ -15,52 +17,53 @@ class Doubt(NamedTuple):
     why: str
 
 
-class Counted:
-    """How many rows have a doubt of one kind, and the first of them."""
-
-    def __init__(self, line: int, value: str, why: str) -> None:
-        self.line, self.value, self.why, self.count = line, value, why, 0
-
-
 class Notes:
-    """The notes on a file, by column and kind."""
+    """Possible mistakes in values, by column and kind: the first line and value, why, and how many there are."""
 
     def __init__(self) -> None:
-        self.found: Dict[Tuple[str, str], Counted] = {}
+        self.found: Dict[Tuple[str, str], Tuple[int, str, str]] = {}
+        self.counts: Counts[Tuple[str, str]] = Counter()
+
+    def add(self, name: str, doubt: Doubt, line: int, value: str) -> None:
+        self.found.setdefault((name, doubt.kind), (line, value, doubt.why))
+        self.counts[name, doubt.kind] += 1
 
     def count(self, name: str, doubts: Dict[str, Doubt], lines: Sequence[int], values: Sequence[str]) -> None:
         """Counts the rows of a piece that have a value with a doubt."""
-        if not doubts or doubts.keys().isdisjoint(values):
-            return
-        for line, value in zip(lines, values):
-            doubt = doubts.get(value)
-            if doubt:
-                self.found.setdefault((name, doubt.kind), Counted(line, value, doubt.why)).count += 1
+        if not doubts.keys().isdisjoint(values):
+            for line, value in zip(lines, values):
+                if value in doubts:
+                    self.add(name, doubts[value], line, value)
+
+    def notes(self, keys: Optional[Iterable[Tuple[str, str]]] = None) -> Iterator[str]:
+        """Yields the notes of these columns and kinds, or all."""
+        for key in self.found if keys is None else keys:
+            (name, _), (line, value, why), count = key, self.found[key], self.counts[key]
+            more = f", and {count - 1} more rows" if count > 1 else ""
+            yield f"{visible(name)} is '{visible(value)}', and is loaded as that: {why} (line {line}{more})"
+
+
+class Rule(Protocol):
+    """A rule about rows together. Each row has a line, a key, a start, an end and values, as they are loaded."""
+
+    def add(self, lines: Sequence[int], keys: Sequence[object], *columns: Sequence[str]) -> None:
+        """Adds a piece of the rows, by columns: starts, ends and values."""
 
     def notes(self) -> Iterator[str]:
-        for (name, _), one in self.found.items():
-            more = f", and {one.count - 1} more rows" if one.count > 1 else ""
-            yield f"{name} is '{visible(one.value)}', and is loaded as that: {one.why} (line {one.line}{more})"
+        """Yields what the rule finds in all of them."""
 
 
-class Days(Dict[str, str]):
-    """The day `distance` days after each day, computed once; an empty text for an unknown end."""
-
-    def __init__(self, distance: int) -> None:
-        super().__init__()
-        self.distance = distance
-
-    def __missing__(self, day: str) -> str:
-        found = self[day] = shifted(day, self.distance) if day < "9999" else ""
-        return found
+@lru_cache(1 << 16)
+def moved(day: str, distance: int) -> str:
+    """Returns the day `distance` days after a day; an empty text for an unknown end."""
+    return shifted(day, distance) if day < "9999" else ""
 
 
 class Ends:
     """Whether ends look like last days where they are taken for the days after them, or the other way round.
 
     Of rows with one key some start on the end of another, and some on the day after it; ends are last days of months
-    or first ones. A row is kept as hashes of its key with a point, since there may be a million, and these are compared
-    when all are there.
+    or first ones. A row is kept as hashes of its key with a point, since there may be a million.
 
     An end that is read as the day after is doubtful only in two ways. Another row of its key starts on the day
     after that, and none on the end itself: as it is read, no row of the key has that day. Or it is the last day of a
@@ -71,20 +74,19 @@ class Ends:
         self.name, self.key, self.is_last_day = name, key, is_last_day
         self.lines: List[Sequence[int]] = []
         # For each row the key with its start, with its end as written, and with the day after.
-        self.starts, self.same, self.behind = array("q"), array("q"), array("q")
-        # The days after, or before, and how often each end, and each start, is there, since days repeat.
-        self.days = Days(-1 if is_last_day else 1)
+        self.starts, self.same, self.next = array("q"), array("q"), array("q")
+        # How often each end as written, and each start, is there.
         self.counts: Counts[str] = Counter()
         self.begins: Counts[str] = Counter()
 
-    def add(self, lines: Sequence[int], keys: Sequence[object], starts: Sequence[str], ends: Sequence[str]) -> None:
-        """Adds rows with their points as they are loaded."""
-        others = list(map(self.days.__getitem__, ends))
-        written, behind = (others, ends) if self.is_last_day else (ends, others)
+    def add(self, lines: Sequence[int], keys: Sequence[object], *columns: Sequence[str]) -> None:
+        starts, ends = columns[:2]
+        others = [moved(end, -1 if self.is_last_day else 1) for end in ends]
+        written, after = (others, ends) if self.is_last_day else (ends, others)
         # A row of one day doesn't meet itself.
         met = ["" if start == end else end for start, end in zip(starts, written)] if self.is_last_day else written
         self.lines.append(lines)
-        for numbers, points in ((self.starts, starts), (self.same, met), (self.behind, behind)):
+        for numbers, points in ((self.starts, starts), (self.same, met), (self.next, after)):
             numbers.extend(map(hash, zip(keys, points)))
         self.counts.update(written)
         self.begins.update(starts)
@@ -92,26 +94,25 @@ class Ends:
     def notes(self) -> Iterator[str]:
         starts = set(self.starts)
         # How many rows another one of their key meets.
-        on_end, on_next = (sum(map(starts.__contains__, ends)) for ends in (self.same, self.days_behind(starts)))
-        if on_end or on_next:
-            is_odd = on_end >= on_next if self.is_last_day else on_next >= on_end
-            if is_odd or (on_end and on_next):
-                yield self.meetings(starts, on_end, on_next, is_odd)
-                return
-        yield from self.month_ends(on_next if self.is_last_day else on_end)
+        on_end, on_next = (sum(map(starts.__contains__, ends)) for ends in (self.same, self.days_after(starts)))
+        is_odd = on_end >= on_next if self.is_last_day else on_next >= on_end
+        if (on_end or on_next) and is_odd or on_end and on_next:
+            yield self.meetings(starts, on_end, on_next, is_odd)
+        else:
+            yield from self.month_ends(on_next if self.is_last_day else on_end)
 
-    def days_behind(self, starts: Set[int]) -> Iterable[Optional[int]]:
+    def days_after(self, starts: Set[int]) -> Iterable[Optional[int]]:
         """Yields for each row its key with the day after its end, or None if a row of the key starts on the end: of
         rows of one day each, every second one also starts after the end of another."""
         if self.is_last_day:
-            return self.behind
-        return (None if end in starts else behind for end, behind in zip(self.same, self.behind))
+            return self.next
+        return (None if end in starts else after for end, after in zip(self.same, self.next))
 
     def meetings(self, starts: Set[int], on_end: int, on_next: int, is_odd: bool) -> str:
-        behind = self.days_behind(starts)
         counts = " and ".join(
-            f"{count} start on {where} ({self.example_of(ends)})"
-            for count, where, ends in ((on_next, "the day after it", behind), (on_end, "it", self.same)) if count
+            f"{count} start on {where} ({self.example_of(ends)})" for count, where, ends in (
+                (on_next, "the day after it", self.days_after(starts)), (on_end, "it", self.same),
+            ) if count
         )
         remedy = self.remedy() if is_odd else "is it the last day in some rows, and the day after it in others?"
         other = f"one of the same {self.key}" if self.key else "another one"
@@ -122,54 +123,53 @@ class Ends:
         line, other = next((line, starts[end]) for line, end in zip(chain(*self.lines), ends) if end in starts)
         return f"line {other} after line {line}"
 
-    def equal_starts(self, are_deletes: bool) -> Iterator[str]:
-        """Reports updates, or deletes, of one key from one point on."""
-        pair = first_pair(self.starts, self.lines)
-        if pair:
-            word, which = ("deletes", "longer one is enough") if are_deletes else ("updates", "later one counts")
-            yield f"line {pair[0]} {word} the same {self.key} from the same point on as line {pair[1]}, and the {which}"
-
     def remedy(self) -> str:
         if self.is_last_day:
             return "--last-day reads it as the last day of a row; without it, the day before is the last"
         return "a row no longer holds on that day; --last-day reads it as the last one"
 
     def month_ends(self, meeting: int) -> Iterator[str]:
-        """Reports where nearly all ends are days of a month that look otherwise, and few rows meet as they are read."""
+        """Reports if nearly all ends are days of a month that look otherwise, and few rows meet as they are read."""
         known = [day for day in self.counts if day < "9999" and not is_far_off(day)]
         last_days, first_days = [day for day in known if is_month_end(day)], [day for day in known if day[8:] == "01"]
         ends, starts = (sum(map(self.counts.__getitem__, days)) for days in (last_days, first_days))
         odd, others, days = (starts, ends, first_days) if self.is_last_day else (ends, starts, last_days)
-        if odd > 4 * others and odd > 10 * meeting and (self.is_last_day or odd > 4 * (others + self.late_starts())):
+        # Entries of a diary that are made on last days start then.
+        late = 0 if self.is_last_day else sum(map(self.begins.__getitem__, filter(is_month_end, self.begins)))
+        if odd > 4 * (others + late) and odd > 10 * meeting:
             of_all = f"{ends} ends are last days of a month, {starts} are first days"
             yield f"{self.name} is {days[0]}: {self.remedy()} ({of_all})"
 
-    def late_starts(self) -> int:
-        """How many rows start on the last day of a month, as entries of a diary that are made then."""
-        return sum(map(self.begins.__getitem__, filter(is_month_end, self.begins)))
 
+class Changes:
+    """Reports changes of one key from one point on, and an update that takes back one before it: from an earlier point
+    on, and past its start."""
 
-class Overwrites:
-    """Reports an update that takes back one before it: of one key, from an earlier point on, and past its start."""
-
-    def __init__(self, key: str) -> None:
-        self.key = key
-        # The latest start of each key until now, and its line.
+    def __init__(self, key: str, are_deletes: bool) -> None:
+        self.key, self.are_deletes = key, are_deletes
+        # The latest start of each key until now, and its line; and the first line of each key and start.
         self.latest: Dict[object, Tuple[str, int]] = {}
-        self.found: List[Tuple[int, int]] = []
+        self.firsts: Dict[object, int] = {}
+        self.same: List[Tuple[int, int]] = []
+        self.earlier: List[Tuple[int, int]] = []
 
-    def add(self, lines: Sequence[int], keys: Sequence[object], starts: Sequence[str], ends: Sequence[str]) -> None:
-        for line, key, start, end in zip(lines, keys, starts, ends):
+    def add(self, lines: Sequence[int], keys: Sequence[object], *columns: Sequence[str]) -> None:
+        for line, key, start, end in zip(lines, keys, *columns[:2]):
+            first = self.firsts.setdefault((key, start), line)
             latest, other = self.latest.setdefault(key, (start, line))
-            if start < latest < end:
-                self.found.append((line, other))
+            if first != line:
+                self.same.append((line, first))
+            if start < latest < end and not self.are_deletes:
+                self.earlier.append((line, other))
             elif latest < start:
                 self.latest[key] = start, line
 
     def notes(self) -> Iterator[str]:
-        if self.found:
-            line, other = self.found[0]
-            more = f"; {len(self.found) - 1} more do so" if len(self.found) > 1 else ""
+        word, which = ("deletes", "longer one is enough") if self.are_deletes else ("updates", "later one counts")
+        for line, other in self.same[:1]:
+            yield f"line {line} {word} the same {self.key} from the same point on as line {other}, and the {which}"
+        for line, other in self.earlier[:1]:
+            more = f"; {len(self.earlier) - 1} more do so" if len(self.earlier) > 1 else ""
             both = f"line {line} updates the same {self.key} from an earlier point on than line {other}"
             yield f"{both}, and past its start, so it replaces it: are the file's lines out of order?{more}"
 
@@ -177,42 +177,31 @@ class Overwrites:
 class Repeats:
     """Reports rows of equal values that hold at one time, which a key would forbid.
 
-    Rows are compared by hashes; only rows with the values of another one are compared in full.
+    Rows are compared by hashes of their values. If more than half of all rows overlap so, they are such as bookings.
     """
 
     def __init__(self) -> None:
-        self.lines: List[Sequence[int]] = []
+        self.pieces: List[Tuple[Sequence[str], Sequence[str], Sequence[int]]] = []
         self.values = array("q")
-        self.starts: List[Sequence[str]] = []
-        self.ends: List[Sequence[str]] = []
 
-    def add(self, lines: Sequence[int], columns: Sequence[Sequence[str]]) -> None:
-        """Adds rows by their columns: starts, ends, and values."""
-        starts, ends, *values = columns
-        self.lines.append(lines)
-        self.starts.append(starts)
-        self.ends.append(ends)
-        self.values.extend(map(hash, zip(*values)))
+    def add(self, lines: Sequence[int], keys: Sequence[object], *columns: Sequence[str]) -> None:
+        self.pieces.append((columns[0], columns[1], lines))
+        self.values.extend(map(hash, zip(*columns[2:])))
 
     def notes(self) -> Iterator[str]:
-        """Reports them, unless more than half of all rows overlap so, such as bookings that are counted."""
-        rows = self.repeated()
-        if not rows:
-            return
-        pairs = [pair for pair in map(overlapping, rows, rows[1:]) if pair]
-        if pairs and 2 * len(pairs) <= len(self.values):
-            line, other = pairs[0]
-            more = f"; {len(pairs) - 1} more rows do so" if len(pairs) > 1 else ""
-            both = f"line {line} has the values of line {other}, and both hold at one time"
-            yield f"{both}: is one of them too many?{more}"
-
-    def repeated(self) -> List["Repeat"]:
-        """Returns the rows that have the values of another row, by values and start."""
-        if len(set(self.values)) == len(self.values):
-            return []
         counts = Counter(self.values)
-        rows = zip(self.values, chain(*self.starts), chain(*self.ends), chain(*self.lines))
-        return sorted(Repeat(*row) for row in rows if counts[row[0]] > 1)
+        if len(counts) == len(self.values):
+            return
+        rows = zip(self.values, *map(chain.from_iterable, zip(*self.pieces)))
+        found = sorted(row for row in rows if counts[row[0]] > 1)
+        pairs = [
+            (row[3], other[3]) for row, other in zip(found, found[1:])
+            if row[0] == other[0] and other[1] < row[2] and row[1:3] != other[1:3]
+        ]
+        if pairs and 2 * len(pairs) <= len(self.values):
+            more = f"; {len(pairs) - 1} more rows do so" if len(pairs) > 1 else ""
+            both = f"line {max(pairs[0])} has the values of line {min(pairs[0])}, and both hold at one time"
+            yield f"{both}: is one of them too many?{more}"
 
 
 class Totals:
@@ -220,15 +209,14 @@ class Totals:
 
     def __init__(self, amounts: Dict[int, str]) -> None:
         """The columns that may have amounts: their names by their indices."""
-        self.amounts = amounts
-        self.sums = dict.fromkeys(amounts, 0)
+        self.amounts, self.sums = amounts, dict.fromkeys(amounts, 0)
         # The amounts of the first and of the last row, and the lines of both.
         self.first: Dict[int, int] = {}
         self.last: Dict[int, int] = {}
         self.rows, self.lines = 0, [0, 0]
 
-    def add(self, lines: Sequence[int], columns: Sequence[Sequence[str]]) -> None:
-        """Adds rows by their columns. A column that has anything but whole numbers has no amounts."""
+    def add(self, lines: Sequence[int], keys: Sequence[object], *columns: Sequence[str]) -> None:
+        """Adds rows. A column that has anything but whole numbers has no amounts."""
         for index in list(self.sums) if lines else ():
             try:
                 numbers = list(map(int, columns[index]))
@@ -251,53 +239,27 @@ class Totals:
                 yield f"line {line}: {shown} {what} of the {self.rows - 1:,} rows {where}; {remedy}"
 
 
-class Repeat(NamedTuple):
-    """A row with the number of its values, its period and its line."""
-
-    values: int
-    start: str
-    end: str
-    line: int
-
-
-def overlapping(row: Repeat, behind: Repeat) -> Optional[Tuple[int, int]]:
-    """The lines of two rows of one value that overlap, and aren't equal, by start."""
-    is_both = row.values == behind.values and behind.start < row.end and row[1:3] != behind[1:3]
-    return (max(row.line, behind.line), min(row.line, behind.line)) if is_both else None
-
-
-def first_pair(numbers: "array[int]", lines: Sequence[Sequence[int]]) -> Optional[Tuple[int, int]]:
-    """The lines of the first row that has another one's number, and of that one."""
-    if len(set(numbers)) == len(numbers):
-        return None
-    firsts: Dict[int, int] = {}
-    pairs = ((line, firsts.setdefault(number, line)) for line, number in zip(chain(*lines), numbers))
-    return next(pair for pair in pairs if pair[0] != pair[1])
-
-
 class Twins:
-    """Reports a row of a file that makes the same record as one before it.
-
-    Rows are kept as hashes, which are compared when all are there.
-    """
+    """Reports a row of a file that makes the same record as one before it. Rows are compared by hashes."""
 
     def __init__(self, made: str = "row") -> None:
         self.made = made
         self.lines: List[Sequence[int]] = []
         self.rows = array("q")
 
-    def add(self, lines: Sequence[int], rows: Sequence[str]) -> None:
+    def add(self, lines: Sequence[int], keys: Sequence[object], *columns: Sequence[str]) -> None:
         self.lines.append(lines)
-        self.rows.extend(map(hash, rows))
+        self.rows.extend(map(hash, zip(*columns)))
 
     def notes(self) -> Iterator[str]:
-        pair = first_pair(self.rows, self.lines)
-        if pair:
-            yield of_twins(f"line {pair[0]}", f"line {pair[1]}", len(self.rows) - len(set(self.rows)), self.made)
+        firsts: Dict[int, int] = {}
+        pairs = ((line, firsts.setdefault(row, line)) for line, row in zip(chain(*self.lines), self.rows))
+        line, other = next((pair for pair in pairs if pair[0] != pair[1]), (0, 0))
+        if line:
+            yield of_twins(f"line {line}", f"line {other}", len(self.rows) - len(set(self.rows)), self.made)
 
 
 def of_twins(one: str, other: str, count: int, made: str = "row") -> str:
-    """Returns the note that one row equals another, with how many such rows there are; or updates, or deletes.
-    """
+    """Returns the note that a row, an update or a delete equals another one, and how many more do."""
     more = f"; {count - 1} more {made}s are so" if count > 1 else ""
     return f"{one} makes the same {made} as {other}, and both are {'loaded' if made == 'row' else 'printed'}{more}"

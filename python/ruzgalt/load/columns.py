@@ -7,7 +7,7 @@ from ruzgalt.errors import Misfit
 from ruzgalt.lint.rows import Doubt
 from ruzgalt.lint.texts import LookAlikes, are_plain, doubt_of
 from ruzgalt.load import dates
-from ruzgalt.load.numbers import NUMBERS, Scale
+from ruzgalt.load.numbers import EMPTY, NUMBERS, Scale
 from ruzgalt.script.forms import (
     INTEGER, NO_END, SPACES, TEXT_LIMIT, in_lines, is_far_off, is_integer, is_short, shifted,
 )
@@ -74,10 +74,14 @@ class Column(Dict[str, Optional[str]]):
 class Start(Column):
     def __init__(self, name: str, options: Namespace) -> None:
         super().__init__(name, self.point)
-        self.form, self.is_given = form_of(options), bool(options.dates)
+        self.form, self.is_given, self.is_last_day = form_of(options), bool(options.dates), options.day_after
 
     def point(self, value: str) -> str:
         made = dates.point(value.strip(SPACES), self.form, self.is_given)
+        if self.is_last_day:
+            made = shifted(made, 1)
+            if not made:
+                raise Misfit("a last day has no time, and a day after it")
         if is_far_off(made) or dates.is_far_ahead(made):
             self.doubts[value] = Doubt("far off", f"{made[:4]} is far off; is the year right?")
         return made
@@ -172,8 +176,8 @@ class Text(Column):
         """A whole number of the store, taken as it is."""
         if is_integer(text):
             return text
-        if INTEGER.fullmatch(text):
-            raise Misfit(NUMBERS)
+        if INTEGER.fullmatch(text) or not text.strip(SPACES):
+            raise Misfit(NUMBERS if text.strip(SPACES) else EMPTY)
         # A number with leading zeros is seldom one of cents.
         digits = 0 if text.isdecimal() else 2
         raise Misfit(f"not a whole number, such as 5000; --decimals {self.name}={digits} makes other numbers whole")

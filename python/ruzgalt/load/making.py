@@ -1,21 +1,21 @@
 """A load, or updates or deletes, made of a CSV file with a header, piece by piece; and a check of a division."""
 import re
 from argparse import Namespace
-from itertools import compress, repeat
+from itertools import repeat
 from operator import ge
 from os.path import isfile
-from typing import Dict, Iterable, Iterator, List, Optional, Sequence, Set, Tuple, cast
+from typing import Dict, Iterator, List, Optional, Sequence, Set, Tuple, cast
 
 from ruzgalt.errors import Misfit
-from ruzgalt.lint.rows import Ends, Notes, Overwrites, Repeats, Totals, Twins
+from ruzgalt.lint.rows import Changes, Ends, Notes, Repeats, Rule, Totals, Twins
 from ruzgalt.lint.texts import LookAlikes
 from ruzgalt.load.columns import Column, End, Start, Text, form_of, mark_of
 from ruzgalt.load.dates import as_good_swapped, without_half
-from ruzgalt.load.numbers import Doubtful, Marks, Scale, readings
-from ruzgalt.load.sheets import Piece, Records
+from ruzgalt.load.numbers import UNIT, Doubtful, Marks, Scale, readings
+from ruzgalt.load.sheets import Piece, Records, line_with, pieces_of
 from ruzgalt.load.table import name_for, refuse_twins
 from ruzgalt.script import records
-from ruzgalt.script.forms import SPACES, is_count, is_name, read_point, shifted
+from ruzgalt.script.forms import NO_END, SPACES, is_count, is_name, read_point, shifted
 from ruzgalt.script.records import short, to_text, visible
 from ruzgalt.script.schemas import PERIOD, Schema
 from ruzgalt.which import ANSWERS
@@ -32,34 +32,27 @@ class Equals:
 
     def __init__(self, is_dropping: bool) -> None:
         self.is_dropping = is_dropping
-        self.met: Set[str] = set()
-        self.count, self.first = 0, 0
+        self.met: Set[Tuple[str, ...]] = set()
+        # The lines of the rows that are left out.
+        self.lines: List[int] = []
 
     def without(self, piece: Piece) -> Piece:
         """The piece without those rows."""
-        if not self.is_dropping:
-            return piece
-        kept = [self.is_new(line, record) for line, record in zip(*piece)]
-        return Piece(list(compress(piece.lines, kept)), list(compress(piece.records, kept)))
+        return piece.where(self.is_new) if self.is_dropping else piece
 
     def is_new(self, line: int, record: Sequence[str]) -> bool:
-        # A file has no zero byte.
-        row = "\0".join(record)
-        is_met = row in self.met
-        if is_met:
-            self.first = self.first if self.count else line
-            self.count += 1
+        row = tuple(record)
+        self.lines.extend([line] * (row in self.met))
         self.met.add(row)
-        return not is_met
+        return line not in self.lines[-1:]
 
     def notes(self) -> Iterator[str]:
-        if self.count:
-            which = "rows were" if self.count > 1 else "row was"
-            where = f"the first at line {self.first}" if self.count > 1 else f"line {self.first}"
-            what = f"{self.count:,} {which} left out, equal to an earlier one in all of the file's fields"
-            yield f"--drop-equal: {what} ({where})"
+        equal = "equal to an earlier one in all of the file's fields"
+        if len(self.lines) > 1:
+            yield f"--drop-equal: {len(self.lines):,} rows were left out, {equal} (the first at line {self.lines[0]})"
         elif self.is_dropping:
-            yield "--drop-equal: no row is equal to an earlier one in all of the file's fields"
+            one = f"1 row was left out, {equal} (line {self.lines[0]})" if self.lines else f"no row is {equal}"
+            yield f"--drop-equal: {one}"
 
 
 class Load:
@@ -68,25 +61,26 @@ class Load:
     def __init__(self, sheet: Records, options: Namespace, schema: Optional[Schema]) -> None:
         self.sheet, self.options, self.schema = sheet, options, schema
         self.names = [options.start, options.end, *options.column]
-        refuse_header(sheet, self.names, schema.names if schema else [])
-        refuse_other_ends(options.end, options.last_day)
-        self.places = [sheet.header.index(name) for name in self.names]
+        # If no row has a known end, the file needs no column of ends.
+        self.has_ends = options.end != NO_END or NO_END in sheet.header
+        names = self.names if self.has_ends else [options.start, *options.column]
+        refuse_header(sheet, names, schema.names if schema else [])
+        refuse_other_ends(options)
+        header = [*sheet.header, NO_END]
+        self.places = [header.index(name) for name in self.names]
         self.marks = Marks(mark_of(options), bool(options.decimal_mark))
         self.keys = self.key_places()
-        self.columns = [Start(options.start, options), End(options.end, options), *self.value_columns()]
+        end = End(options.end, options) if self.has_ends else Column(NO_END, str)
+        self.columns = [Start(options.start, options), end, *self.value_columns()]
         self.stored = self.names_in_store()
         self.faults: List[str] = []
         self.count_of_faults = self.rows = self.bytes = 0
         # The line of each number that could be read in two ways.
         self.doubtful: Dict[Doubtful, int] = {}
-        self.notes, self.twins, self.repeats = Notes(), Twins(self.made_word), Repeats()
+        self.notes, self.rules = Notes(), list(self.rules_of_rows())
         self.left_out: Optional[str] = None
         self.equals = Equals(options.drop_equal)
         self.nameless = [place for place, name in enumerate(sheet.header) if not name.strip()]
-        key = ", ".join(options.column[place] for place in self.keys) or "table"
-        others = [place for place in range(len(options.column)) if place not in self.keys]
-        self.totals = Totals({2 + place: options.column[place] for place in others or self.keys})
-        self.ends, self.overwrites = Ends(options.end, key, options.last_day), Overwrites(key)
 
     @property
     def is_load(self) -> bool:
@@ -111,6 +105,20 @@ class Load:
             return list(self.schema.key)
         return [0] if self.options.column else []
 
+    def rules_of_rows(self) -> Iterator[Rule]:
+        """Yields the rules by which possible mistakes in rows are found."""
+        options = self.options
+        key = ", ".join(options.column[place] for place in self.keys) or "table"
+        yield Ends(options.end, key, options.last_day)
+        yield Twins(self.made_word)
+        if not self.is_load:
+            yield Changes(key, options.delete)
+            return
+        if options.column and not (self.schema and self.schema.key):
+            yield Repeats()
+        others = [place for place in range(len(options.column)) if place not in self.keys]
+        yield Totals({2 + place: options.column[place] for place in others or self.keys})
+
     def value_columns(self) -> Iterator[Column]:
         digits = dict(self.options.decimals)
         for place, name in enumerate(self.options.column):
@@ -122,13 +130,16 @@ class Load:
 
     def made(self) -> Iterator[bytes]:
         """Returns the records made of the rows, by pieces. After a fault, the rest is read for its faults only."""
-        for piece in self.sheet.pieces():
+        for piece in pieces_of(self.sheet):
             yield self.made_of(self.equals.without(self.whole(piece)))
         self.refuse_doubtful()
+        for fault in self.sheet.faults(self.places[2:]):
+            self.add_fault(fault)
 
     def made_of(self, piece: Piece) -> bytes:
         """The records made of a piece; none where something is at fault in it, or was before."""
         fields: List[Sequence[str]] = list(zip(*piece.records)) or [()] * len(self.sheet.header)
+        fields.append([NO_END] * len(piece.records))
         values = [fields[place] for place in self.places]
         found = [column.made(one) for column, one in zip(self.columns, values)]
         self.look_at(piece.lines, values, found)
@@ -137,11 +148,10 @@ class Load:
         if self.count_of_faults:
             return b""
         columns = cast(List[Sequence[str]], found)
-        texts = self.records_of(columns)
-        self.twins.add(piece.lines, texts)
-        self.repeats.add(piece.lines, columns)
-        self.totals.add(piece.lines, columns)
-        made = records.encode("\n".join([*texts, ""]))
+        keys = self.keys_of(columns[2:]) or [""] * len(piece.lines)
+        for rule in self.rules:
+            rule.add(piece.lines, keys, *columns)
+        made = records.encode("\n".join([*self.records_of(columns), ""]))
         self.bytes += len(made)
         return made
 
@@ -155,19 +165,13 @@ class Load:
 
     def whole(self, piece: Piece) -> Piece:
         """Returns the records that have the header's number of fields."""
-        width = len(self.sheet.header)
-        if {width}.issuperset(map(len, piece.records)):
-            return piece
-        lines: List[int] = []
-        records: List[List[str]] = []
-        for line, record in zip(*piece):
-            if len(record) != width:
-                quoted = "put a field with a separator in it in double quotes"
-                self.add_fault(f"line {line}: {len(record)} fields, and the header has {width}; {quoted}")
-            else:
-                lines.append(line)
-                records.append(record)
-        return Piece(lines, records)
+        return piece if {len(self.sheet.header)}.issuperset(map(len, piece.records)) else piece.where(self.is_whole)
+
+    def is_whole(self, line: int, record: Sequence[str]) -> bool:
+        width, quoted = len(self.sheet.header), "put a field with a separator in it in double quotes"
+        if len(record) != width:
+            self.add_fault(f"line {line}: {len(record)} fields, and the header has {width}; {quoted}")
+        return len(record) == width
 
     def look_at(
         self, lines: Sequence[int], values: List[Sequence[str]], found: List[Sequence[Optional[str]]],
@@ -187,12 +191,8 @@ class Load:
                 self.doubtful[one] = lines[values[self.names.index(one.name)].index(one.text)]
         if not faulty:
             # None is at fault, so each is a text.
-            starts, ends, *others = cast(List[Sequence[str]], found)
+            starts, ends = cast(List[Sequence[str]], found[:2])
             self.refuse_empty_periods(lines, starts, ends)
-            keys = self.keys_of(others) or [""] * len(lines)
-            self.ends.add(lines, keys, starts, ends)
-            if self.options.update:
-                self.overwrites.add(lines, keys, starts, ends)
 
     def refuse_empty_periods(self, lines: Sequence[int], starts: Sequence[str], ends: Sequence[str]) -> None:
         # The texts of points are in the order of time.
@@ -207,6 +207,8 @@ class Load:
         last = shifted(end, -1) if self.options.last_day else ""
         if last:
             return f"is after {self.options.end}, {last}"
+        if self.options.day_after:
+            return f"the day after the last one there, isn't before {self.options.end}, {end}"
         more = "; if that is the last day, use --last-day" if start == end and len(end) == 10 else ""
         return f"isn't before {self.options.end}, {end}{more}"
 
@@ -265,16 +267,14 @@ class Load:
         """Yields possible mistakes."""
         if not self.rows:
             yield f"no row follows the header, so {'the load has none' if self.is_load else 'nothing is changed'}"
-        yield from [*self.notes.notes(), *self.ends.notes(), *self.twins.notes(), *self.notes_of_scales()]
+        yield from self.notes.notes()
+        for rule in self.rules:
+            yield from rule.notes()
+        yield from self.notes_of_scales()
         if self.left_out:
             yield self.left_out
-        if self.is_load and self.options.column and not (self.schema and self.schema.key):
-            yield from self.repeats.notes()
-        yield from self.totals.notes() if self.is_load else ()
         yield from [*self.notes_of_points(), *self.notes_of_words(), *self.equals.notes()]
-        yield from self.sheet.notes(self.places[:2], self.places[2:])
-        if not self.is_load:
-            yield from [*self.ends.equal_starts(self.options.delete), *self.overwrites.notes()]
+        yield from self.sheet.notes(self.places[:1 + self.has_ends], self.places[2:])
         if self.rows > MOST_ROWS * 9 // 10 or self.bytes > MOST_BYTES * 9 // 10:
             limits = f"a script can have {MOST_BYTES:,} bytes, a table {MOST_ROWS:,} versions of rows"
             room = f"{self.rows:,} rows in {self.bytes:,} bytes leave little room for later changes"
@@ -282,8 +282,8 @@ class Load:
 
     def notes_of_words(self) -> Iterator[str]:
         """Reports an option for ends that no row has."""
-        end = cast(End, self.columns[1])
-        for text in sorted(end.no_ends - end.met) if self.rows else []:
+        end = self.columns[1]
+        for text in sorted(end.no_ends - end.met) if self.rows and isinstance(end, End) else []:
             word, what = (f"--no-end '{visible(text)}'", f"'{visible(text)}'") if text else ("--open", "empty")
             yield f"{word}: no row's {self.options.end} is {what}"
 
@@ -303,9 +303,14 @@ class Load:
             yield f"{self.options.start} and {self.options.end}: {halves}"
 
     def notes_of_scales(self) -> Iterator[str]:
+        for name in self.options.column:
+            unit = UNIT.search(name)
+            if unit:
+                yield f"{visible(name)}: its name has {unit[0]}, and its numbers are loaded as they are"
         for scale in self.scales():
             if scale.currency:
-                yield f"{scale.name}: {scale.currency} was left out of its numbers, which are of one currency"
+                others = f"but '{visible(scale.plain)}' has none" if scale.plain else "which are all of it"
+                yield f"{scale.name}: the currency {scale.currency} was left out of its numbers, {others}"
             if scale.digits > 2 and 0 < scale.longest < scale.digits:
                 count = f"its numbers have at most {scale.longest} decimals, and --decimals gives {scale.digits}"
                 yield f"{scale.name}: {count}; --decimals {scale.name}={scale.longest} takes them as they are"
@@ -323,7 +328,7 @@ def refuse_header(sheet: Records, names: List[str], of_table: Sequence[str]) -> 
         remedy = f"; `(echo 'sep={mark}'; cat FILE)` makes '{mark}' the separator of its fields" if mark else ""
         file = next((name for name in unknown if isfile(name)), None)
         remedy = f"; {visible(file)} is a file: give it as the last word, by --file or by `<`" if file else remedy
-        line = 0 if file else sheet.line_with(names)
+        line = 0 if file else line_with(sheet, names)
         remedy = f"; the header seems to be line {line}: use --skip {line - 1}" if line else remedy
         word = next((word for word in names[:2] if word in unknown and "=" in word), None)
         remedy = f"; FROM and TO are columns too, and {visible(word)} isn't: did you forget one?" if word else remedy
@@ -338,13 +343,17 @@ def refuse_header(sheet: Records, names: List[str], of_table: Sequence[str]) -> 
         raise Misfit(f"two columns of the header have the name {visible(twice[0])}")
 
 
-def refuse_other_ends(name: str, are_last_days: bool) -> None:
-    """Refuses a column of ends if its name says that they are meant otherwise."""
-    if not are_last_days and LAST_DAY_NAME.search(name.lower()):
-        raise Misfit(f"{visible(name)}: its name says that it is the last day of a row; use --last-day")
-    if are_last_days and name == PERIOD[1].name:
+def refuse_other_ends(options: Namespace) -> None:
+    """Refuses a column of starts or ends if its name says that they are meant otherwise."""
+    start, end = options.start, options.end
+    if not options.day_after and LAST_DAY_NAME.search(start.lower()):
+        why = "its name says that it is a last day, and here it is where rows start"
+        raise Misfit(f"{visible(start)}: {why}; use --day-after if rows start on the next day")
+    if not options.last_day and LAST_DAY_NAME.search(end.lower()):
+        raise Misfit(f"{visible(end)}: its name says that it is the last day of a row; use --last-day")
+    if options.last_day and end == PERIOD[1].name:
         remedy = "leave out --last-day, or rename the column if it has last days"
-        raise Misfit(f"{name}: {ANSWERS} prints the day after a row's last day there; {remedy}")
+        raise Misfit(f"{end}: {ANSWERS} prints the day after a row's last day there; {remedy}")
 
 
 def check_of(sheet: Records, table: str, part: str, row_id: str, instant: str) -> Tuple[str, List[str]]:
@@ -355,7 +364,7 @@ def check_of(sheet: Records, table: str, part: str, row_id: str, instant: str) -
     refuse_header(sheet, [part, row_id], [])
     places = sheet.header.index(part), sheet.header.index(row_id)
     parts: Dict[str, List[str]] = {}
-    for piece in sheet.pieces():
+    for piece in pieces_of(sheet):
         for line, record in zip(*piece):
             if len(record) != len(sheet.header) or not is_count(record[places[1]].strip()):
                 raise Misfit(f"line {line}: {visible(','.join(record))}: not a row with a part and an id")
@@ -369,13 +378,8 @@ def notes(column: str, parts: Dict[str, List[str]]) -> Iterator[str]:
     if "" in parts:
         ids = short(", ".join(parts[""]))
         yield f"{visible(column)} is empty in {len(parts['']):,} rows, which are one part: {ids}"
-    yield from alike(column, parts)
-
-
-def alike(column: str, parts: Iterable[str]) -> Iterator[str]:
     looks = LookAlikes()
-    for name in parts:
-        other = looks.other(name)
+    for name, other in ((name, looks.other(name)) for name in parts):
         if other is not None:
             which = f"looks like '{visible(other)}', but is another part"
             yield f"{visible(column)} is '{visible(name)}': it {which}"

@@ -9,6 +9,11 @@ from ruzgalt.script.records import visible
 # All numbers with fewer digits are some of the store's.
 LONGEST_NUMBER = 18
 NUMBERS = "the store's numbers are from -9223372036854775808 to 9223372036854775807"
+EMPTY = "no number is given; write 0 if it is 0"
+# The unit in the name of a column whose numbers may be of thousands or hundredths.
+UNIT = re.compile(
+    r"\b[TK] ?(?:EUR|\u20ac|USD|\$)|\b(?:Tsd|Mio)\b\.?|thousands?|millions?|per ?cent|prozent|%", re.IGNORECASE,
+)
 # One mark, with three digits after it, parts thousands as well as decimals.
 EITHER = re.compile(r"-?[1-9]\d{0,2}[.,]\d{3}", re.ASCII)
 
@@ -64,8 +69,8 @@ class Scale:
 
     def __init__(self, name: str, digits: int, marks: Marks, bare: str = "") -> None:
         self.name, self.digits, self.marks, self.how, self.longest = name, digits, marks, bare, 0
-        # The first currency of the column. All others must be the same.
-        self.currency = ""
+        # The first currency of the column, which all others must be, and the first number without one.
+        self.currency = self.plain = ""
         # The first number with decimals, and the first one without any mark.
         self.marked = ""
         self.unmarked: Optional[Doubtful] = None
@@ -76,6 +81,7 @@ class Scale:
         # Most numbers are as simple as this, and can't be read in two ways.
         if count != 3 and count <= self.digits and (whole + decimals).isdigit() and whole and bool(mark) == bool(count):
             if text.isascii() and len(whole) + self.digits <= LONGEST_NUMBER:
+                self.plain = self.plain or text
                 self.marks.is_settled = self.marks.is_settled or bool(mark) and not isinstance(text, Figure)
                 return self.scaled(text, whole, decimals, text) or "0"
         return self.read(text)
@@ -111,11 +117,14 @@ class Scale:
             return []
         self.marks.is_settled = self.marks.is_settled or not all(isinstance(text, Figure) for text in texts)
         self.longest, self.marked = max(self.longest, self.digits), self.marked or texts[0]
+        self.plain = self.plain or texts[0]
         digits = lines.replace(self.marks.mark, "")
         has_zeros = digits.startswith("0") or "\n0" in digits
         return list(map(str, map(int, digits.split()))) if has_zeros else digits.split()
 
     def read(self, text: str) -> str:
+        if not text.strip(SPACES):
+            raise Misfit(EMPTY)
         bare = self.bare(text)
         number = number_in(bare, self.marks.mark)
         if number is None:
@@ -134,6 +143,7 @@ class Scale:
         """Returns the number without spaces around it, and without its currency."""
         found = WITH_CURRENCY.fullmatch(text.strip(SPACES))
         if found is None:
+            self.plain = self.plain or text
             return text.strip(SPACES)
         currency = found["before"] or found["after"]
         self.currency = self.currency or currency

@@ -7,7 +7,7 @@ import io
 import re
 import unicodedata
 from itertools import islice
-from typing import Dict, Iterable, Iterator, List, NamedTuple, Optional, Protocol, Sequence
+from typing import Callable, Dict, Iterable, Iterator, List, NamedTuple, Optional, Protocol, Sequence
 
 from ruzgalt.errors import Misfit
 from ruzgalt.script.records import visible
@@ -16,10 +16,10 @@ from ruzgalt.script.records import visible
 PIECE = 1 << 9
 # In how many records after the first one a header is searched.
 SEARCHED = 20
-# A quote can't be a separator, since it encloses fields.
 # Encodings that files have, the commonest first, and the edges of a word in bytes.
 ENCODINGS = ("cp1252", "cp850", "mac_roman", "latin_1")
 WORD_START, WORD_END = re.compile(rb"(?s).*[,;\t\r\n\"]"), re.compile(rb"[,;\t\r\n\"]")
+# A quote can't be a separator, since it encloses fields.
 SEPARATOR = re.compile(r'"?sep=([^"])"?')
 
 
@@ -29,20 +29,43 @@ class Piece(NamedTuple):
     lines: Sequence[int]
     records: List[List[str]]
 
+    def where(self, is_kept: Callable[[int, List[str]], bool]) -> "Piece":
+        """Returns the records that are kept."""
+        kept = [pair for pair in zip(*self) if is_kept(*pair)]
+        return Piece([line for line, _ in kept], [record for _, record in kept])
+
+
+def is_filled(_: int, record: Sequence[str]) -> bool:
+    return any(map(str.strip, record))
+
 
 class Records(Protocol):
     """A file's header, and its other records by pieces."""
 
     header: List[str]
 
-    def pieces(self) -> Iterator[Piece]:
-        """Those after the header, without empty ones."""
+    def take(self, count: int) -> Optional[Piece]:
+        """Returns at most `count` of the next records, without empty ones; None after the last."""
 
-    def line_with(self, names: Sequence[str]) -> int:
-        """Returns the line of one of the next records that has all of these names, or 0."""
+    def faults(self, values: Sequence[int]) -> Iterable[str]:
+        """Returns what is wrong with the columns of values at these indices, after all was read."""
 
     def notes(self, points: Sequence[int], values: Sequence[int]) -> Iterable[str]:
-        """Returns notes on the columns at these indices, after all was read."""
+        """Returns notes on the columns of points and of values, after all was read."""
+
+
+def pieces_of(sheet: Records) -> Iterator[Piece]:
+    """Yields the records after the header by pieces."""
+    piece = sheet.take(PIECE)
+    while piece is not None:
+        yield piece
+        piece = sheet.take(PIECE)
+
+
+def line_with(sheet: Records, names: Sequence[str]) -> int:
+    """Returns the line of one of the next records that has all of these names, or 0."""
+    piece = sheet.take(SEARCHED) or Piece([], [])
+    return next((line for line, record in zip(*piece) if set(names) <= set(map(composed, record))), 0)
 
 
 def composed(name: str) -> str:
@@ -53,7 +76,8 @@ def composed(name: str) -> str:
 def refuse_strange(data: bytes) -> None:
     """Refuses bytes that aren't text."""
     if data.startswith(b"\xd0\xcf\x11\xe0"):
-        raise Misfit("this is an old spreadsheet workbook, not a CSV file: save it as .xlsx, or as CSV UTF-8")
+        what = "this is an old spreadsheet workbook, or one with a password"
+        raise Misfit(f"{what}: save it as .xlsx without a password, or as CSV UTF-8")
     if data.startswith(b"\x1f\x8b"):
         raise Misfit("this is a compressed file: `gunzip -c FILE` unpacks it")
     if data.count(0) * 3 > len(data) and not data.startswith((b"\xff\xfe", b"\xfe\xff")):
@@ -114,23 +138,12 @@ class Sheet:
 
     def next_record(self) -> List[str]:
         """The next record that isn't empty; after the last an empty one."""
-        piece = self.take(1)
-        while piece is not None and not piece.records:
-            piece = self.take(1)
-        return piece.records[0] if piece else []
+        return next((record for piece in iter(lambda: self.take(1), None) if piece for record in piece.records), [])
 
-    def pieces(self) -> Iterator[Piece]:
-        piece = self.take(PIECE)
-        while piece is not None:
-            yield piece
-            piece = self.take(PIECE)
-
-    def line_with(self, names: Sequence[str]) -> int:
-        piece = self.take(SEARCHED) or Piece([], [])
-        return next((line for line, record in zip(*piece) if set(names) <= set(map(composed, record))), 0)
+    def faults(self, values: Sequence[int]) -> Iterable[str]:
+        return ()
 
     def notes(self, points: Sequence[int], values: Sequence[int]) -> Iterable[str]:
-        """Returns no notes."""
         return ()
 
     def take(self, count: int) -> Optional[Piece]:
@@ -149,8 +162,7 @@ class Sheet:
         firsts = [record[0] for record in records if record]
         if len(firsts) == len(records) and all(map(str.strip, firsts)):
             return Piece(lines, records) if records else None
-        kept = [(line, record) for line, record in zip(lines, records) if any(map(str.strip, record))]
-        return Piece([line for line, _ in kept], [record for _, record in kept])
+        return Piece(lines, records).where(is_filled)
 
     def lines_of(self, records: List[List[str]]) -> Sequence[int]:
         """The lines on which the records begin that were read."""

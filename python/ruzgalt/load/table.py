@@ -4,11 +4,11 @@ from pathlib import Path
 from typing import Dict, List, Optional, Sequence, Tuple
 
 from ruzgalt.errors import Misfit
-from ruzgalt.script import commands, records
-from ruzgalt.script.forms import is_name
-from ruzgalt.script.reader import Source
-from ruzgalt.script.records import visible
-from ruzgalt.script.schemas import MOST_COLUMNS, Schema, is_schema, listed
+from ruzgalt.script import answers, commands, records, refusals, run
+from ruzgalt.script.forms import NO_END, is_name, printed, read_point
+from ruzgalt.script.records import Source, visible
+from ruzgalt.script.schemas import MOST_COLUMNS, Kind, Schema, is_schema, listed
+from ruzgalt.which import program
 
 
 def schema_of(options: Namespace) -> Optional[Schema]:
@@ -25,6 +25,39 @@ def schema_of(options: Namespace) -> Optional[Schema]:
         form = f"table,T,COLUMN,KIND..[,key,COLUMN..], with {MOST_COLUMNS} columns at most, each once"
         raise Misfit(f"--table: {records.to_record(found)}: not of the form {form}")
     return Schema.read(found)
+
+
+def refuse_day(options: Namespace) -> None:
+    """Refuses a day for the diary if it is none, or if the script isn't there that has the diary."""
+    if read_point(options.day.rpartition("=")[2]) is None:
+        raise Misfit(f"--day {visible(options.day)}: not a day such as 2024-07-25, or diary=2024-07-25")
+    if not options.record or options.record.startswith("table,") or options.print_table:
+        raise Misfit("--day needs --table SCRIPT, which has the table, the diary and all earlier commits")
+
+
+def entry(options: Namespace, made: bytes) -> bytes:
+    """Returns the diary's entry: from the day on, the newest commit is the last one that the program makes of `made`.
+
+    The program answers the script with these commands, and the diary's rows. Raises Misfit if it refuses one.
+    """
+    name, _, day = options.day.rpartition("=")
+    name = name or "diary"
+    before = Path(options.record).read_bytes().rstrip(b"\r\n") + b"\n"
+    script = before + made + f"rows,{name}\n".encode()
+    *found, rows = answers.of(script, run.output(program(), script))
+    refused = next((one for one in [*found, rows] if one.refusal and one.line > before.count(b"\n")), None)
+    if refused:
+        raise Misfit(f"--day: after the script of --table, {refusals.described(refused)}")
+    if len(rows.schema.columns) != 1 or rows.schema.columns[0].kind is not Kind.INT:
+        raise Misfit(f"--day: {name} isn't a diary of one column, the newest commit: write its entry by hand")
+    periods = [record[1:3] for record in rows.table.texts()]
+    later = [start for start, _ in periods if start > printed(day)]
+    if later:
+        raise Misfit(f"--day {day}: {name} has a later entry already, from {later[-1]} on")
+    newest = str(rows.commits)
+    if any(end >= NO_END for _, end in periods):
+        return records.encode(records.to_text([["update", name, day, NO_END, "set", rows.schema.names[0], newest]]))
+    return records.encode(records.to_text([["load", name], ["row", day, NO_END, newest], ["end"]]))
 
 
 def rename(options: Namespace, header: Sequence[str]) -> None:

@@ -1,26 +1,21 @@
 """The data of the page: its sources, findings, commits, questions and tables."""
 import json
-import re
-import xml.etree.ElementTree
-from collections import defaultdict
+from collections import Counter, defaultdict
 from itertools import islice
 from typing import Any, DefaultDict, Dict, Iterable, Iterator, List, NamedTuple, Optional, Sequence, Tuple, TypeVar
-from xml.etree.ElementTree import Element
 
 from ruzgalt import which
 from ruzgalt.errors import Misfit
 from ruzgalt.lint import scripts
 from ruzgalt.lint.texts import fold
 from ruzgalt.report import figures, picks, svg
-from ruzgalt.report.shown import Amounts, Look
+from ruzgalt.report.shown import Look
 from ruzgalt.script import answers, changes, overlaps, refusals, schemas
 from ruzgalt.script.answers import Answer
 from ruzgalt.script.changes import IDS, Held, compared
-from ruzgalt.script.fields import where_places
-from ruzgalt.script.language import CHANGES
-from ruzgalt.script.questions import EMPTY
+from ruzgalt.script.commands import CHANGES, where_places
 from ruzgalt.script.records import short, to_record, visible
-from ruzgalt.script.run import Past, versions_of
+from ruzgalt.script.run import EMPTY, Past, versions_of
 from ruzgalt.script.schemas import Schema, Table
 
 # The position of the first value in a version.
@@ -81,27 +76,15 @@ class Finding(NamedTuple):
     more: List[str]
 
 
-class Findings(NamedTuple):
-    refused: List[Finding]
-    idle: List[Finding]
-    doubtful: List[Finding]
-    # How many of each kind there are, listed or not.
-    counts: Tuple[int, int, int]
-
-    @property
-    def left_out(self) -> int:
-        """How many aren't listed."""
-        return sum(self.counts) - len(self.refused) - len(self.idle) - len(self.doubtful)
-
-
-def findings_of(sources: Sources) -> Findings:
+def findings_of(sources: Sources) -> Dict[str, List[Finding]]:
     """All findings, each kind by the order of the script."""
-    refused, doubtful = refused_in(sources), doubtful_in(sources)
     changes = [answer for answer in sources.answers if is_idle(answer, sources)]
     idle = [finding(one, "", why_idle(one, sources)) for one in changes[:LOOKED_AT]]
     idle.extend(finding(one, "", "no row that it matches holds in that time") for one in changes[LOOKED_AT:])
-    of_each = len(refused), len(idle), len(doubtful)
-    return Findings(refused[:LISTED], idle[:LISTED], doubtful[:LISTED], of_each)
+    # Changes of nothing are findings of their own.
+    marks = [one for one in scripts.of(sources.answers, sources.past) if one.kind != scripts.OF_NOTHING]
+    doubtful = [finding(mark.answer, "", mark.note) for mark in marks]
+    return {"refused": refused_in(sources), "idle": idle, "doubtful": doubtful}
 
 
 def finding(answer: Answer, name: str, reason: str, more: Sequence[str] = ()) -> Finding:
@@ -116,12 +99,6 @@ def refused_in(sources: Sources) -> List[Finding]:
         finding(one, one.refused.name, refusals.reason(one), rows.get(one.number, []))
         ._replace(place=one.refused.record.where) for one in refused
     ]
-
-
-def doubtful_in(sources: Sources) -> List[Finding]:
-    """Returns possible mistakes, except changes of nothing."""
-    found = scripts.of(sources.answers, sources.past)
-    return [finding(mark.answer, "", mark.note) for mark in found if mark.kind != scripts.OF_NOTHING]
 
 
 def is_idle(answer: Answer, sources: Sources) -> bool:
@@ -164,16 +141,26 @@ def shown_value(value: str) -> str:
 Span = Tuple[str, str]
 
 
-def marks(then: Answer, now: Answer) -> Optional[List[str]]:
-    """Returns a sign for each record of both answers: 1 if the other has fewer such records at some time, otherwise 0.
+def marks(then: Answer, now: Answer) -> List[str]:
+    """Returns a sign for each record of both answers: 1 if the other has fewer such records, otherwise 0.
 
-    So a row that was cut in two, and says the same, has 0. Nothing where such answers aren't compared by their times.
+    Records that hold for a time are compared at each time and without ids, so a row that was cut in two has 0.
     """
     if then.command.form.answered not in IDS:
-        return None
-    sides = [compared(answer)[1] for answer in (then, now)]
-    found = list(changes.changes(*sides))
-    return [marked(held, [one[1:] for one in found if one[0] == sign]) for held, sign in zip(sides, "-+")]
+        one, other = ([tuple(record) for record in answer.table.texts()] for answer in (then, now))
+        return [surplus(one, other), surplus(other, one)]
+    compared_sides = [compared(answer)[1] for answer in (then, now)]
+    found = list(changes.changes(*compared_sides))
+    return [marked(held, [one[1:] for one in found if one[0] == sign]) for held, sign in zip(compared_sides, "-+")]
+
+
+def surplus(own: Sequence[Tuple[str, ...]], others: Sequence[Tuple[str, ...]]) -> str:
+    """Marks the records that the others have less often, the last ones of equal records."""
+    left, signs = Counter(others), []
+    for one in own:
+        left[one] -= 1
+        signs.append("1" if left[one] < 0 else "0")
+    return "".join(signs)
 
 
 def marked(held: Sequence[Held], more: Iterable[Sequence[str]]) -> str:
@@ -214,17 +201,8 @@ class Left:
 
 # With more records only the table is shown; and the width of a picture in pixels.
 MOST, WIDTH = 400, 640
-# What a drawing is made of. All else is left out, so none can have a script or ask a network.
-ELEMENTS = {
-    "svg", "g", "defs", "pattern", "clipPath", "title", "desc", "text", "tspan", "line", "rect", "path", "circle",
-    "polygon", "polyline",
-}
-ATTRIBUTES = re.compile(
-    r"id|x|y|x1|y1|x2|y2|dx|dy|cx|cy|r|rx|ry|d|points|width|height|viewBox|transform|opacity|clip-path|text-anchor"
-    r"|dominant-baseline|pattern(?:Units|Transform|ContentUnits)|fill(?:-opacity)?|font-(?:family|size|style|weight)"
-    r"|stroke(?:-(?:width|dasharray|opacity|linecap|linejoin))?"
-)
-ELSEWHERE = re.compile(r"url\((?!#)|:")
+# What a page says of a picture by itself.
+OF_PAGE = ("xmlns", "style", "role", "aria-label")
 
 
 class Drawing(NamedTuple):
@@ -234,45 +212,25 @@ class Drawing(NamedTuple):
     why: str = ""
 
 
-def drawing_of(answer: Answer, amounts: Amounts, past: Past) -> Drawing:
-    if not figures.is_drawn(answer):
-        return Drawing(None)
-    count = len(answer.table.records)
-    if count == 0:
-        return Drawing(None)
+def drawing_of(answer: Answer, look: Look, past: Past) -> Drawing:
+    count = len(answer.table.records) if figures.is_drawn(answer) else 0
     if count > MOST:
         why = f"No picture: {count:,} records are more than {MOST}. `{which.ANSWERS} picture` draws some of them."
         return Drawing(None, why)
     try:
-        wish = figures.Wish(amounts=amounts.known_to(answer.table))
-        text = svg.draw(figures.of(answer, wish, past.versions), WIDTH)
+        wish = figures.Wish(amounts=look.amounts.known_to(answer.table), look=look)
+        tree = svg.tree_of(figures.of(answer, wish, past.versions), WIDTH) if count else None
     except Misfit:
         return Drawing(None, "No picture of several facts in one: each has its own under Tables over time.")
-    prefix = f"p{answer.number}-"
-    return Drawing(tree_of(xml.etree.ElementTree.fromstring(text), prefix))
+    return Drawing(tree and within(tree, f"p{answer.number}-"))
 
 
-def tree_of(element: Element, prefix: str) -> List[Any]:
-    """The name of the element, its attributes, and its texts and elements. Ids have a prefix of their picture."""
-    inner: List[Any] = [element.text] if element.text and element.text.strip() else []
-    for child in element:
-        if name_of(child) in ELEMENTS:
-            inner.append(tree_of(child, prefix))
-        if child.tail and child.tail.strip():
-            inner.append(child.tail)
-    return [name_of(element), attributes_of(element, prefix), *inner]
-
-
-def name_of(element: Element) -> str:
-    return element.tag.rpartition("}")[2]
-
-
-def attributes_of(element: Element, prefix: str) -> Dict[str, str]:
-    kept = {}
-    for name, value in element.attrib.items():
-        if ATTRIBUTES.fullmatch(name) and not ELSEWHERE.search(value):
-            kept[name] = prefix + value if name == "id" else value.replace("url(#", f"url(#{prefix}")
-    return kept
+def within(tree: svg.Tree, prefix: str) -> svg.Tree:
+    """Returns an element as a part of the page: ids have a prefix of their picture."""
+    name, attributes, *inner = tree
+    kept = {key: str(one).replace("url(#", f"url(#{prefix}") for key, one in attributes.items() if key not in OF_PAGE}
+    kept.update({"id": prefix + kept["id"]} if "id" in kept else {})
+    return [name, kept, *(one if isinstance(one, str) else within(one, prefix) for one in inner)]
 
 
 # How many records of a table are shown, and the most questions, pictures, commits and parts of a check.
@@ -293,18 +251,6 @@ class Contents(NamedTuple):
     lists: List[Tuple[str, str]]
 
 
-class Room:
-    """How many characters of records the page may still have."""
-
-    def __init__(self, left: int) -> None:
-        self.left = left
-
-    def take(self, records: str) -> bool:
-        fits = len(records) <= self.left
-        self.left -= len(records) if fits else 0
-        return fits
-
-
 def of(sources: Sources, diary: Optional[str]) -> Contents:
     """The contents. With a diary the commits have its days."""
     parts = Parts(sources)
@@ -313,33 +259,28 @@ def of(sources: Sources, diary: Optional[str]) -> Contents:
     days = days_of(sources, diary)
     commits = list(commits_of(sources, days))
     found = findings_of(sources)
-    doubtful = [*doubts_of(sources, diary, days), *found.doubtful]
+    found["doubtful"][:0] = doubts_of(sources, diary, days)
     sources.look.refuse_strangers(*(answer.table for answer in kept), *sources.versions.values())
     data = {
         "title": sources.title, "note": sources.note, "isGerman": sources.look.amounts.is_german,
         "hasLastDays": sources.look.has_last_days,
-        "script": as_object(sources.script), "scriptWord": sources.word, "command": sources.command,
-        "files": [as_object(file) for file in sources.files],
-        "version": sources.version, "kept": as_object(sources.kept) if sources.kept else None,
+        "script": sources.script._asdict(), "scriptWord": sources.word, "command": sources.command,
+        "files": [file._asdict() for file in sources.files],
+        "version": sources.version, "kept": sources.kept._asdict() if sources.kept else None,
         "tool": which.ANSWERS, "isInstalled": which.IS_INSTALLED, "answers": len(sources.answers),
-        "refused": as_objects(found.refused), "idle": as_objects(found.idle), "doubtful": as_objects(doubtful),
-        "counts": counts_of(found, len(doubtful) - len(found.doubtful), len(asked)),
+        **{kind: [one._asdict() for one in some[:LISTED]] for kind, some in found.items()},
+        # The page may not have all.
+        "counts": {"questions": len(asked), **{kind: len(some) for kind, some in found.items()}},
         "diary": diary, "newest": len(commits), "commits": parts.first(commits, COMMITS, "commits"),
         "shown": SHOWN, "questions": list(parts.questions(kept)),
         "pairs": [[then.number, now.number] for then, now in pairs_of(kept)],
         "said": {then.number: marks(then, now) for then, now in pairs_of(kept)},
         "tables": list(parts.tables()),
     }
-    if found.left_out:
-        parts.left_out.append(f"{found.left_out:,} findings: `{which.ANSWERS} refusals` lists all")
+    left_out = sum(len(some[LISTED:]) for some in found.values())
+    if left_out:
+        parts.left_out.append(f"{left_out:,} findings: `{which.ANSWERS} refusals` lists all")
     return Contents({**data, "leftOut": parts.left_out}, parts.lists)
-
-
-def counts_of(found: Findings, others: int, questions: int) -> Dict[str, int]:
-    """Returns the number of findings and questions, since the page may not have all. `others` counts as doubtful.
-    """
-    refused, idle, doubtful = found.counts
-    return {"refused": refused, "idle": idle, "doubtful": doubtful + others, "questions": questions}
 
 
 Thing = TypeVar("Thing")
@@ -349,7 +290,7 @@ class Parts:
     """Lists of records that the page has, and notes on records for which it has no capacity."""
 
     def __init__(self, sources: Sources) -> None:
-        self.sources = sources
+        self.sources, self.room = sources, ROOM
         self.lists: List[Tuple[str, str]] = []
         self.left_out: List[str] = []
 
@@ -360,11 +301,11 @@ class Parts:
         return things[:most]
 
     def questions(self, kept: Sequence[Answer]) -> Iterator[Data]:
-        room, shown, drawn = Room(ROOM), shown_at_once(kept), 0
+        shown, drawn = shown_at_once(kept), 0
         for answer in kept:
-            has_all = self.add_records(answer, room, shown)
+            has_all = self.add_records(answer, shown)
             is_past = drawn == PICTURES and figures.is_drawn(answer)
-            drawing = NO_ROOM if is_past else drawing_of(answer, self.sources.look.amounts, self.sources.past)
+            drawing = NO_ROOM if is_past else drawing_of(answer, self.sources.look, self.sources.past)
             drawn += drawing.tree is not None
             yield {
                 "number": answer.number, "place": answer.where, "command": short(answer.command.text),
@@ -376,10 +317,16 @@ class Parts:
                 "picture": drawing.tree, "noPicture": drawing.why,
             }
 
-    def add_records(self, answer: Answer, room: Room, shown: int) -> bool:
+    def has_room(self, records: str) -> bool:
+        """Whether the page may have these records too, which it then has."""
+        fits = len(records) <= self.room
+        self.room -= len(records) * fits
+        return fits
+
+    def add_records(self, answer: Answer, shown: int) -> bool:
         """Takes the answer's records, or only the first ones. Returns whether all are taken."""
         count, text = len(answer.table.records), as_json(answer.table)
-        has_all = room.take(text) or count <= shown
+        has_all = self.has_room(text) or count <= shown
         if not has_all:
             text = as_json(answer.table, shown)
             rest = f"{count - shown:,} of {count:,} records"
@@ -388,27 +335,19 @@ class Parts:
         return has_all
 
     def tables(self) -> Iterator[Data]:
-        room = Room(ROOM)
+        self.room = ROOM
         for number, (name, table) in enumerate(self.sources.versions.items()):
             text, count = as_json(table), len(table.records)
-            is_there = room.take(text)
+            is_there = self.has_room(text)
             if is_there:
                 self.lists.append((f"versions-{number}", text))
             else:
                 self.left_out.append(f"the {count:,} versions of {name}, and so what held on each day")
             yield {
                 "name": name, "columns": columns_of(table, self.sources.look),
-                "key": key_places(self.sources.tables[name]),
+                "key": [VALUES + place for place in self.sources.tables[name].key],
                 "count": count, "isThere": is_there, "number": number,
             }
-
-
-def as_object(file: Marked) -> Data:
-    return file._asdict()
-
-
-def as_objects(found: Sequence[Finding]) -> List[Data]:
-    return [one._asdict() for one in found]
 
 
 def days_of(sources: Sources, diary: Optional[str]) -> changes.Days:
@@ -435,7 +374,8 @@ def commits_of(sources: Sources, days: Sequence[Tuple[str, int]]) -> Iterator[Li
         command = answer.command
         if not answer.refusal and command.word in CHANGES:
             number = answer.commits
-            more = f" ({len(command.rows):,} rows)" if command.word == "load" else ""
+            count = f"{len(command.rows):,} row{'s' * (len(command.rows) != 1)}"
+            more = f" ({count})" if command.word == "load" else ""
             yield [
                 str(number), day_of_commit[number] or "", answer.where, short(command.text) + more,
                 *map(str, sources.past.counts[number]),
@@ -464,11 +404,9 @@ def columns_of(table: Table, look: Look) -> List[List[Any]]:
 
 def sentence_of(answer: Answer) -> str:
     """What a division or a verdict says, in a sentence."""
-    if answer.command.word == "dip":
-        return sentence_of_division(answer.table)
     if answer.command.word == "check":
         return answers.sentence_of(answer)
-    return ""
+    return sentence_of_division(answer.table) if answer.command.word == "dip" else ""
 
 
 def parts_of(answer: Answer) -> List[List[str]]:
@@ -498,8 +436,3 @@ def pairs_of(kept: Sequence[Answer]) -> Iterator[Tuple[Answer, Answer]]:
 def question_of(answer: Answer) -> Tuple[Tuple[str, ...], ...]:
     """Returns the question without its commit: the command, and the parts of a check."""
     return (tuple(answer.command.front), *(tuple(record.fields) for record in answer.command.rows))
-
-
-def key_places(schema: Schema) -> List[int]:
-    """Returns the indices of the key's values in a version, where columns may have other names."""
-    return [VALUES + place for place in schema.key]

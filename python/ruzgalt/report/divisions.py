@@ -5,7 +5,6 @@ from typing import Dict, Iterable, Iterator, List, NamedTuple, Optional, Sequenc
 from ruzgalt.errors import Misfit
 from ruzgalt.script import run
 from ruzgalt.script.answers import Answer
-from ruzgalt.script.reader import Row
 from ruzgalt.script.records import short
 from ruzgalt.script.run import Past, Version
 from ruzgalt.script.schemas import DIVISION, PERIOD, Column, Kind, Schema, Table, ints, unique
@@ -33,11 +32,9 @@ def by_groups(past: Past, answer: Answer, names: Sequence[str]) -> Table:
 
     Groups are by their values, columns from the left and numbers by size.
     """
-    records: List[Row] = []
-    for group, division in of_groups(past, answer, names):
-        for part, place, instant in division.texts():
-            row = group.rows[int(place) - 1]
-            records.append([part, str(row.row_id), instant, *fields_of(row)])
+    found = ((group.rows[int(place) - 1], part, instant) for group, division in of_groups(past, answer, names)
+             for part, place, instant in division.texts())
+    records = [[part, str(row.row_id), instant, *fields_of(row)] for row, part, instant in found]
     return Table(unique([*DIVISION, *PERIOD, *answer.schema.columns]), records)
 
 
@@ -84,24 +81,17 @@ def fields_of(row: Version) -> List[str]:
 
 
 def groups_of(rows: Iterable[Version], schema: Schema, names: Sequence[str]) -> List[Group]:
+    """Returns the groups by their values, columns from the left and numbers by size."""
     places = [schema.index_of(name) for name in names]
     found: Dict[Values, List[Version]] = {}
     for row in rows:
         found.setdefault(tuple(row.values[place] for place in places), []).append(row)
     columns = [schema.columns[place] for place in places]
-    return [Group(values, found[values]) for values in in_order(columns, found)]
+    is_int = [column.kind is Kind.INT for column in columns]
+    by_size = sorted(found, key=lambda values: [int(one) if number else one for number, one in zip(is_int, values)])
+    return [Group(values, found[values]) for values in by_size]
 
 
 def trial_of(name: str, group: Group) -> List[Sequence[str]]:
     rows = (["row", row.start, row.end] for row in group.rows)
     return [["table", name], ["load", name], *rows, ["end"], ["dip", name]]
-
-
-def in_order(columns: Sequence[Column], found: Iterable[Values]) -> List[Values]:
-    """The values of these columns in order, columns from the left and numbers by size."""
-    is_int = [column.kind is Kind.INT for column in columns]
-
-    def by_size(values: Values) -> Tuple[object, ...]:
-        return tuple(int(text) if number else text for number, text in zip(is_int, values))
-
-    return sorted(found, key=by_size)

@@ -3,7 +3,8 @@ import csv
 import io
 import json
 import re
-from itertools import islice
+from functools import partial
+from itertools import chain, islice
 from pathlib import Path
 from typing import Any, Callable, Dict, Iterator, List, NamedTuple, Optional, Sequence, Tuple
 
@@ -13,11 +14,18 @@ from ruzgalt.report.picks import Pick
 from ruzgalt.script.answers import Answer, Listed
 from ruzgalt.script.changes import IDS
 from ruzgalt.script.forms import NAME_HAS, is_integer, is_name
-from ruzgalt.script.reader import BYTE_ORDER_MARK, PIECE
-from ruzgalt.script.records import Printer, encode, is_seen, short, to_record, to_text, visible
+from ruzgalt.script.records import BYTE_ORDER_MARK, PIECE, Printer, encode, is_seen, short, to_record, to_text, visible
 from ruzgalt.script.schemas import MOST_COLUMNS, PERIOD, Column, Kind, Schema, Table
 
 Pieces = Iterator[bytes]
+
+
+def in_pieces(records: Iterator[Any], printed: Callable[[List[Any]], str]) -> Pieces:
+    """Yields the bytes of records, so many at a time."""
+    piece = list(islice(records, PIECE))
+    while piece:
+        yield encode(printed(piece))
+        piece = list(islice(records, PIECE))
 
 
 def to_csv(table: Table) -> Pieces:
@@ -25,12 +33,8 @@ def to_csv(table: Table) -> Pieces:
     yield encode(to_text([table.names]))
     if isinstance(table.records, Listed) and table.records.has_lines:
         yield from table.records.lines()
-        return
-    printer, texts = Printer(), table.texts()
-    piece = list(islice(texts, PIECE))
-    while piece:
-        yield encode(printer.text(piece))
-        piece = list(islice(texts, PIECE))
+    else:
+        yield from in_pieces(table.texts(), Printer().text)
 
 
 def to_folder(picks: Sequence[Pick], folder: Path, is_replacing: bool, printed: Callable[[Table], Pieces]) -> None:
@@ -42,8 +46,7 @@ def to_folder(picks: Sequence[Pick], folder: Path, is_replacing: bool, printed: 
     for pick, file in zip(picks, places):
         if "/" in pick.name or pick.name.startswith(".") or not all(map(is_seen, pick.name)):
             raise Misfit(f"{visible(pick.name)}: not a file's name")
-        if file.exists() and not is_replacing:
-            raise Misfit(f"{file} already exists, so no file was written: --replace replaces it")
+        refuse_present(file, is_replacing, "no file")
     folder.mkdir(parents=True, exist_ok=True)
     with files.whole(places, is_replacing) as paths:
         for pick, path in zip(picks, paths):
@@ -51,21 +54,22 @@ def to_folder(picks: Sequence[Pick], folder: Path, is_replacing: bool, printed: 
                 written.writelines(printed(pick.answer.table))
 
 
+def refuse_present(file: Path, is_replacing: bool, what: str) -> None:
+    if file.exists() and not is_replacing:
+        raise Misfit(f"{file} already exists, so {what} was written: --replace replaces it")
+
+
 def to_json(picks: Sequence[Pick]) -> str:
     return json.dumps([as_object(pick) for pick in picks], indent=1, ensure_ascii=False) + "\n"
 
 
 def as_object(pick: Pick) -> Dict[str, Any]:
-    answer = pick.answer
-    names = answer.table.names
+    answer, table, record = pick.answer, pick.answer.table, pick.answer.command.record
     return {
-        "name": pick.name,
-        "number": answer.number,
-        "line": answer.line,
-        "record": answer.command.record.number,
-        "command": list(answer.command.record.fields),
-        "columns": [{"name": column.name, "kind": column.kind.value} for column in answer.table.columns],
-        "records": [dict(zip(names, values)) for values in answer.table.values()],
+        "name": pick.name, "number": answer.number, "line": answer.line, "record": record.number,
+        "command": list(record.fields),
+        "columns": [{"name": column.name, "kind": column.kind.value} for column in table.columns],
+        "records": [dict(zip(table.names, values)) for values in table.values()],
     }
 
 
@@ -132,11 +136,8 @@ def to_spreadsheet(table: Table, is_german: bool) -> Iterator[bytes]:
     """The table with a header, by pieces; with semicolons where it is for a German spreadsheet."""
     yield BYTE_ORDER_MARK
     places = text_places(table)
-    records = (guarded(record, places) for record in table.texts())
-    piece: List[Sequence[str]] = [table.names]
-    while piece:
-        yield encode(printed(piece, ";" if is_german else ","))
-        piece = list(islice(records, PIECE))
+    records = chain([table.names], (guarded(record, places) for record in table.texts()))
+    yield from in_pieces(records, partial(to_lines, mark=";" if is_german else ","))
 
 
 def guarded(record: List[str], places: Sequence[int]) -> List[str]:
@@ -146,7 +147,7 @@ def guarded(record: List[str], places: Sequence[int]) -> List[str]:
     return record
 
 
-def printed(records: Sequence[Sequence[str]], mark: str) -> str:
+def to_lines(records: Sequence[Sequence[str]], mark: str) -> str:
     text = io.StringIO()
     csv.writer(text, delimiter=mark, lineterminator="\r\n").writerows(records)
     return text.getvalue()
@@ -167,13 +168,9 @@ def pieces(answer: Answer, wish: Wish) -> Iterator[bytes]:
     start = answer.table.index_of(PERIOD[0].name)
     numbers = [place for place, column in zip(places, schema.columns) if column.kind is Kind.INT]
     yield encode(f"{to_record(schema.fields)}\nload,{schema.name}\n")
-    printer, records = Printer(), answer.table.texts()
-    piece = list(islice(records, PIECE))
-    while piece:
-        refuse_long_numbers(answer, piece, numbers)
-        rows = (["row", *record[start:start + 2], *(record[place] for place in places)] for record in piece)
-        yield encode(printer.text(rows))
-        piece = list(islice(records, PIECE))
+    records = (refuse_long_numbers(answer, record, numbers) for record in answer.table.texts())
+    rows = (["row", *record[start:start + 2], *(record[place] for place in places)] for record in records)
+    yield from in_pieces(rows, Printer().text)
     yield b"end\n"
 
 
@@ -225,10 +222,10 @@ def kind_of(answer: Answer, place: int) -> Kind:
     return Kind.INT if answer.table.columns[place].kind is Kind.INT else Kind.TEXT
 
 
-def refuse_long_numbers(answer: Answer, records: Sequence[Sequence[str]], places: Sequence[int]) -> None:
-    """Refuses a sum that no column of a table can have."""
-    for record in records:
-        for place in places:
-            if not is_integer(record[place]):
-                what = f"{answer.table.names[place]} is {record[place]}, which has more than 64 bits"
-                raise Misfit(f"{short(to_record(record))}: {what}, too many for a table")
+def refuse_long_numbers(answer: Answer, record: List[str], places: Sequence[int]) -> List[str]:
+    """Returns the record. Refuses a sum that no column of a table can have."""
+    for place in places:
+        if not is_integer(record[place]):
+            what = f"{answer.table.names[place]} is {record[place]}, which has more than 64 bits"
+            raise Misfit(f"{short(to_record(record))}: {what}, too many for a table")
+    return record

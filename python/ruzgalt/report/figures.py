@@ -9,14 +9,14 @@ from itertools import accumulate
 from typing import Callable, Dict, Iterable, List, Optional, Sequence, Tuple, Union
 
 from ruzgalt.errors import Misfit
-from ruzgalt.report.shown import Amounts
+from ruzgalt.report.shown import Amounts, Look
 from ruzgalt.script import schemas
 from ruzgalt.script.answers import Answer
-from ruzgalt.script.forms import POINTS, at_second, printed, read_point, seconds
-from ruzgalt.script.language import Answered
+from ruzgalt.script.commands import Answered
+from ruzgalt.script.forms import POINTS, at_second, print_point, printed, read_point, seconds
 from ruzgalt.script.records import code_of, short, visible
 from ruzgalt.script.run import Versions
-from ruzgalt.script.schemas import PERIOD, Kind, Table, group_of, ints, listed, unique
+from ruzgalt.script.schemas import PERIOD, Column, Kind, Table, group_of, ints, listed, unique
 
 DAY = 86_400
 # A row that ends in the last year, or starts on the first day that there is, has no end, or no start, that is known.
@@ -165,6 +165,10 @@ class Bars:
     def shown(self) -> List[Bar]:
         return [bar for bar in self.bars if self.span.shows(bar.start, bar.end)]
 
+    @property
+    def is_filled(self) -> bool:
+        return bool(self.bars)
+
     def name_of(self, lane: int) -> str:
         """The name that a lane has, or the one above it to which it belongs."""
         return next((name for name in reversed(self.lanes[:lane + 1]) if name), "")
@@ -176,17 +180,24 @@ Step = Tuple[int, int, int]
 
 @dataclass(frozen=True)
 class Steps:
-    """A value over time: periods, by their start, with the value in each."""
+    """A value over time: periods, by their start, with the value in each; for several groups on one scale."""
 
     title: str
     span: Span
-    steps: List[Step]
     name: str
-    amounts: Amounts = field(default_factory=Amounts)
+    # The names of groups with their steps: one without a name if there are no groups.
+    groups: List[Tuple[str, List[Step]]]
+    amounts: Amounts
+    look: Look
+    has_groups: bool
 
     @property
     def values(self) -> List[int]:
-        return [value for _, _, value in self.steps]
+        return [value for _, steps in self.groups for _, _, value in steps]
+
+    @property
+    def is_filled(self) -> bool:
+        return bool(self.values)
 
     def printed(self, value: int) -> str:
         return self.amounts.parted(value, self.amounts.of(self.name) or 0)
@@ -195,32 +206,16 @@ class Steps:
         """The texts of these levels."""
         return list(self.amounts.levels(self.name, levels))
 
-
-@dataclass(frozen=True)
-class Groups:
-    """Steps of several groups below each other, on one scale, each with the group's name."""
-
-    title: str
-    groups: List[Tuple[str, Steps]]
-
-    @property
-    def span(self) -> Span:
-        return self.groups[0][1].span
-
-    @property
-    def values(self) -> List[int]:
-        return [value for _, steps in self.groups for value in steps.values]
+    def record(self, step: Step) -> str:
+        """A step as the answer has it, or as it is shown."""
+        start, end, value = step
+        points = [print_point(at_second(second)) for second in (start, end)]
+        return fields_of([*PERIOD, *ints(self.name)], [*points, str(value)], self.look)
 
 
-Picture = Union[Bars, Steps, Groups]
+Picture = Union[Bars, Steps]
 # Shown instead of an empty picture.
 NOTHING = "nothing to draw: no chosen record holds in the time that is shown"
-
-
-def is_empty(picture: Picture) -> bool:
-    if isinstance(picture, Bars):
-        return not picture.bars
-    return not (picture.groups if isinstance(picture, Groups) else picture.steps)
 
 
 def counted(count: int, what: str) -> str:
@@ -241,6 +236,8 @@ class Wish:
     end: Optional[str] = None
     amounts: Amounts = field(default_factory=Amounts)
     script: str = ""
+    # How the record of a bar is shown: as the answer has it, unless a table next to the picture shows it otherwise.
+    look: Look = Look()
 
     def limits(self) -> Tuple[Optional[int], Optional[int]]:
         """The seconds of the first point that is shown, and of the end."""
@@ -282,14 +279,16 @@ class Wish:
         texts = (self.amounts.printed(name, record[name]) if name in numbers else record[name] for name in names)
         return " ".join(map(in_line, texts))
 
+    def bar(self, columns: Sequence[Column], record: Record, lane: int, label: str) -> Bar:
+        start, end = seconds(record["valid_from"]), seconds(record["valid_to"])
+        return Bar(lane, start, end, label, fields_of(columns, list(record.values()), self.look))
 
-def bar_of(record: Record, lane: int, label: str) -> Bar:
-    return Bar(lane, seconds(record["valid_from"]), seconds(record["valid_to"]), label, fields_of(record))
 
-
-def fields_of(record: Record) -> str:
-    """The record as the answer has it."""
-    return ", ".join(f"{name}: {in_line(value)}" for name, value in record.items() if value)
+def fields_of(columns: Sequence[Column], record: Sequence[str], look: Look) -> str:
+    """The record of an answer with these columns by this look."""
+    names = [column.name for column in look.columns(Table(list(columns)))]
+    texts = (look.look_of(column).shown(text) for column, text in zip(columns, record))
+    return ", ".join(f"{name}: {in_line(text)}" for name, text in zip(names, texts) if text)
 
 
 def square(answer: Answer, wish: Wish) -> Bars:
@@ -307,7 +306,7 @@ def square(answer: Answer, wish: Wish) -> Bars:
         made, until = int(record["sys_from"]), int(record["sys_to"] or last + 1)
         lane, end = bisect_left(commits, made), bisect_left(commits, until)
         if lane < end:
-            bars.append(replace(bar_of(record, lane, label), lanes=end - lane))
+            bars.append(replace(wish.bar(answer.table.columns, record, lane, label), lanes=end - lane))
     refuse_overlaps(answer, bars)
     lanes = [commit_lane(commit, after) for commit, after in zip(commits, [*commits[1:], last + 1])]
     if first > answer.commits:
@@ -363,8 +362,6 @@ def refuse_overlaps(answer: Answer, bars: List[Bar]) -> None:
         inside.insert(index, (bar.start, number))
 
 
-__all__ = ["NOTHING", "Bar", "Bars", "Groups", "Picture", "Steps", "Wish", "is_drawn", "of"]
-
 # Returns the versions of a table of this name.
 VersionsOf = Callable[[str], Versions]
 DRAWN = (Answered.DIVISION, Answered.ROWS, Answered.PAIRS, Answered.STEPS, Answered.VERSIONS)
@@ -383,9 +380,7 @@ def of(answer: Answer, wish: Wish, versions: VersionsOf) -> Picture:
     wish.amounts.refuse_strangers(answer.table)
     if answered is Answered.VERSIONS:
         return square(answer, wish)
-    if is_of_steps(answer):
-        return steps(answer, wish)
-    return groups(answer, wish) if is_of_groups(answer, wish) else by_value(answer, wish)
+    return steps(answer, wish) if is_of_steps(answer) or is_of_groups(answer, wish) else by_value(answer, wish)
 
 
 def is_drawn(answer: Answer) -> bool:
@@ -426,7 +421,7 @@ def division(answer: Answer, wish: Wish, versions: VersionsOf) -> Bars:
         records.append(dict(zip(table.names, [row_id, row.start, row.end, *row.values])))
     kept = [(part, record) for part, record in zip(parts, records) if wish.wants(record)]
     labels = [wish.label or "row_id"]
-    bars = [bar_of(record, part, wish.labelled(table, record, labels)) for part, record in kept]
+    bars = [wish.bar(table.columns, record, part, wish.labelled(table, record, labels)) for part, record in kept]
     lanes = [f"part {part}" for part in range(max(parts, default=-1) + 1)]
     count = counted(len(records), "row") if len(kept) == len(records) else f"{len(kept):,} of {len(records):,} rows"
     title = wish.title(answer, f"{count} in {counted(len(lanes), 'part')}, {instant}")
@@ -448,7 +443,9 @@ def by_value(answer: Answer, wish: Wish) -> Bars:
     bars: List[Bar] = []
     lanes: List[str] = []
     for value, records in lanes_of(table, by, wish):
-        below = stacked(bar_of(record, 0, label_of(answer, record, labels, wish)) for record in records)
+        below = stacked(
+            wish.bar(table.columns, record, 0, label_of(answer, record, labels, wish)) for record in records
+        )
         bars.extend(replace(bar, lane=len(lanes) + bar.lane) for bar in below)
         lanes.extend([in_line(value) or "-", *[""] * max(bar.lane for bar in below)])
     title = wish.title(answer, counted(len(bars), "record") + (f" by {by}" if by else ""))
@@ -485,34 +482,21 @@ def stacked(bars: Iterable[Bar]) -> List[Bar]:
 
 
 def steps(answer: Answer, wish: Wish) -> Steps:
-    found = [step_of(record) for record in answer.table.texts()]
-    span = wish.span((start, end) for start, end, _ in found)
-    shown = [step for step in found if span.shows(*step[:2])]
-    title = wish.title(answer, counted(len(shown), "period"))
-    return Steps(title, span, shown, answer.table.names[-1], wish.amounts)
-
-
-def groups(answer: Answer, wish: Wish) -> Groups:
-    """Returns the steps of each group."""
+    """Returns the steps of an aggregate, for each group if it has groups."""
     table = answer.table
-    column = table.columns[0]
     by_value: Dict[str, List[Step]] = defaultdict(list)
+    *group, start, end, name = table.columns
     for record in wish.wanted(table):
-        by_value[record[column.name]].append(step_of(list(record.values())[1:]))
+        by_value[record[group[0].name] if group else ""].append((
+            seconds(record[start.name]), seconds(record[end.name]), int(record[name.name]),
+        ))
+    is_int = bool(group) and group[0].kind is Kind.INT
+    values = sorted(by_value, key=int) if is_int else sorted(by_value)
+    count = counted(sum(map(len, by_value.values())), "period") + (f" by {group[0].name}" if group else "")
+    names = [wish.amounts.printed(group[0].name, value) if is_int else in_line(value) or "-" for value in values]
     span = wish.span(step[:2] for found in by_value.values() for step in found)
-    values = sorted(by_value, key=int) if column.kind is Kind.INT else sorted(by_value)
-    count = sum(map(len, by_value.values()))
-    title = wish.title(answer, f"{counted(count, 'period')} by {column.name}")
-    names = [wish.amounts.printed(column.name, value) if column.kind is Kind.INT else value for value in values]
-    return Groups(title, [
-        (in_line(name) or "-", Steps(title, span, by_value[value], table.names[-1], wish.amounts))
-        for name, value in zip(names, values)
-    ])
-
-
-def step_of(fields: Sequence[str]) -> Step:
-    start, end, value = fields
-    return seconds(start), seconds(end), int(value)
+    groups = list(zip(names if group else [""], map(by_value.__getitem__, values)))
+    return Steps(wish.title(answer, count), span, name.name, groups, wish.amounts, wish.look, bool(group))
 
 
 def span_for(bars: Sequence[Bar], wish: Wish) -> Span:

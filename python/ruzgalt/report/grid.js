@@ -1,18 +1,15 @@
 "use strict";
 // Elements, and tables that a reader sorts, filters and saves. No text of the data is read as HTML: elements are made one
-// by one, and what stands in them is text.
+// by one, and their content is text.
 
 const SVG = "http://www.w3.org/2000/svg";
 const collator = new Intl.Collator(undefined, { numeric: true });
-// What can't be seen, or turns the direction of what stands behind it, is shown by its code: controls and formats, blanks
-// other than a space, and letters and marks without ink.
+// Characters that can't be seen, or that turn the direction of later ones, are shown by their codes: controls and formats,
+// blanks other than a space, and letters and marks without ink.
 const UNSEEN = /(?![ \n\t])[\p{C}\p{Z}\p{Default_Ignorable_Code_Point}\u2800]/gu;
-// On paper a table has so many records at most, as page.css says.
-const ON_PAPER = 100;
-// A text of so many characters at most stays in one line, where there is room.
-const BRIEF = 24;
-// A table of more records may need a bar to scroll, for which it has room beside its last column.
-const LONG = 12;
+// The most records of a table on paper, as page.css has it; the most characters of a text that stays in one line; the
+// most records of a table without room for a bar to scroll.
+const ON_PAPER = 100, BRIEF = 24, LONG = 12;
 
 function blockOf(id) {
   return JSON.parse(document.getElementById(id).textContent);

@@ -1,4 +1,4 @@
-// The parts of the page: what it is of, what is to be looked at first, commits, then and now, questions, tables.
+// The parts of the page: what it is of, what a reader looks at first, commits, then and now, questions, tables.
 
 // A table of more columns takes the whole width, on the screen and on paper.
 const WIDEST = 8, WIDEST_ON_PAPER = 5;
@@ -33,7 +33,7 @@ function showHead() {
   const notes = data.note.split("\n").filter((line) => line.trim());
   document.querySelector("h1").after(...notes.map((line) => make("p", { class: "note" }, line)));
   const { refused, idle, doubtful, questions } = data.counts;
-  const findings = [[refused, "refused"], [idle, "touched nothing"], [doubtful, "may not be meant"]];
+  const findings = [[refused, "refused"], [idle, "touched nothing"], [doubtful, "possible mistakes"]];
   const short = findings.map(([count, what]) => `${grouped(count)} ${what}`).join(", ");
   const counts = `${counted(data.newest, "commit")}, ${counted(questions, "question")}; ${short}.`;
   const facts = [["Script", fileText(data.script)], ["Answered by", answeredBy()], ["Run again", runAgain()], ["In short", [counts]]];
@@ -43,24 +43,25 @@ function showHead() {
   document.getElementById("facts").after(savingChoice());
 }
 
-function showFindings(title, found, count, about, none) {
-  section("first", make("h3", {}, `${title}: ${grouped(count)}`), make("p", {}, found.length ? about : none));
-  if (found.length) {
-    const isNamed = found.some((one) => one.name);
-    const name = isNamed ? [["refusal", "bad"]] : [];
-    const columns = [["place", "short"], ["command", "code"], ...name, ["reason", "reason"]];
-    const records = found.map((one) => [one.place, one.command, ...(isNamed ? [one.name] : []), [one.reason, ...one.more].join("\n")]);
-    section("first", new Grid({ label: title, columns, records, count }).element);
-  }
-}
+// For each kind of findings its title, and what is said of some and of none.
+const FINDINGS = {
+  refused: ["Refused commands", "Each changed nothing: none of its rows was taken, and it is no commit.", "No command was refused."],
+  idle: ["Changes that touched nothing", "Each is a commit, but no row was made or closed.", "Each change of rows made or closed some."],
+  doubtful: ["Possible mistakes", "Each was done as it is written. Its author knows whether it is meant.", "Nothing else was noticed."],
+};
 
 function showFirst() {
-  showFindings("Refused commands", data.refused, data.counts.refused,
-    "Each changed nothing: none of its rows was taken, and it is no commit.", "No command was refused.");
-  showFindings("Changes that touched nothing", data.idle, data.counts.idle,
-    "Each is a commit, but no row was made or closed.", "Each change of rows made or closed some.");
-  showFindings("What may not be meant", data.doubtful, data.counts.doubtful,
-    "Each was done as it is written. Whether it is meant, its author knows.", "Nothing else was noticed.");
+  for (const [kind, [title, about, none]] of Object.entries(FINDINGS)) {
+    const found = data[kind], count = data.counts[kind];
+    section("first", make("h3", {}, `${title}: ${grouped(count)}`), make("p", {}, found.length ? about : none));
+    if (found.length) {
+      const name = kind === "refused" ? [["refusal", "bad"]] : [];
+      const columns = [["place", "short"], ["command", "code"], ...name, ["reason", "reason"]];
+      const reasons = found.map(({ reason, more }) => [reason, ...more].join("\n"));
+      const records = found.map((one, place) => [one.place, one.command, ...name.map(() => one.name), reasons[place]]);
+      section("first", new Grid({ label: title, columns, records, count }).element);
+    }
+  }
 }
 
 function showCommits() {
@@ -79,23 +80,7 @@ function showCommits() {
 
 // --- Then and now ---
 
-function countsOf(keys) {
-  const counts = new Map();
-  keys.forEach((key) => counts.set(key, (counts.get(key) || 0) + 1));
-  return counts;
-}
-
-// The records, each with nothing before it, or with `only` where there are fewer equal ones among the others.
-function marked(records, others, only) {
-  const left = countsOf(others.map((one) => JSON.stringify(one)));
-  return records.map((record) => {
-    const key = JSON.stringify(record), count = left.get(key) || 0;
-    left.set(key, count - 1);
-    return [count > 0 ? "" : only, ...record];
-  });
-}
-
-// The same by signs that are given: of records that hold for a time, by their times and without ids.
+// The records, each with nothing before it, or with `only` if its sign says that the other answer has fewer such ones.
 function signed(records, signs, only) {
   return records.map((record, place) => [signs[place] === "1" ? only : "", ...record]);
 }
@@ -127,9 +112,7 @@ function pairOf(then, now) {
   }
   const before = blockOf(`records-${then.number}`), after = blockOf(`records-${now.number}`);
   const signs = data.said[then.number];
-  const said = signs
-    ? [signed(before, signs[0], "only then"), signed(after, signs[1], "only now")]
-    : [marked(before, after, "only then"), marked(after, before, "only now")];
+  const said = [signed(before, signs[0], "only then"), signed(after, signs[1], "only now")];
   const [gone, come] = said.map((records) => records.filter(([mark]) => mark).length);
   const both = before.length - gone, still = after.length - come;
   const cut = both === still ? "" : ` (${grouped(still)} now, as changes have cut or left them)`;
@@ -209,8 +192,8 @@ function showQuestions() {
 // --- Tables, and what the page is ---
 
 function showTables() {
-  const source = "What is shown here is found in this page from versions that the program printed: after the script it was "
-    + "asked between,TABLE,0,1000000 for each table.";
+  const source = "This part is made of the versions that the program printed: after the script it was asked "
+    + "between,TABLE,0,1000000 for each table.";
   const times = "Two times are kept apart: the day for which a row holds, and the commit from which on the store knew it.";
   section("tables", make("p", {}, source), make("p", {}, times));
   section("tables", ...(data.tables.length ? data.tables.map(tableOf) : [make("p", {}, "The script makes no table.")]));
@@ -228,7 +211,7 @@ function showAbout() {
     make("p", {}, "A period begins with its first point and ends before its second; 9999-12-31 stands for an end that isn't "
       + "known. Records are sorted and filtered in the page alone. What is saved as CSV has all records of a table that are in "
       + "the page, in the order of the answer."),
-    ...(data.hasLastDays ? [make("p", {}, "In a column last_day stands the last day on which a record holds, and not its end; "
+    ...(data.hasLastDays ? [make("p", {}, "A column last_day has the last day on which a record holds, and not its end; "
       + "what is saved as the program prints it has ends.")] : []),
     make("h3", {}, "Left out of this page"), make("ul", {}, ...left.map((one) => make("li", {}, one))));
 }

@@ -5,8 +5,7 @@ from typing import Iterable, Iterator, List, NamedTuple, Optional, Sequence, Tup
 from ruzgalt.errors import Misfit
 from ruzgalt.script import naming
 from ruzgalt.script.forms import INTEGER, at_second, is_printed, print_point, seconds
-from ruzgalt.script.reader import Row, Rows
-from ruzgalt.script.records import visible
+from ruzgalt.script.records import Row, Rows, visible
 from ruzgalt.script.schemas import PERIOD, Column, Kind, Table
 
 # What a join and an aggregate put before the name of a column that they read.
@@ -135,6 +134,12 @@ class OfColumn(NamedTuple):
                 raise Misfit(f"--decimals {self.name}: {visible(text)} isn't a whole number")
             return self.amounts.plain(int(text), self.digits)
         return last_day(text) if self.is_end else text
+
+    def shown(self, text: str) -> str:
+        """The field for a person, with marks between thousands if its decimals are given."""
+        if self.digits is not None and text:
+            return self.amounts.parted(int(text), self.digits)
+        return self(text) or ""
 
 
 def last_day(end: str) -> str:

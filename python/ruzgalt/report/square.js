@@ -1,7 +1,7 @@
-// The picture of one fact's versions: time across and commits down. A version stands where it holds, and from its commit to
+// The picture of one fact's versions: time across and commits down. A version is where it holds, and from its commit to
 // the one that closed it.
 
-// The places in a version of its period and of its commits; its values stand behind them.
+// The indices in a version of its period and of its commits; its values follow them.
 const FROM = 1, TO = 2, MADE = 3, CLOSED = 4, VALUES = 5;
 // An end from then on isn't known, nor is a start on the first day that there is.
 const OPEN = "9999", EVER = "0001-01-01";

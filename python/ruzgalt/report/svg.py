@@ -4,12 +4,15 @@ from collections import Counter
 from dataclasses import dataclass, replace
 from html import escape
 from itertools import groupby
-from typing import Dict, Iterable, Iterator, List, NamedTuple, Optional, Sequence, Tuple, Union
+from typing import Any, Dict, Iterable, Iterator, List, NamedTuple, Optional, Sequence, Tuple
 
 from ruzgalt.report.figures import (
-    NOTHING, Bar, Bars, Groups, Picture, Span, Step, Steps, counted, front_of, is_empty, shortened, ticks, width_of,
+    NOTHING, Bar, Bars, Picture, Span, Step, Steps, counted, front_of, shortened, ticks, width_of,
 )
 from ruzgalt.script.forms import at_second, print_point, seconds
+
+# An element: its name, its attributes, and its texts and elements.
+Tree = List[Any]
 
 # Pixels: of a letter, the edge, a line of the title or of a note, and the areas above and below the frame.
 LETTER, EDGE, LINE, ABOVE, BELOW = 7.0, 12, 16, 66, 30
@@ -66,7 +69,7 @@ def top_of(title: str, width: int) -> int:
     return ABOVE + (len(wrapped(title, width)) - 1) * LINE
 
 
-def axis(frame: Frame) -> Iterator[str]:
+def axis(frame: Frame) -> Iterator[Tree]:
     """Ticks through the whole frame, with their texts above and below, since a drawing may be long."""
     taken = 0.0
     for second, label in ticks(frame.span, max(frame.across // 90, 1)):
@@ -86,43 +89,51 @@ def side_of(place: float, frame: Frame) -> str:
     return "start" if place < frame.left + frame.across // 2 else "end"
 
 
-def line(left: float, top: float, right: float, bottom: float, colour: str, width: int = 1) -> str:
-    return f'<line x1="{left}" y1="{top}" x2="{right}" y2="{bottom}" stroke="{colour}" stroke-width="{width}"/>'
+def line(left: float, top: float, right: float, bottom: float, colour: str, width: int = 1) -> Tree:
+    return ["line", {"x1": left, "y1": top, "x2": right, "y2": bottom, "stroke": colour, "stroke-width": width}]
 
 
-def text(left: float, top: float, words: str, anchor: str = "start", colour: str = "#000") -> str:
-    return f'<text x="{left}" y="{top}" text-anchor="{anchor}" fill="{colour}">{clean(words)}</text>'
+def text(left: float, top: float, words: str, anchor: str = "start", colour: str = "#000") -> Tree:
+    return ["text", {"x": left, "y": top, "text-anchor": anchor, "fill": colour}, clean(words)]
 
 
-def box(left: float, top: float, width: float, height: float, colour: str, title: str, edge: str = "none") -> str:
-    corner = f'x="{left}" y="{top}" width="{width}" height="{height}"'
-    return f'<rect {corner} fill="{colour}" stroke="{edge}"><title>{clean(title)}</title></rect>'
+def box(left: float, top: float, width: float, height: float, colour: str, title: str, edge: str = "none") -> Tree:
+    size = {"x": left, "y": top, "width": width, "height": height, "fill": colour, "stroke": edge}
+    return ["rect", size, ["title", {}, clean(title)]]
 
 
-def shape(points: Sequence[Sequence[float]], colour: str, title: str, edge: str = "none") -> str:
+def shape(points: Sequence[Sequence[float]], colour: str, title: str, edge: str = "none") -> Tree:
     """A box of other corners."""
     corners = " ".join(f"{left},{top}" for left, top in points)
-    return f'<polygon points="{corners}" fill="{colour}" stroke="{edge}"><title>{clean(title)}</title></polygon>'
+    return ["polygon", {"points": corners, "fill": colour, "stroke": edge}, ["title", {}, clean(title)]]
 
 
 def clean(words: str) -> str:
-    """The words for XML, without characters that it can't have."""
-    return escape("".join(one if one.isprintable() else "\ufffd" for one in words))
+    """The words without characters that XML can't have."""
+    return "".join(one if one.isprintable() else "\ufffd" for one in words)
 
 
-def document(width: int, bottom: int, title: str, parts: Iterable[str], notes: Sequence[str] = ()) -> str:
+def document(width: int, bottom: int, title: str, parts: Iterable[Tree], notes: Sequence[str] = ()) -> Tree:
     """Returns the document: the title, the drawing down to `bottom`, and the notes below."""
     lines = [one for note in notes for one in wrapped(note, width)]
     height = bottom + len(lines) * LINE
-    head = (
-        f'<svg xmlns="http://www.w3.org/2000/svg" width="{width}" height="{height}" viewBox="0 0 {width} {height}"'
-        f' style="max-width: 100%" role="img" aria-label="{clean(title)}"'
-        ' font-family="Helvetica, Arial, sans-serif" font-size="12">'
-    )
-    back = f'<rect width="{width}" height="{height}" fill="#fff"/>'
+    root = {
+        "xmlns": "http://www.w3.org/2000/svg", "width": width, "height": height, "viewBox": f"0 0 {width} {height}",
+        "style": "max-width: 100%", "role": "img", "aria-label": clean(title),
+        "font-family": "Helvetica, Arial, sans-serif", "font-size": 12,
+    }
+    back = ["rect", {"width": width, "height": height, "fill": "#fff"}]
     heads = [text(EDGE, 18 + place * LINE, one) for place, one in enumerate(wrapped(title, width))]
     feet = [text(EDGE, bottom + 8 + place * LINE, one, "start", GREY) for place, one in enumerate(lines)]
-    return "\n".join([head, back, *heads, *parts, *feet, "</svg>"]) + "\n"
+    return ["svg", root, back, *heads, *parts, *feet]
+
+
+def printed(tree: Tree, between: str = "") -> str:
+    """Returns the element as SVG, with a text between its parts."""
+    name, attributes, *inner = tree
+    words = "".join(f' {key}="{escape(str(value))}"' for key, value in attributes.items())
+    parts = [escape(one) if isinstance(one, str) else printed(one) for one in inner]
+    return f"<{name}{words}/>" if not inner else between.join([f"<{name}{words}>", *parts, f"</{name}>"])
 
 
 # Light enough for black letters, and seen apart by readers who see few colours.
@@ -144,13 +155,15 @@ def fill_of(shade: int, count: int) -> str:
     return COLOURS[shade] if shade < len(COLOURS) else f"url(#stripes{shade})"
 
 
-def stripes(count: int) -> Iterator[str]:
+def stripes(count: int) -> Iterator[Tree]:
     """Yields the definitions of stripes for `count` shades."""
     for shade in range(len(COLOURS), count if count <= MOST else 0):
         turn, colour = divmod(shade - len(COLOURS), len(COLOURS))
-        form = f'width="9" height="9" patternUnits="userSpaceOnUse" patternTransform="rotate({TURNS[turn]})"'
-        parts = f'<rect width="9" height="9" fill="{COLOURS[colour]}"/><rect width="3" height="9" fill="#fff"/>'
-        yield f'<defs><pattern id="stripes{shade}" {form}>{parts}</pattern></defs>'
+        form = {"patternUnits": "userSpaceOnUse", "patternTransform": f"rotate({TURNS[turn]})"}
+        wide, narrow = (["rect", {"width": width, "height": 9, "fill": fill}] for width, fill in (
+            (9, COLOURS[colour]), (3, "#fff"),
+        ))
+        yield ["defs", {}, ["pattern", {"id": f"stripes{shade}", "width": 9, "height": 9, **form}, wide, narrow]]
 
 
 # Pixels between an edge and a letter, twice.
@@ -182,13 +195,12 @@ class Box(NamedTuple):
         return range(self.bar.lane, self.bar.lane + self.bar.lanes)
 
 
-def put(boxes: Sequence[Box], frame: Frame) -> Tuple[List[str], List[Box]]:
+def put(boxes: Sequence[Box], frame: Frame) -> Tuple[List[Tree], List[Box]]:
     """Returns the labels' texts, and the boxes whose labels don't fit."""
     boxes = sorted(boxes, key=lambda box: (box.left, box.right))
-    behind = starts_behind(boxes, frame)
     taken: Dict[int, float] = {}
     texts, without = [], []
-    for box, until in zip(boxes, behind):
+    for box, until in zip(boxes, next_starts(boxes, frame)):
         before = max(taken.get(lane, frame.left) for lane in box.lanes)
         words, left, right = place_of(box, before, until)
         taken.update({lane: max(right, box.right) for lane in box.lanes})
@@ -199,8 +211,8 @@ def put(boxes: Sequence[Box], frame: Frame) -> Tuple[List[str], List[Box]]:
     return texts, without
 
 
-def starts_behind(boxes: Sequence[Box], frame: Frame) -> List[int]:
-    """For each box where the next one of its lanes begins, or the frame ends."""
+def next_starts(boxes: Sequence[Box], frame: Frame) -> List[int]:
+    """Returns for each box where the next one of its lanes begins, or the frame ends."""
     next_in: Dict[int, int] = {}
     found = []
     for box in reversed(boxes):
@@ -253,10 +265,9 @@ class Scale:
         self.top = max([*values, self.levels[-1]])
 
 
-def begun_at(picture: Union[Steps, Groups], scale: Scale) -> str:
+def begun_at(picture: Steps, scale: Scale) -> str:
     """The title, which says where heights aren't in proportion to values."""
-    steps = picture.groups[0][1] if isinstance(picture, Groups) else picture
-    return f"{picture.title}; the scale begins at {steps.printed(scale.base)}" if scale.base else picture.title
+    return f"{picture.title}; the scale begins at {picture.printed(scale.base)}" if scale.base else picture.title
 
 
 def levels_of(values: Sequence[int], most: int) -> Tuple[int, List[int]]:
@@ -282,20 +293,32 @@ DEPTH, OF_GROUP, NAME = 240, 72, 34
 LEVELS, LEVELS_OF_GROUP, FOR_STEP = 12, 4, 6
 
 
-def draw_steps(picture: Steps, width: Optional[int]) -> str:
-    scale = Scale(picture.values, LEVELS)
+def draw_steps(picture: Steps, width: Optional[int], height: int) -> Tree:
+    """The steps; of several groups below each other, each with its name above."""
+    depth, above, most = (OF_GROUP, NAME, LEVELS_OF_GROUP) if picture.has_groups else (DEPTH, 0, LEVELS)
+    scale = Scale(picture.values, most)
     margin = margin_for(picture.scale([scale.foot, *scale.levels]))
-    across = across_for(width, margin, len(picture.values) * FOR_STEP)
+    across = across_for(width, margin, max(len(steps) for _, steps in picture.groups) * FOR_STEP)
     title, whole = begun_at(picture, scale), margin + across + EDGE
-    top = top_of(title, whole)
-    frame = Frame(picture.span, margin, across, top, top + DEPTH)
-    notes = list(listed(unplaced_values("", picture, frame), whole, LISTED))
-    return document(whole, frame.bottom + BELOW, title, [*axis(frame), *band(picture, scale, frame)], notes)
+    top, each = top_of(title, whole), depth + above
+    groups = picture.groups[:max((height - top - BELOW - KEPT * LINE) // each, 1)]
+    frame = Frame(picture.span, margin, across, top, top + each * len(groups))
+    parts, notes = [*axis(frame)], []
+    for (name, steps), begun in zip(groups, range(top, frame.bottom, each)):
+        if picture.has_groups:
+            parts.append(text(EDGE, begun + NAME - 12, shortened(name, letters_in(whole - 2 * EDGE), "\u2026")))
+        parts.extend(band(picture, steps, scale, Frame(picture.span, margin, across, begun + above, begun + each)))
+    if len(groups) < len(picture.groups):
+        rest = f"{len(groups):,} of {len(picture.groups):,} groups"
+        notes.append(f"These are the first {rest}: --height PIXELS has room for more, --where shows one.")
+    without = (one for name, steps in groups for one in unplaced_values(name, steps, picture, frame))
+    room = (height - frame.bottom - BELOW) // LINE - len(notes)
+    return document(whole, frame.bottom + BELOW, title, parts, [*notes, *listed(without, whole, room)])
 
 
-def unplaced_values(name: str, picture: Steps, frame: Frame) -> Iterator[Unplaced]:
+def unplaced_values(name: str, steps: Sequence[Step], picture: Steps, frame: Frame) -> Iterator[Unplaced]:
     """The values of steps that are too short for them."""
-    for start, end, value in picture.steps:
+    for start, end, value in steps:
         if frame.span.shows(start, end) and not has_room(picture.printed(value), start, end, frame):
             yield Unplaced(name, picture.printed(value), start, end)
 
@@ -304,36 +327,13 @@ def has_room(words: str, start: int, end: int, frame: Frame) -> bool:
     return width_of(words) * LETTER + 4 <= frame.place(end) - frame.place(start)
 
 
-def draw_groups(picture: Groups, width: Optional[int], height: int) -> str:
-    """The groups below each other, each with its name above."""
-    scale = Scale(picture.values, LEVELS_OF_GROUP)
-    margin = margin_for(picture.groups[0][1].scale([scale.foot, *scale.levels]))
-    across = across_for(width, margin, max(len(steps.steps) for _, steps in picture.groups) * FOR_STEP)
-    title, whole = begun_at(picture, scale), margin + across + EDGE
-    top, each = top_of(title, whole), OF_GROUP + NAME
-    groups = picture.groups[:max((height - top - BELOW - KEPT * LINE) // each, 1)]
-    frame = Frame(picture.span, margin, across, top, top + each * len(groups))
-    parts = [*axis(frame)]
-    for place, (name, steps) in enumerate(groups):
-        above = top + place * each
-        parts.append(text(EDGE, above + NAME - 12, shortened(name, letters_in(whole - 2 * EDGE), "\u2026")))
-        parts.extend(band(steps, scale, Frame(picture.span, margin, across, above + NAME, above + each)))
-    notes = []
-    if len(groups) < len(picture.groups):
-        rest = f"{len(groups):,} of {len(picture.groups):,} groups"
-        notes.append(f"These are the first {rest}: --height PIXELS has room for more, --where shows one.")
-    without = (one for name, steps in groups for one in unplaced_values(name, steps, frame))
-    room = (height - frame.bottom - BELOW) // LINE - len(notes)
-    return document(whole, frame.bottom + BELOW, title, parts, [*notes, *listed(without, whole, room)])
-
-
-def band(picture: Steps, scale: Scale, frame: Frame) -> Iterator[str]:
+def band(picture: Steps, steps: Sequence[Step], scale: Scale, frame: Frame) -> Iterator[Tree]:
     """Yields the levels and the steps in the frame. No area covers a value's text."""
     for level, name in zip([scale.foot, *scale.levels], picture.scale([scale.foot, *scale.levels])):
         top = height_of(level, scale, frame)
         yield line(frame.left, top, frame.right, top, "#ddd")
         yield text(frame.left - 6, top + 4, name, "end")
-    shown = [step for step in picture.steps if frame.span.shows(*step[:2])]
+    shown = [step for step in steps if frame.span.shows(*step[:2])]
     for step in shown:
         yield from area(step, picture, scale, frame)
     ground = height_of(scale.base, scale, frame)
@@ -346,13 +346,12 @@ def height_of(value: int, scale: Scale, frame: Frame) -> float:
     return round(frame.bottom - (value - scale.foot) * (frame.bottom - frame.top) / (scale.top - scale.foot), 1)
 
 
-def area(step: Step, picture: Steps, scale: Scale, frame: Frame) -> Iterator[str]:
+def area(step: Step, picture: Steps, scale: Scale, frame: Frame) -> Iterator[Tree]:
     """Yields the area between a step's value and the base, and an arrow if it goes on past an edge."""
     start, end, value = step
     left, top, ground = frame.place(start), height_of(value, scale, frame), height_of(scale.base, scale, frame)
     right = max(frame.place(end), left + 1)
-    points = (print_point(at_second(second)) for second in (start, end))
-    title = "valid_from: {}, valid_to: {}, {}: {}".format(*points, picture.name, value)
+    title = picture.record(step)
     yield box(left, min(top, ground), right - left, round(abs(ground - top), 1), FILL, title)
     yield line(left, top, right, top, EDGED, 2)
     if end > frame.span.end:
@@ -361,7 +360,7 @@ def area(step: Step, picture: Steps, scale: Scale, frame: Frame) -> Iterator[str
         yield shape([(left + TIP, top - TIP), (left, top), (left + TIP, top + TIP)], EDGED, title)
 
 
-def values_of(steps: Sequence[Step], picture: Steps, scale: Scale, frame: Frame) -> Iterator[str]:
+def values_of(steps: Sequence[Step], picture: Steps, scale: Scale, frame: Frame) -> Iterator[Tree]:
     """The values of steps that are long enough for them: above the line, or below it where it hangs."""
     for start, end, value in steps:
         left, right, words = frame.place(start), frame.place(end), picture.printed(value)
@@ -376,18 +375,21 @@ POINTED = "A bar with a point goes on: without a known end, or start, or past wh
 
 
 def draw(picture: Picture, width: Optional[int] = None, height: Optional[int] = None) -> str:
+    """Returns the picture as SVG."""
+    return printed(tree_of(picture, width, height or TALL), "\n") + "\n"
+
+
+def tree_of(picture: Picture, width: Optional[int] = None, height: int = TALL) -> Tree:
     """The picture, as wide and at most as tall as is given, or else as it needs within 1,600 and 4,000 pixels."""
-    if is_empty(picture):
+    if not picture.is_filled:
         top = top_of(picture.title, width or NARROW)
         return document(width or NARROW, top, picture.title, [text(EDGE, top - ABOVE + 44, NOTHING)])
-    if isinstance(picture, Bars):
-        return draw_bars(picture, width, height or TALL)
-    if isinstance(picture, Groups):
-        return draw_groups(picture, width, height or TALL)
-    return draw_steps(picture, width)
+    draw_one: Any = draw_bars if isinstance(picture, Bars) else draw_steps
+    made: Tree = draw_one(picture, width, height)
+    return made
 
 
-def draw_bars(picture: Bars, width: Optional[int], height: int) -> str:
+def draw_bars(picture: Bars, width: Optional[int], height: int) -> Tree:
     """The lanes below each other, in a drawing as wide as the fullest lane needs."""
     margin = margin_for(picture.lanes)
     across = across_for(width, margin, max(wanted(picture).values(), default=0))
@@ -433,7 +435,7 @@ def box_of(bar: Bar, frame: Frame) -> Box:
     return Box(bar, left, max(right, left + 1), top, height)
 
 
-def drawn(one: Box, frame: Frame, many: int) -> str:
+def drawn(one: Box, frame: Frame, many: int) -> Tree:
     """The bar's box, with a point at an end past which it goes on."""
     bar, fill = one.bar, fill_of(one.bar.shade, many)
     before, behind = goes_on(bar, frame)
@@ -451,7 +453,7 @@ def goes_on(bar: Bar, frame: Frame) -> Tuple[bool, bool]:
     return bar.start < frame.span.start, bar.end > frame.span.end
 
 
-def lanes_of(lanes: List[str], frame: Frame) -> Iterator[str]:
+def lanes_of(lanes: List[str], frame: Frame) -> Iterator[Tree]:
     for place, name in enumerate(lanes):
         if name:
             top = frame.top + place * HEIGHT
@@ -459,7 +461,7 @@ def lanes_of(lanes: List[str], frame: Frame) -> Iterator[str]:
             yield line(frame.left, top, frame.right, top, "#eee")
 
 
-def instant_of(picture: Bars, frame: Frame) -> Iterator[str]:
+def instant_of(picture: Bars, frame: Frame) -> Iterator[Tree]:
     """Yields a line through the instant of a division, if the instant is shown."""
     if picture.instant and picture.span.start <= seconds(picture.instant) < picture.span.end:
         place = frame.place(seconds(picture.instant))

@@ -88,7 +88,7 @@ class Moment {
     this.day.input.setAttribute("aria-valuetext", point);
     this.commit.text.textContent = `${commitText(commit)}: ${seen(commitOf(commit)[3])}`.replace(/: $/, "");
     this.commit.input.setAttribute("aria-valuetext", commitText(commit));
-    const held = `On ${point}, as the store stood at commit ${commit}, ${counted(found.length, "row")} held. The program is asked so: `;
+    const held = `On ${point}, as commit ${commit} shows it, ${counted(found.length, "row")} held. The program is asked so: `;
     this.status.replaceChildren(held, make("code", {}, `at,${table.name},${point},asof,${commit}`));
     this.grid.show(found.map(withoutCommits));
     this.mark(point, commit);

@@ -1,4 +1,5 @@
 """Answers as a workbook of Excel, by openpyxl: a sheet for each, in which points are dates and numbers are numbers."""
+import io
 import re
 from datetime import datetime, time
 from importlib import import_module
@@ -7,6 +8,7 @@ from typing import Any, Optional, Sequence
 
 from ruzgalt import files
 from ruzgalt.errors import Misfit
+from ruzgalt.report.export import refuse_present
 from ruzgalt.report.picks import Pick
 from ruzgalt.report.shown import Look
 from ruzgalt.script.forms import read_point
@@ -21,8 +23,7 @@ FIRST, DIGITS, ROWS = datetime(1900, 3, 1), 15, 1_048_576
 
 def refuse(picks: Sequence[Pick], file: Path, is_replacing: bool) -> None:
     """Refuses what a workbook can't have before any is written."""
-    if file.exists() and not is_replacing:
-        raise Misfit(f"{file} already exists, so no workbook was written: --replace replaces it")
+    refuse_present(file, is_replacing, "no workbook")
     for pick in picks:
         if not NAME.fullmatch(pick.name):
             remedy = f"give one of at most 31 characters, without []:*?/\\, such as {pick.answer.number}=answer"
@@ -42,8 +43,11 @@ def write(picks: Sequence[Pick], file: Path, look: Look, is_replacing: bool) -> 
     book = openpyxl.Workbook(write_only=True)
     for pick in picks:
         fill(book.create_sheet(pick.name), look.of(pick.answer.table), openpyxl)
+    # On a full disk openpyxl would report a second error when its file is closed.
+    made = io.BytesIO()
+    book.save(made)
     with files.whole([file], is_replacing) as [path]:
-        book.save(path)
+        path.write_bytes(made.getvalue())
 
 
 def fill(sheet: Any, table: Table, openpyxl: Any) -> None:

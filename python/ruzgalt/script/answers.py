@@ -6,11 +6,9 @@ from typing import Dict, Iterable, Iterator, List, Mapping, Optional, Sequence, 
 
 from ruzgalt.errors import Misfit
 from ruzgalt.script import commands, schemas
-from ruzgalt.script.commands import Command
+from ruzgalt.script.commands import Answered, Command
 from ruzgalt.script.forms import is_count
-from ruzgalt.script.language import Answered
-from ruzgalt.script.reader import Place, Reader, Row, Rows, Source, long_fields
-from ruzgalt.script.records import Record, short
+from ruzgalt.script.records import Place, Reader, Record, Row, Rows, Source, long_fields, short
 from ruzgalt.script.schemas import Column, Schema, Table
 
 # Bytes, or the file that has them.
@@ -41,20 +39,25 @@ class Answer:
         return self.command.line
 
     @property
+    def where(self) -> str:
+        return self.command.where
+
+    @property
+    def shown(self) -> str:
+        """Its line and its command, for a message."""
+        return f"{self.where}: {short(self.command.text)}"
+
+    @property
     def schema(self) -> Schema:
         """The table that the command names first."""
         return self.tables[self.command.record.fields[1]]
 
     @property
     def refused(self) -> Refusal:
-        """The refusal of one that has one."""
+        """Returns the refusal. Raises ValueError if the command was accepted."""
         if self.refusal is None:
             raise ValueError(f"{self.where}: no refusal")
         return self.refusal
-
-    @property
-    def where(self) -> str:
-        return self.command.where
 
     @property
     def commit(self) -> int:
@@ -67,16 +70,13 @@ def of(script: Given, output: Given) -> List[Answer]:
 
     Raises Misfit if the output has another form than answers to this script. Values aren't compared with the script.
     """
+    data = [one if isinstance(one, bytes) else Path(one).read_bytes() for one in (script, output)]
     with long_fields():
-        return of_commands(commands.commands(Source(bytes_of(script))), bytes_of(output))
+        return of_commands(commands.commands(Source(data[0])), data[1])
 
 
 def of_commands(script: Iterable[Command], output: bytes) -> List[Answer]:
     return list(Reading(Source(output)).answers(script))
-
-
-def bytes_of(source: Given) -> bytes:
-    return source if isinstance(source, bytes) else Path(source).read_bytes()
 
 
 class Reading:
@@ -102,20 +102,18 @@ class Reading:
     def answer(self, number: int, command: Command) -> Answer:
         self.place = self.output.place
         first = self.take(command, "an answer")
-        if first.word == "error":
-            shown = self.commits if self.held is None else self.held
-            return Answer(number, command, shown, self.tables, refusal=self.refusal(command, first))
-        table = self.table(command, first)
-        shown = self.commits if self.held is None or command.word == "load" else self.held
-        return Answer(number, command, shown, self.tables, table)
+        is_refused = first.word == "error"
+        refusal = self.refusal(command, first) if is_refused else None
+        table = Table([]) if is_refused else self.table(command, first)
+        is_of_block = self.held is not None and (is_refused or command.word != "load")
+        commits = self.held if is_of_block and self.held is not None else self.commits
+        return Answer(number, command, commits, self.tables, table, refusal)
 
     def table(self, command: Command, first: Record) -> Table:
         """Returns the table of the answer that begins with this record."""
         answered = command.form.answered
-        if answered is Answered.COMMIT:
-            return self.accepted(command, first)
-        if answered is Answered.TOGETHER:
-            return self.opened(command, first)
+        if answered in (Answered.COMMIT, Answered.TOGETHER):
+            return self.number(command, first)
         if answered not in READERS or not command.is_ended:
             raise misfit(command, "error,RECORD,NAME", first)
         try:
@@ -137,23 +135,23 @@ class Reading:
             raise misfit(command, "a refusal that it can have", record)
         return Refusal(record.fields[2], at_fault)
 
-    def accepted(self, command: Command, record: Record) -> Table:
-        if list(record.fields) != ["ok", str(self.commits + 1)] or not command.is_ended:
-            raise misfit(command, f"ok,{self.commits + 1}", record)
+    def number(self, command: Command, record: Record) -> Table:
+        """Returns the number of the commit that a change made, or that a block reads."""
+        is_change = command.form.answered is Answered.COMMIT
+        wanted = ["ok", str(self.commits + 1)] if is_change else ["together", str(self.commits)]
+        is_right = command.is_ended and (is_change or len(command.record.fields) == 1)
+        if not is_right or list(record.fields) != wanted:
+            raise misfit(command, ",".join(wanted), record)
         if command.word == "table":
             self.tables = {**self.tables, command.record.fields[1]: Schema.read(command.record.fields)}
-        self.commits += 1
-        return Table(schemas.ints("commit"), [[record.fields[1]]])
-
-    def opened(self, command: Command, record: Record) -> Table:
-        is_right = command.is_ended and len(command.record.fields) == 1
-        if not is_right or list(record.fields) != ["together", str(self.commits)]:
-            raise misfit(command, f"together,{self.commits}", record)
-        self.held = self.commits
-        return Table(schemas.ints("commit"), [[record.fields[1]]])
+        if is_change:
+            self.commits += 1
+        else:
+            self.held = self.commits
+        return Table(schemas.ints("commit"), [wanted[1:]])
 
     def listed(self, command: Command, first: Record, columns: List[Column]) -> Sequence[Row]:
-        """The records of a list up to its end, which counts them. They are read when they are needed."""
+        """Returns the records of a list up to its end, which counts them. They are read when they are needed."""
         word = {Answered.VERSIONS: "version", Answered.LOG: "commit"}.get(command.form.answered, "row")
         place, count, record = self.place, 0, first
         if word == first.word and len(first.fields) == len(columns) + 1:
@@ -166,7 +164,7 @@ class Reading:
         return Listed(self.source, place, count, record.line)
 
     def divided(self, command: Command, first: Record, columns: List[Column]) -> Sequence[Row]:
-        """A record for each row of each part, with the instant that all have."""
+        """Returns a record for each row of each part, with the instant that all have."""
         if first.word != "dip" or len(first.fields) != 4 or not is_count(first.fields[2]):
             raise misfit(command, "dip,ROWS,PARTS,INSTANT", first)
         _, _, parts, instant = first.fields
@@ -176,37 +174,33 @@ class Reading:
             if list(record.fields[:2]) != ["part", str(part)]:
                 raise misfit(command, f"part,{part} with ids", record)
             found += len(record.fields) - 2
-        return Rows(found, lambda: parts_at(self.source, place, int(parts), instant))
+        return Rows(found, lambda: (
+            [record.fields[1], row_id, instant]
+            for record in islice(Reader(self.source, place), int(parts)) for row_id in record.fields[2:]
+        ))
 
     def judged(self, command: Command, first: Record, columns: List[Column]) -> Sequence[Row]:
-        """Returns a verdict, with its numbers in the columns for what they count."""
+        """Returns the record of a verdict, each number in its column."""
         fields = list(first.fields)
         if fields == ["yes"]:
-            return [["yes", None, None, None, None, None]]
-        places = VERDICTS.get(fields[1]) if fields[0] == "no" and len(fields) > 2 else None
-        if places is None or len(fields) != 2 + len(places):
+            return [["yes", *[None] * 5]]
+        verdict = VERDICTS.get(fields[1]) if fields[0] == "no" and len(fields) > 2 else None
+        if verdict is None or len(fields) != 2 + len(verdict[0]):
             raise misfit(command, "yes, or no and its reason", first)
-        numbers: List[Optional[str]] = [None] * 4
-        for place, number in zip(places, fields[2:]):
-            numbers[place] = number
-        return [["no", fields[1], *numbers]]
+        numbers = dict(zip(verdict[0], fields[2:]))
+        return [[*fields[:2], *map(numbers.get, NUMBERS)]]
 
 
-# The indices of a verdict's numbers among count, part, row_id and other_row_id.
-VERDICTS = {
-    "WrongCount": [0], "EmptyPart": [1], "Unknown": [2], "Twice": [2], "Missing": [2], "Overlap": [2, 3],
-    "NotCrowded": [0],
-}
 LISTS = (Answered.ROWS, Answered.VERSIONS, Answered.PAIRS, Answered.STEPS, Answered.LOG)
 READERS = {
     **dict.fromkeys(LISTS, Reading.listed), Answered.DIVISION: Reading.divided, Answered.VERDICT: Reading.judged,
 }
 
 
-class Listed(Rows):
+class Listed(Rows[Row]):
     """The records of a list, without their first word."""
 
-    # So many bytes are printed at once.
+    # How many bytes are printed at once.
     STRIDE = 1 << 20
 
     def __init__(self, source: Source, place: Place, count: int, end: int) -> None:
@@ -236,34 +230,31 @@ class Listed(Rows):
         return is_plain and self.source.data.count(b"\n", first, last) == self.size and b"\r" not in self.source.data
 
 
-def parts_at(source: Source, place: Place, parts: int, instant: str) -> Iterator[Row]:
-    for record in islice(Reader(source, place), parts):
-        yield from ([record.fields[1], row_id, instant] for row_id in record.fields[2:])
-
-
 def misfit(command: Command, wanted: str, found: Record) -> Misfit:
     other = f"the answer at line {found.line} is {short(found.text)}, not {wanted}"
     return Misfit(f"{command.where}: {short(command.text)}: {other}")
 
 
-# By the reason of a `no`. Claimed are the command's number of parts and its instant.
-SENTENCES: Dict[str, str] = {
-    "WrongCount": "No: {parts} parts are claimed, but there are {count}.",
-    "EmptyPart": "No: part {part} has no row.",
-    "Unknown": "No: no row has the id {row_id}.",
-    "Twice": "No: row {row_id} occurs twice.",
-    "Missing": "No: row {row_id} is in no part.",
-    "Overlap": "No: rows {row_id} and {other_row_id} are in one part, and overlap.",
+# A verdict's numbers, in the order of its columns.
+NUMBERS = ("count", "part", "row_id", "other_row_id")
+# By the reason of a `no`: what its numbers are, and its sentence. `parts` is the number of parts that is claimed.
+VERDICTS = {
+    "WrongCount": (["count"], "No: {parts} parts are claimed, but there are {count}."),
+    "EmptyPart": (["part"], "No: part {part} has no row."),
+    "Unknown": (["row_id"], "No: no row has the id {row_id}."),
+    "Twice": (["row_id"], "No: row {row_id} occurs twice."),
+    "Missing": (["row_id"], "No: row {row_id} is in no part."),
+    "Overlap": (["row_id", "other_row_id"], "No: rows {row_id} and {other_row_id} are in one part, and overlap."),
+    "NotCrowded": (["count"], "No: {parts} parts are enough, but {which}: it doesn't show that fewer aren't."),
 }
 YES = "Yes: no two rows of a part overlap, and fewer parts than {parts} aren't enough: {why}."
-NOT_CROWDED = "No: {parts} parts are enough, but {which}: it doesn't show that fewer aren't."
 
 
 def sentence_of(answer: Answer) -> str:
-    """The sentence of a check's answer."""
+    """Returns the sentence of a check's answer."""
     _, reason, *numbers = next(answer.table.texts())
     parts, instant = answer.command.front[2:4]
-    return sentence(reason, dict(zip(answer.table.names[2:], numbers)), parts, instant)
+    return sentence(reason, dict(zip(NUMBERS, numbers)), parts, instant)
 
 
 def sentence(reason: str, numbers: Mapping[str, object], parts: object, instant: str) -> str:
@@ -271,7 +262,5 @@ def sentence(reason: str, numbers: Mapping[str, object], parts: object, instant:
     if not reason:
         why = "the table has no rows" if instant == "-" else f"{parts} rows hold on {instant}"
         return YES.format(parts=parts, why=why)
-    if reason == "NotCrowded":
-        which = "no day is claimed" if instant == "-" else f"{instant} needs only {numbers['count']}"
-        return NOT_CROWDED.format(parts=parts, which=which)
-    return SENTENCES[reason].format(parts=parts, **numbers)
+    which = "no day is claimed" if instant == "-" else f"{instant} needs only {numbers.get('count')}"
+    return VERDICTS[reason][1].format(parts=parts, which=which, **numbers)

@@ -1,68 +1,69 @@
 """What really changed between two answers, and by each commit of a table; which commit was the newest at a point."""
-from bisect import bisect_right
+from bisect import bisect_left, bisect_right
 from collections import Counter, defaultdict
-from itertools import islice
 from typing import (
-    Callable, Counter as Counts, DefaultDict, Dict, Iterable, Iterator, List, Optional, Sequence, Tuple, TypeVar,
+    Callable, Counter as Counts, DefaultDict, Dict, Iterable, Iterator, List, NamedTuple, Optional, Sequence, Tuple,
+    TypeVar,
 )
 
 from ruzgalt.errors import Misfit
 from ruzgalt.script import refusals, schemas
 from ruzgalt.script.answers import Answer
+from ruzgalt.script.commands import CHANGES, Answered
 from ruzgalt.script.forms import next_second, printed, read_point
-from ruzgalt.script.language import CHANGES, Answered
 from ruzgalt.script.records import short
 from ruzgalt.script.run import Version, Versions
 from ruzgalt.script.schemas import PERIOD, Column, Kind, Schema, Table, ints, refuse_other_kinds, unique
 
 # Ids are new after each change, so they aren't compared.
 IDS = {Answered.ROWS: ("row_id",), Answered.PAIRS: ("left_id", "right_id"), Answered.STEPS: ()}
+CHANGE = [Column("change", Kind.TEXT), *PERIOD]
+# A start, an end, and values.
+Held = Tuple[str, str, Tuple[str, ...]]
 
 
 def between(before: Answer, after: Answer) -> Table:
     """Returns `-` with the time when values held before and don't now, and `+` the other way round."""
     kept = compared(before), compared(after)
-    names = [[column.name for column in columns] for columns, _ in kept]
+    names = [",".join(column.name for column in columns) for columns, _ in kept]
     both = f"{before.where} and {after.where}: {short(before.command.text)} and {short(after.command.text)}"
     if names[0] != names[1]:
-        others = f"{','.join(names[0])} can't be compared with {','.join(names[1])}"
-        raise Misfit(f"{both}: {others}: ask one question of two commits, or of two tables of the same columns")
+        remedy = "ask one question of two commits, or of two tables of the same columns"
+        raise Misfit(f"{both}: {names[0]} can't be compared with {names[1]}: {remedy}")
     refuse_other_kinds(both, *(columns for columns, _ in kept))
     if point_of(before) != point_of(after):
         raise Misfit(f"{both}: an `at` is of one point only: ask both for the same, or both by `rows`")
-    columns = unique([Column("change", Kind.TEXT), *PERIOD, *kept[0][0]])
     is_aggregate = before.command.form.answered is Answered.STEPS
     found = sorted(changes(kept[0][1], kept[1][1]), key=order(kept[0][0], is_aggregate))
-    return Table(columns, found)
-
-
-Held = Tuple[str, str, Tuple[str, ...]]
+    return Table(unique([*CHANGE, *kept[0][0]]), found)
 
 
 def point_of(answer: Answer) -> Optional[str]:
-    """The point that an `at` asks for."""
+    """Returns the point of an `at`."""
     return printed(answer.command.front[2]) if answer.command.word == "at" else None
 
 
 def compared(answer: Answer) -> Tuple[List[Column], List[Held]]:
-    """The columns that are compared, and of each record the period and the values."""
-    if answer.command.form.answered not in IDS:
-        command = short(answer.command.text)
-        raise Misfit(f"{answer.where}: {command}: its records aren't periods with values, so they can't be compared")
+    """Returns the columns that are compared, and of each record the period and the values."""
+    ids = IDS.get(answer.command.form.answered)
+    if ids is None:
+        raise Misfit(f"{answer.shown}: its records aren't periods with values, so they can't be compared")
     table = answer.table
     start = table.names.index("valid_from")
-    left_out = {start, start + 1, *(table.names.index(name) for name in IDS[answer.command.form.answered])}
+    left_out = {start, start + 1, *map(table.names.index, ids)}
     places = [place for place in range(len(table.columns)) if place not in left_out]
-    # For an `at` it is the second that was asked for, since nothing is known before and after it.
+    # Before and after the second of an `at` nothing is known.
     point = point_of(answer)
-    records = list(table.texts())
-    periods = [(point, next_second(point)) if point else (record[start], record[start + 1]) for record in records]
-    held = [(*period, tuple(record[place] for place in places)) for period, record in zip(periods, records)]
+    second = (point, next_second(point)) if point and table.records else ("", "")
+    held = [
+        (*(second if point else (record[start], record[start + 1])), tuple(record[place] for place in places))
+        for record in table.texts()
+    ]
     return [table.columns[place] for place in places], held
 
 
-def order(columns: List[Column], is_aggregate: bool) -> Callable[[List[str]], Tuple[object, ...]]:
-    """By what changes are listed one after the other."""
+def order(columns: Sequence[Column], is_aggregate: bool = False) -> Callable[[List[str]], Tuple[object, ...]]:
+    """Returns the key that sorts changes by values and start; an aggregate's by group and start."""
     is_int = [column.kind is Kind.INT for column in columns]
 
     def key(change: List[str]) -> Tuple[object, ...]:
@@ -74,7 +75,7 @@ def order(columns: List[Column], is_aggregate: bool) -> Callable[[List[str]], Tu
     return key
 
 
-def changes(before: List[Held], after: List[Held]) -> Iterator[List[str]]:
+def changes(before: Iterable[Held], after: Iterable[Held]) -> Iterator[List[str]]:
     """Yields the periods when one answer has more records of some values than the other."""
     steps: DefaultDict[Tuple[str, ...], Counts[str]] = defaultdict(Counter)
     for sign, rows in ((-1, before), (1, after)):
@@ -92,69 +93,84 @@ def changes(before: List[Held], after: List[Held]) -> Iterator[List[str]]:
 
 # How many commits without a day are named.
 COMMITS = 5
-# The indices of the commit's day, and of the start, in a change with a day.
-ENTERED, START = 2, 4
-CHANGE = [Column("change", Kind.TEXT), *PERIOD]
-
 # The first days of a diary, each with the newest commit from then on.
 Days = List[Tuple[str, int]]
 
 
-def of_table(
-    found: Sequence[Answer], versions: Versions, where: schemas.Where, days: Optional[Days] = None,
-) -> Table:
-    """Returns all changes of rows with these values, each with the day of its commit if days are given."""
-    schema = versions.schema
-    wanted = schemas.wanted_in(schema, where)
-    lines = {one.commits: one.where for one in found if not one.refusal and one.command.word in CHANGES}
-    entered = [] if days is None else [Column("entered", Kind.POINT)]
-    columns = unique([*ints("commit"), Column("place", Kind.TEXT), *entered, *CHANGE, *schema.columns])
-    changes = list(changes_of(schema, versions.all, wanted))
-    day_of_commit = entered_on(days or [], (commit for commit, _ in changes))
-    records: List[List[Optional[str]]] = []
-    for commit, change in changes:
-        day = [] if days is None else [day_of_commit[commit]]
-        records.append([str(commit), lines[commit], *day, *change])
-    return Table(columns, records)
+class Entry(NamedTuple):
+    """A change by a commit: `-` or `+`, the period and the values; and the day of the commit by a diary."""
+
+    commit: int
+    day: Optional[str]
+    change: List[str]
 
 
-def refuse_missing(found: Sequence[Answer], name: str) -> None:
-    tables = found[-1].tables if found else {}
-    if name not in tables:
-        there = f"the tables are {', '.join(tables)}" if tables else "the script has none"
-        raise Misfit(f"{name}: no such table; {there}")
+class History(NamedTuple):
+    """The changes of a table by commit, possible mistakes in the diary, and whether no row ever had the values."""
+
+    entries: List[Entry]
+    doubts: List[str]
+    is_of_none: bool
 
 
-def days_in(diary: Versions) -> Days:
-    """Returns the days of a diary after the script."""
-    return days_of(diary.schema, ((one.start, one.end, *one.values) for one in diary.all if one.closed is None))
+def history(
+    versions: Versions, wanted: Sequence[Tuple[int, str]], commits: range, days: Optional[Days] = None,
+    is_retroactive: bool = False,
+) -> History:
+    """Returns what these commits changed of rows with these values.
+
+    is_retroactive: Only of the time before the day of the commit, cut there.
+    """
+    found = list(changes_of(versions.schema, versions.all, wanted))
+    entered = entered_on(days or [], (commit for commit, _ in found))
+    entries = [Entry(commit, entered[commit], change) for commit, change in found]
+    without = list(dict.fromkeys(one.commit for one in entries if one.day is None)) if days is not None else []
+    doubts = []
+    if without:
+        some = ", ".join(map(str, without[:COMMITS]))
+        more = f" and {len(without) - COMMITS} more" if len(without) > COMMITS else ""
+        doubts = [f"commits without a day, which --retroactive leaves out: {some}{more}"]
+    if is_retroactive:
+        entries = [
+            Entry(commit, day, [sign, start, min(end, day), *values])
+            for commit, day, (sign, start, end, *values) in entries if day is not None and start < day
+        ]
+    return History([one for one in entries if one.commit in commits], doubts, bool(wanted and not found))
 
 
 def changes_of(
     schema: Schema, versions: Sequence[Version], wanted: Sequence[Tuple[int, str]],
 ) -> Iterator[Tuple[int, List[str]]]:
-    """What each commit changed of the rows that have these values."""
-    before: Dict[int, List[Held]] = {}
-    after: Dict[int, List[Held]] = {}
+    """Yields what each commit changed of the rows that have these values."""
+    sides: DefaultDict[int, Tuple[List[Held], List[Held]]] = defaultdict(lambda: ([], []))
     for version in versions:
         if schemas.has_values(version.values, wanted):
             held = version.start, version.end, version.values
-            after.setdefault(version.made, []).append(held)
+            sides[version.made][1].append(held)
             if version.closed is not None:
-                before.setdefault(version.closed, []).append(held)
-    for commit in sorted({*before, *after}):
-        found = changes(before.get(commit, []), after.get(commit, []))
-        for change in sorted(found, key=order(list(schema.columns), False)):
-            yield commit, change
+                sides[version.closed][0].append(held)
+    for commit, (before, after) in sorted(sides.items()):
+        yield from ((commit, change) for change in sorted(changes(before, after), key=order(schema.columns)))
 
 
-def days_of(schema: Schema, rows: Iterable[Sequence[str]]) -> Days:
-    """The days of a diary, each with the newest commit from then on: the number in its first column.
+def of_table(answers: Sequence[Answer], schema: Schema, entries: Sequence[Entry], has_days: bool) -> Table:
+    """Returns a history as a table, with the line of each change in the script."""
+    lines = {one.commits: one.where for one in answers if not one.refusal and one.command.word in CHANGES}
+    day = [Column("entered", Kind.POINT)] * has_days
+    columns = unique([*ints("commit"), Column("place", Kind.TEXT), *day, *CHANGE, *schema.columns])
+    return Table(columns, [
+        [str(one.commit), lines[one.commit], *([one.day] * has_days), *one.change] for one in entries
+    ])
 
-    Its rows are given by start, end and values. One with 0 is of no commit's day.
-    """
-    refuse_no_commits(schema)
-    return sorted((start, int(newest)) for start, _, newest, *_ in rows if int(newest))
+
+# Diaries.
+
+def refuse_missing(found: Sequence[Answer], name: str) -> None:
+    """Refuses a table that isn't there at the script's end."""
+    tables = found[-1].tables if found else {}
+    if name not in tables:
+        there = f"the tables are {', '.join(tables)}" if tables else "the script has none"
+        raise Misfit(f"{name}: no such table; {there}")
 
 
 def refuse_no_diary(found: Sequence[Answer], name: str) -> None:
@@ -169,16 +185,18 @@ def refuse_no_commits(schema: Schema) -> None:
         raise Misfit(f"{schema.name}: {must}")
 
 
-def doubts_of(table: Table, days: Optional[Days], newest: int) -> Iterator[str]:
-    """Yields possible mistakes in a diary for a table's changes."""
-    if days is None:
-        return
-    yield from strange_commits(days, newest)
-    without = dict.fromkeys(record[0] for record in table.records if record[ENTERED] is None)
-    if without:
-        some = ", ".join(str(commit) for commit in islice(without, COMMITS))
-        more = f" and {len(without) - COMMITS} more" if len(without) > COMMITS else ""
-        yield f"commits without a day, which --retroactive leaves out: {some}{more}"
+def days_in(diary: Versions) -> Days:
+    """Returns the days of a diary after the script."""
+    return days_of(diary.schema, ((one.start, one.end, *one.values) for one in diary.all if one.closed is None))
+
+
+def days_of(schema: Schema, rows: Iterable[Sequence[str]]) -> Days:
+    """Returns the days of a diary, each with the newest commit from then on: the number in its first column.
+
+    Its rows are given by start, end and values. One with 0 is of no commit's day.
+    """
+    refuse_no_commits(schema)
+    return sorted((start, int(newest)) for start, _, newest, *_ in rows if int(newest))
 
 
 def strange_commits(days: Days, newest: int) -> Iterator[str]:
@@ -188,29 +206,20 @@ def strange_commits(days: Days, newest: int) -> Iterator[str]:
         yield f"it names commit {strange[0]}, which doesn't exist: the newest is {newest}"
 
 
+def steps_back(days: Days) -> Iterator[str]:
+    """Names a commit that is the newest from a day on, though a later one was before that."""
+    for (_, before), (day, commit) in zip(days, days[1:]):
+        if commit < before:
+            yield f"commit {commit} is the newest from {day} on, but {before} before that"
+
+
 def entered_on(days: Days, commits: Iterable[int]) -> Dict[int, Optional[str]]:
-    """Of commits in their order the first day on which each was there."""
-    found: Dict[int, Optional[str]] = {}
-    place = 0
-    for commit in commits:
-        while place < len(days) and days[place][1] < commit:
-            place += 1
-        found[commit] = days[place][0] if place < len(days) else None
-    return found
-
-
-def retroactive(table: Table) -> Table:
-    """Only what a commit changed of the time before its day, cut there."""
-    records = []
-    for record in table.records:
-        day, first, end = record[ENTERED], record[START], record[START + 1]
-        if day is not None and first is not None and end is not None and first < day:
-            records.append([*record[:START + 1], min(end, day), *record[START + 2:]])
-    return Table(table.columns, records)
-
-
-def of_commits(table: Table, commits: range) -> Table:
-    return Table(table.columns, [record for record in table.records if record[0] and int(record[0]) in commits])
+    """Returns for commits in their order the first day on which each was there."""
+    newest: List[int] = []
+    for _, commit in days:
+        newest.append(max(commit, newest[-1] if newest else 0))
+    places = ((commit, bisect_left(newest, commit)) for commit in commits)
+    return {commit: days[place][0] if place < len(days) else None for commit, place in places}
 
 
 # Points as printed texts, or as seconds.
@@ -221,13 +230,6 @@ def newest_at(days: Sequence[Point], commits: Sequence[int], point: Point) -> Op
     """Returns the newest commit at a point, from days in their order; of several on one day the last counts."""
     place = bisect_right(days, point)
     return commits[place - 1] if place else None
-
-
-def steps_back(days: Days) -> Iterator[str]:
-    """Names a commit that is the newest from a day on, though a later one was before that."""
-    for (_, before), (day, commit) in zip(days, days[1:]):
-        if commit < before:
-            yield f"commit {commit} is the newest from {day} on, but {before} before that"
 
 
 def commits_at(diary: Answer, points: Iterable[str]) -> Dict[str, int]:

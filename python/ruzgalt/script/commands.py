@@ -1,10 +1,116 @@
-"""Takes a script apart into its commands, as docs/LANGUAGE.md says where each ends."""
-from dataclasses import dataclass, replace
-from typing import Iterator, List, Optional, Sequence, Tuple
+"""The language's commands, as docs/LANGUAGE.md defines them: one table of them, and the commands of a script.
 
-from ruzgalt.script.language import BLOCKS, COMMANDS, NONE, Form
-from ruzgalt.script.reader import Block, Place, Reader, Skipped, Source
-from ruzgalt.script.records import Record
+A new command is a line in COMMANDS if its fields and its answer are such as others have.
+"""
+from dataclasses import dataclass, replace
+from enum import Enum, auto
+from typing import Dict, Iterator, List, Optional, Sequence, Tuple
+
+from ruzgalt.script.records import Block, Place, Reader, Record, Source
+
+
+class Role(Enum):
+    """The role of a field."""
+
+    TABLE = auto()
+    COLUMN = auto()
+    KEY = auto()
+    POINT = auto()
+    COUNT = auto()
+    SUFFIX = auto()
+    VALUE = auto()
+
+
+class Fields(Enum):
+    """The fields after a command's word."""
+
+    NOTHING = auto()
+    SCHEMA = auto()
+    # A table, and the fields of Form.more.
+    TABLE = auto()
+    # A table, a portion, and pairs of a column and a value.
+    PORTION = auto()
+    # Two tables, and pairs of their columns.
+    TABLES = auto()
+    AGGREGATE = auto()
+
+
+class Answered(Enum):
+    """The kind of a command's answer, unless it is refused."""
+
+    NOTHING = auto()
+    COMMIT = auto()
+    TOGETHER = auto()
+    ROWS = auto()
+    VERSIONS = auto()
+    PAIRS = auto()
+    STEPS = auto()
+    LOG = auto()
+    DIVISION = auto()
+    VERDICT = auto()
+
+
+@dataclass(frozen=True)
+class Form:
+    """A command as it is shown to a person, its answer, and its fields.
+
+    more    the fields directly after the table
+    part    the word of each record of its block, which ends by `end`
+    """
+
+    text: str
+    answered: Answered
+    fields: Fields = Fields.TABLE
+    more: Tuple[Role, ...] = ()
+    part: str = ""
+
+    @property
+    def has_suffix(self) -> bool:
+        """Whether it may have the suffix asof,N."""
+        return "asof" in self.text
+
+    @property
+    def tables(self) -> int:
+        """Returns how many tables follow its word."""
+        return {Fields.NOTHING: 0, Fields.TABLES: 2}.get(self.fields, 1)
+
+    @property
+    def is_query(self) -> bool:
+        """Whether it is answered by a table."""
+        return self.answered not in (Answered.NOTHING, Answered.COMMIT, Answered.TOGETHER)
+
+
+SIDES = "L,R[,on,LCOL,RCOL..][,asof,N]"
+SPAN = (Role.COUNT, Role.COUNT)
+AGG = "agg,T,count[,by,COLUMN][,asof,N], or agg,T,FUNC,COLUMN[,by,COLUMN][,asof,N] (FUNC is sum, min or max)"
+COMMANDS: Dict[str, Form] = {
+    "table": Form("table,T,COLUMN,KIND..[,key,COLUMN..] (KIND is int or text)", Answered.COMMIT, Fields.SCHEMA),
+    "load": Form("load,T", Answered.COMMIT, part="row"),
+    "log": Form("log", Answered.LOG, Fields.NOTHING),
+    "update": Form("update,T,FROM,TO,set,COLUMN,VALUE..[,where,COLUMN,VALUE..]", Answered.COMMIT, Fields.PORTION),
+    "rows": Form("rows,T[,asof,N]", Answered.ROWS),
+    "delete": Form("delete,T,FROM,TO[,where,COLUMN,VALUE..]", Answered.COMMIT, Fields.PORTION),
+    "at": Form("at,T,POINT[,asof,N]", Answered.ROWS, more=(Role.POINT,)),
+    "between": Form("between,T,M,N", Answered.VERSIONS, more=SPAN),
+    "fromto": Form("fromto,T,M,N", Answered.VERSIONS, more=SPAN),
+    "join": Form(f"join,{SIDES}", Answered.PAIRS, Fields.TABLES),
+    "anti": Form(f"anti,{SIDES}", Answered.ROWS, Fields.TABLES),
+    "dip": Form("dip,T[,asof,N]", Answered.DIVISION),
+    "agg": Form(AGG, Answered.STEPS, Fields.AGGREGATE),
+    "check": Form("check,T,PARTS,INSTANT[,asof,N]", Answered.VERDICT, more=(Role.COUNT, Role.POINT), part="part"),
+    "together": Form("together", Answered.TOGETHER, Fields.NOTHING),
+}
+# The form of an unknown word.
+NONE = Form("", Answered.NOTHING)
+# Each has a block.
+BLOCKS = tuple(word for word, form in COMMANDS.items() if form.part)
+# Each is a commit.
+CHANGES = tuple(word for word, form in COMMANDS.items() if form.answered is Answered.COMMIT)
+
+
+def words_of(*fields: Fields) -> Tuple[str, ...]:
+    """Returns the commands with these fields."""
+    return tuple(word for word, form in COMMANDS.items() if form.fields in fields)
 
 
 @dataclass(frozen=True)
@@ -22,7 +128,7 @@ class Command:
 
     @property
     def form(self) -> Form:
-        """What its word says of it."""
+        """Its line in COMMANDS."""
         return COMMANDS.get(self.word, NONE)
 
     @property
@@ -49,17 +155,17 @@ class Command:
         """Its fields without the suffix."""
         return list(self.record.fields[:-2] if self.as_of is not None else self.record.fields)
 
+    @property
+    def rows(self) -> Sequence[Record]:
+        """Returns the records of its block without the `end`."""
+        return self.block.rows if isinstance(self.block, Block) else self.block
+
     def record_of(self, number: int) -> Optional[Record]:
         """Returns the record of that number, if it belongs to this command."""
         place = number - self.record.number
         if place == 0:
             return self.record
         return self.block[place - 1] if 0 < place <= len(self.block) else None
-
-    @property
-    def rows(self) -> Sequence[Record]:
-        """Returns the records of its block without the `end`."""
-        return self.block[:-1] if self.is_ended else self.block
 
 
 def commands(source: Source, number: int = 1) -> Iterator[Command]:
@@ -69,19 +175,18 @@ def commands(source: Source, number: int = 1) -> Iterator[Command]:
     """
     reader = Reader(source, Place(1, number))
     for record in reader:
-        if record.word == "together":
-            place = reader.place
-            inner, is_ended = commands_within(reader)
-            skipped = Skipped(reader.number - place.number, is_ended)
-            yield Command(record, Block(source, place, skipped, reader.line), is_ended)
-            if is_ended and len(record.fields) == 1:
-                yield from inner
-        else:
+        if record.word != "together":
             yield command_of(record, reader)
+            continue
+        place = reader.place
+        inner, is_ended = commands_within(reader)
+        yield Command(record, Block(source, place, reader.number - place.number, reader.line, is_ended), is_ended)
+        if is_ended and len(record.fields) == 1:
+            yield from inner
 
 
 def commands_within(reader: Reader) -> Tuple[List[Command], bool]:
-    """The commands of a block from its second record on, and whether it has its `end`."""
+    """Returns the commands of a `together` from its second record on, and whether it has its `end`."""
     inner: List[Command] = []
     for record in reader:
         if record.is_end():
@@ -91,9 +196,24 @@ def commands_within(reader: Reader) -> Tuple[List[Command], bool]:
 
 
 def command_of(opening: Record, reader: Reader) -> Command:
-    """The command that begins with this record; where it has a block that runs to the next `end`, whatever is in it."""
+    """Returns the command that begins with this record. Its block runs to the next `end`, whatever is in it."""
     if opening.word not in BLOCKS:
         return Command(opening, [])
-    place = reader.place
-    skipped = reader.skip_block()
-    return Command(opening, Block(reader.source, place, skipped, reader.line), skipped.is_ended)
+    block = reader.block()
+    return Command(opening, block, block.is_ended)
+
+
+def key_place(texts: Sequence[str]) -> int:
+    """Returns the index of the word `key` in a `table` record, or the number of its fields."""
+    return next((place for place in range(2, len(texts), 2) if texts[place] == "key"), len(texts))
+
+
+def where_place(texts: Sequence[str]) -> int:
+    """Returns the index of the word `where` in an update or a delete: at a column's position, with pairs after it."""
+    places = range(5, len(texts) - 1, 2) if texts[0] == "update" else range(4, min(5, len(texts)))
+    return next((place for place in places if texts[place] == "where"), len(texts))
+
+
+def where_places(texts: Sequence[str]) -> range:
+    """Returns the indices of the columns after `where`."""
+    return range(where_place(texts) + 1, len(texts) - 1, 2)

@@ -3,22 +3,19 @@ from bisect import bisect_right
 from dataclasses import replace
 from itertools import islice
 from operator import itemgetter
-from typing import Dict, Iterator, List, NamedTuple, Sequence, Set, Tuple
+from typing import Dict, Iterable, Iterator, List, NamedTuple, Sequence, Set, Tuple
 
 from ruzgalt.script import run, schemas
 from ruzgalt.script.answers import Answer
-from ruzgalt.script.commands import Command
-from ruzgalt.script.fields import where_places
+from ruzgalt.script.commands import Command, where_places
 from ruzgalt.script.forms import printed
-from ruzgalt.script.reader import Block, Reader
-from ruzgalt.script.records import to_record
-from ruzgalt.script.run import Past, Version, versions_of
+from ruzgalt.script.records import Block, to_record
+from ruzgalt.script.run import Past, Trial, Version, versions_of
 from ruzgalt.script.schemas import Table
 
-# So many pairs of rows are listed of one refusal.
+# How many pairs of rows are listed of one refusal.
 PAIRS = 20
 Values = Tuple[str, ...]
-Span = Tuple[str, str]
 
 
 class Held(NamedTuple):
@@ -40,14 +37,13 @@ class Loaded(NamedTuple):
     line: int
     start: str
     end: str
-    values: Tuple[str, ...]
+    values: Values
 
 
 def rows_of(load: Command) -> Iterator[Loaded]:
     """Yields the rows of an accepted load."""
-    block = load.rows
-    if isinstance(block, Block):
-        for line, (_, start, end, *values) in islice(Reader(block.source, block.place).numbered(), len(block)):
+    if isinstance(load.block, Block):
+        for line, (_, start, end, *values) in load.block.numbered():
             yield Loaded(line, printed(start), printed(end), tuple(values))
 
 
@@ -61,18 +57,16 @@ class Change(NamedTuple):
 def explained(past: Past, refused: Sequence[Answer]) -> Dict[int, List[str]]:
     """Returns for each load or update that was refused for a key, by its number, the rows: lines for a person."""
     refused = [answer for answer in refused if answer.refused.name == "KeyOverlap"]
-    past.ask(*(versions_of(answer.command.record.fields[1]) for answer in refused))
+    past.ask(*(versions_of(answer.schema.name) for answer in refused))
     changes = changes_of(past, refused)
     cases = [list(groups_of(past, answer, changes[answer.number])) for answer in refused]
-    return {
-        answer.number: list(lines_of(answer, groups, times))
-        for answer, groups, times in zip(refused, cases, crowded(past.program, cases))
-    }
+    counted = zip(refused, cases, crowded(past.program, cases))
+    return {answer.number: list(lines_of(answer, groups, counts)) for answer, groups, counts in counted}
 
 
 def rows_at(past: Past, answer: Answer) -> List[Version]:
     """Returns the rows of a command's table before it. A refused command changes nothing."""
-    return past.versions(answer.command.record.fields[1]).at(answer.commits)
+    return past.versions(answer.schema.name).at(answer.commits)
 
 
 def changes_of(past: Past, refused: Sequence[Answer]) -> Dict[int, Change]:
@@ -80,24 +74,21 @@ def changes_of(past: Past, refused: Sequence[Answer]) -> Dict[int, Change]:
     found: Dict[int, Change] = {}
     updates: List[Tuple[Answer, List[Version]]] = []
     for answer in refused:
+        texts, record = answer.command.record.fields, answer.command.record
         if answer.command.word == "load":
-            found[answer.number] = Change(list(loaded(answer)), set())
+            found[answer.number] = Change([
+                Held(one.start, one.end, one.values, answer.where if record.is_asked else f"line {one.line}")
+                for one in rows_of(answer.command)
+            ], set())
         else:
-            texts = answer.command.record.fields
             wanted = [(answer.schema.index_of(texts[place]), texts[place + 1]) for place in where_places(texts)]
             updates.append((answer, [one for one in rows_at(past, answer) if schemas.has_values(one.values, wanted)]))
-    for (answer, rows), tried in zip(updates, run.tried(past.program, (trial_of(*one) for one in updates))):
+    for (answer, rows), tried in zip(updates, run.tried(past.program, (updating(*one) for one in updates))):
         found[answer.number] = updated(answer, rows, tried[-1].table)
     return found
 
 
-def loaded(answer: Answer) -> Iterator[Held]:
-    is_asked = answer.command.record.is_asked
-    for row in rows_of(answer.command):
-        yield Held(row.start, row.end, row.values, answer.where if is_asked else f"line {row.line}")
-
-
-def trial_of(answer: Answer, rows: Sequence[Version]) -> List[Sequence[str]]:
+def updating(answer: Answer, rows: Sequence[Version]) -> Trial:
     """Returns a script that loads these rows, updates them, and lists all versions."""
     schema = replace(answer.schema, name=f"t{answer.number}", key=())
     loaded = (["row", row.start, row.end, *row.values] for row in rows)
@@ -131,52 +122,44 @@ def groups_of(past: Past, answer: Answer, change: Change) -> Iterator[List[Held]
     groups: Dict[object, List[Held]] = {}
     for row in change.added:
         groups.setdefault(key_of(row.values), []).append(row)
-    for version in rows_at(past, answer):
-        group = groups.get(key_of(version.values))
-        if group is not None and version.row_id not in change.closed:
-            group.append(held(version))
+    for one in rows_at(past, answer):
+        group = groups.get(key_of(one.values))
+        if group is not None and one.row_id not in change.closed:
+            group.append(Held(one.start, one.end, one.values, f"row {one.row_id}, made by commit {one.made}"))
     yield from groups.values()
 
 
-def held(version: Version) -> Held:
-    origin = f"row {version.row_id}, made by commit {version.made}"
-    return Held(version.start, version.end, version.values, origin)
+def crowded(program: str, cases: Iterable[Sequence[Sequence[Held]]]) -> Iterator[Table]:
+    """Yields for each case how many rows of each group hold over time. The program counts them."""
+    trials: List[Trial] = []
+    for number, groups in enumerate(cases):
+        name = f"t{number}"
+        rows = (["row", one.start, one.end, str(place)] for place, group in enumerate(groups) for one in group)
+        trials.append([["table", name, "n", "int"], ["load", name], *rows, ["end"], ["agg", name, "count", "by", "n"]])
+    return (tried[-1].table for tried in run.tried(program, trials))
 
 
-def crowded(program: str, cases: Sequence[Sequence[Sequence[Held]]]) -> Iterator[List[List[Span]]]:
-    """Yields for each case the times of each group when the program counts more than one of its rows."""
-    trials = (counting(f"t{place}", groups) for place, groups in enumerate(cases))
-    for groups, tried in zip(cases, run.tried(program, trials)):
-        found: List[List[Span]] = [[] for _ in groups]
-        for place, start, end, count in tried[-1].table.texts():
-            if int(count) > 1:
-                found[int(place)].append((start, end))
-        yield found
-
-
-def counting(name: str, groups: Sequence[Sequence[Held]]) -> List[Sequence[str]]:
-    """Returns a script that counts the rows of each group over time."""
-    rows = (["row", one.start, one.end, str(place)] for place, group in enumerate(groups) for one in group)
-    return [["table", name, "n", "int"], ["load", name], *rows, ["end"], ["agg", name, "count", "by", "n"]]
-
-
-def pairs(groups: Sequence[Sequence[Held]], times: Sequence[Sequence[Span]]) -> Iterator[Tuple[Held, Held]]:
-    """Yields pairs of rows of a group: the second begins at a crowded time, while the first one holds."""
-    for group, crowds in zip(groups, times):
-        ordered = sorted(group, key=itemgetter(0)) if crowds else []
+def pairs(groups: Sequence[Sequence[Held]], counts: Table) -> Iterator[Tuple[Held, Held]]:
+    """Yields pairs of rows of a group. Both hold when the second begins."""
+    spans: List[List[Tuple[str, str]]] = [[] for _ in groups]
+    for number, start, end, count in counts.texts():
+        if int(count) > 1:
+            spans[int(number)].append((start, end))
+    for group, own in zip(groups, spans):
+        ordered = sorted(group, key=itemgetter(0)) if own else []
         for place, row in enumerate(ordered):
             # A time that begins with the row comes before such a one without an end.
-            crowd = bisect_right(crowds, (row.start, "~")) - 1
-            if crowd >= 0 and row.start < crowds[crowd][1]:
+            span = bisect_right(own, (row.start, "~")) - 1
+            if span >= 0 and row.start < own[span][1]:
                 yield from ((other, row) for other in ordered[:place] if row.start < other.end)
 
 
-def lines_of(answer: Answer, groups: Sequence[Sequence[Held]], times: Sequence[Sequence[Span]]) -> Iterator[str]:
+def lines_of(answer: Answer, groups: Sequence[Sequence[Held]], counts: Table) -> Iterator[str]:
     """Yields for each pair of rows a line with the key and the time, and a line for each row."""
     schema = answer.schema
-    found = pairs(groups, times)
+    found = pairs(groups, counts)
     for one, other in islice(found, PAIRS):
-        key = ", ".join(f"{schema.names[place]} {to_record([one.values[place]])}" for place in schema.key)
+        key = ", ".join(f"{schema.names[index]} {to_record([one.values[index]])}" for index in schema.key)
         yield f"{key}: both hold from {other.start} to {min(one.end, other.end)}"
         yield from (f"  {row.text}" for row in (one, other))
     if next(found, None):

@@ -1,13 +1,38 @@
-"""Records of CSV as dipq reads and prints them, with the lines on which they begin."""
+"""Records of CSV as dipq reads and prints them: read from a text one after another, and printed.
+
+Bytes that aren't UTF-8 are kept in texts (`surrogateescape`), so printing gives the same bytes again. Long
+lists are kept as positions. A process limits how long a field may be (csv.field_size_limit): a tool sets the limit
+once, and other callers set it for a while.
+"""
 import csv
+import io
 import re
 import unicodedata
+from bisect import bisect_left
+from contextlib import contextmanager
+from itertools import accumulate, islice
+from threading import RLock
 from types import SimpleNamespace
-from typing import Iterable, List, NamedTuple, Sequence
+from typing import (
+    Callable, Generic, Iterable, Iterator, List, NamedTuple, Optional, Sequence, Tuple, TypeVar, Union, overload,
+)
 
+from ruzgalt.errors import Misfit
 
 # The most characters of a record in a message.
 LONGEST = 120
+# More characters than any script has.
+LONGEST_FIELD = 1 << 27
+LIMITING = RLock()
+END = ["end"]
+# How many records of one form are processed at once.
+PIECE = 1 << 13
+# The most rows that are searched for possible mistakes row by row.
+LOOKED_AT = 100_000
+LIST_END = re.compile(rb"\nend,(\d{1,9})\n")
+BYTE_ORDER_MARK = b"\xef\xbb\xbf"
+# Python 3.9's csv takes no zero byte, so a character replaces it that no decoded text has.
+ZERO, STAND_IN = "\0", "\ud800"
 # Letters, marks and a sign that have no ink, though Python counts them as printable.
 BLANK = re.compile(
     "[\u034f\u115f\u1160\u17b4\u17b5\u180b-\u180f\u2800\u3164\ufe00-\ufe0f\uffa0\U000e0100-\U000e01ef]"
@@ -15,7 +40,8 @@ BLANK = re.compile(
 
 
 class Record(NamedTuple):
-    """A record: its number from 1 on, the line of the text on which it begins, its fields, and whether it is asked."""
+    """A record: its number from 1 on, the line on which it begins, its fields, and whether it is a question of --ask.
+    """
 
     number: int
     line: int
@@ -24,7 +50,7 @@ class Record(NamedTuple):
 
     @property
     def where(self) -> str:
-        """Returns its line, for a person; a question that is put after a script isn't in a file."""
+        """Returns its line, for a person; a question of --ask isn't in a file."""
         return "--ask" if self.is_asked else f"line {self.line}"
 
     @property
@@ -36,20 +62,17 @@ class Record(NamedTuple):
         return to_record(self.fields)
 
     def is_end(self) -> bool:
-        return list(self.fields) == ["end"]
+        return list(self.fields) == END
 
+
+# Printing.
 
 def encode(text: str) -> bytes:
     return text.encode("utf-8", "surrogateescape")
 
 
-def to_record(fields: Sequence[str]) -> str:
-    """The fields as dipq prints them, without a line end."""
-    return Printer().record(fields)
-
-
 def short(text: str) -> str:
-    """The text in one line, and of a long one the beginning."""
+    """Returns the text in one line; of a long one the beginning."""
     line = " ".join(text.splitlines())
     return line if len(line) <= LONGEST else line[:LONGEST - 2] + ".."
 
@@ -68,34 +91,233 @@ def is_seen(character: str) -> bool:
 
 
 def code_of(character: str) -> str:
-    """A byte that is no UTF-8 is a surrogate here."""
+    """Returns the code of a character. A byte that isn't UTF-8 is a surrogate here."""
     if 0xdc80 <= ord(character) <= 0xdcff:
         return f"\\x{ord(character) - 0xdc00:02x}"
     return character.encode("unicode_escape").decode()
 
 
 class Printer:
-    """Prints records as dipq does, one at a time, by Python's writer of CSV.
+    """Prints records as dipq does, by Python's writer of CSV.
 
-    Its lines end with CR and LF, so that a field with either is quoted; the ends are taken off.
+    The writer's lines end with CR and LF, so it quotes a field with either; the ends are taken off.
     """
 
     def __init__(self) -> None:
         self.lines: List[str] = []
         self.writer = csv.writer(SimpleNamespace(write=self.lines.append), lineterminator="\r\n")
 
-    def record(self, fields: Sequence[str]) -> str:
-        """The record without a line end."""
-        self.writer.writerow(fields)
-        return self.lines.pop()[:-2]
-
     def text(self, records: Iterable[Sequence[str]]) -> str:
+        """Returns the records, each with a line end."""
         self.writer.writerows(records)
         text = "".join([line[:-2] + "\n" for line in self.lines])
         self.lines.clear()
         return text
 
+    def record(self, fields: Sequence[str]) -> str:
+        """Returns the record without a line end."""
+        self.writer.writerow(fields)
+        return self.lines.pop()[:-2]
+
+
+def to_record(fields: Sequence[str]) -> str:
+    return Printer().record(fields)
+
 
 def to_text(records: Iterable[Sequence[str]]) -> str:
-    """The records as dipq prints them, each with a line end."""
     return Printer().text(records)
+
+
+# Reading.
+
+@contextmanager
+def long_fields() -> Iterator[None]:
+    """Lets fields be as long as any are, and then as long as before. Threads wait for one another."""
+    with LIMITING:
+        before = csv.field_size_limit(LONGEST_FIELD)
+        try:
+            yield
+        finally:
+            csv.field_size_limit(before)
+
+
+class Place(NamedTuple):
+    """The position of a record, or of empty lines before it: its line and its number."""
+
+    line: int
+    number: int
+
+
+class Source:
+    """The bytes of a script or of answers. Records after the first `own_lines` lines are questions of --ask."""
+
+    # How many bytes are counted at once to find a line.
+    STRIDE = 1 << 16
+
+    def __init__(self, data: bytes, own_lines: Optional[int] = None) -> None:
+        self.data, self.own_lines = data, own_lines
+        self.has_zero = b"\0" in data
+        # Lines end with LF, or with CR and LF; if some end with only CR, the positions of all ends are kept.
+        has_others = data.count(b"\r") != data.count(b"\r\n")
+        self.ends = [found.end() for found in re.finditer(b"\r\n|\r|\n", data)] if has_others else None
+        self.counts: List[int] = []
+
+    def byte_of(self, line: int) -> int:
+        """Returns the index of the byte with which a line begins."""
+        if line == 1:
+            return len(BYTE_ORDER_MARK) if self.data.startswith(BYTE_ORDER_MARK) else 0
+        if self.ends is not None:
+            return self.ends[line - 2] if line - 2 < len(self.ends) else len(self.data)
+        if not self.counts:
+            starts = range(0, len(self.data), self.STRIDE)
+            self.counts = list(accumulate(self.data.count(b"\n", start, start + self.STRIDE) for start in starts))
+        stride = bisect_left(self.counts, line - 1)
+        byte = stride * self.STRIDE - 1
+        for _ in range(line - 1 - (self.counts[stride - 1] if stride else 0)):
+            byte = self.data.find(b"\n", byte + 1)
+            if byte < 0:
+                # The last line has no end.
+                return len(self.data)
+        return byte + 1
+
+    def lines_from(self, line: int) -> Iterator[str]:
+        buffer = io.BytesIO(self.data)
+        buffer.seek(self.byte_of(line))
+        return io.TextIOWrapper(buffer, "utf-8", "surrogateescape", newline="")
+
+
+class Reader:
+    """The records of a source from a position on. Empty lines aren't records."""
+
+    def __init__(self, source: Source, place: Place = Place(1, 1)) -> None:
+        self.source = source
+        self.line, self.number = place
+        lines = source.lines_from(self.line)
+        self.first_line = self.line
+        self.csv = csv.reader((line.replace(ZERO, STAND_IN) for line in lines) if source.has_zero else lines)
+        self.fields = self.records()
+        if source.has_zero:
+            self.fields = ([one.replace(STAND_IN, ZERO) for one in fields] for fields in self.records())
+        self.held: Optional[Record] = None
+
+    def records(self) -> Iterator[List[str]]:
+        """Yields the fields of each record. Raises Misfit if a field is too long for the process."""
+        try:
+            yield from self.csv
+        except csv.Error as error:
+            remedy = "is a quote missing? csv.field_size_limit(..) takes longer fields"
+            raise Misfit(f"line {self.first_line + self.csv.line_num - 1}: {error}; {remedy}") from None
+
+    @property
+    def place(self) -> Place:
+        """The position of the next record."""
+        return Place(self.line, self.number)
+
+    def __iter__(self) -> Iterator[Record]:
+        return iter(self.next, None)
+
+    def next(self) -> Optional[Record]:
+        record, self.held = self.held, None
+        if record is None:
+            for line, fields in self.numbered():
+                return self.made(line, fields)
+        return record
+
+    def numbered(self) -> Iterator[Tuple[int, List[str]]]:
+        """Yields the fields of each record, with the line on which it begins."""
+        for fields in self.fields:
+            begun, self.line = self.line, self.first_line + self.csv.line_num
+            if fields:
+                yield begun, fields
+
+    def made(self, line: int, fields: List[str]) -> Record:
+        own_lines = self.source.own_lines
+        self.number += 1
+        return Record(self.number - 1, line, fields, own_lines is not None and line > own_lines)
+
+    def block(self) -> "Block":
+        """Passes over the records up to the one that is just `end`, or to the last, and returns them."""
+        place, count, is_ended = self.place, 0, False
+        for fields in self.fields:
+            if fields:
+                count += 1
+                if fields == END:
+                    is_ended = True
+                    break
+        self.line = self.first_line + self.csv.line_num
+        self.number += count
+        return Block(self.source, place, count, self.line, is_ended)
+
+    def after_list(self, first: Record) -> "Reader":
+        """Returns a reader after a list of records as dipq prints it, whose first record was read.
+
+        In a long list only the `end,N` is searched: it isn't in a field if the number of quotes before it is even.
+        """
+        for count, fields in enumerate(islice(self.fields, PIECE), 1):
+            if fields[:1] != [first.word]:
+                self.line = self.first_line + self.csv.line_num
+                self.number += count - 1
+                self.held = self.made(self.line - 1 - sum(map(count_lines, map(encode, fields))), fields)
+                return self
+        data, line = self.source.data, self.first_line + self.csv.line_num
+        begun = self.source.byte_of(line)
+        for found in LIST_END.finditer(data, begun - 1):
+            end = found.start() + 1
+            if data.count(b'"', begun, end) % 2 == 0:
+                return Reader(self.source, Place(line + count_lines(data[begun:end]), first.number + int(found[1])))
+        return self
+
+
+def count_lines(text: bytes) -> int:
+    """Returns the number of line ends: LF, CR, or both of them."""
+    return text.count(b"\n") + text.count(b"\r") - text.count(b"\r\n")
+
+
+T = TypeVar("T")
+Row = Sequence[Optional[str]]
+
+
+class Rows(Sequence[T], Generic[T]):
+    """A sequence of known length, which is made again each time that it is read."""
+
+    def __init__(self, size: int, read: Callable[[], Iterator[T]]) -> None:
+        self.size, self.read = size, read
+
+    def __len__(self) -> int:
+        return self.size
+
+    def __iter__(self) -> Iterator[T]:
+        return self.read()
+
+    @overload
+    def __getitem__(self, place: int) -> T: ...
+
+    @overload
+    def __getitem__(self, place: slice) -> Sequence[T]: ...
+
+    def __getitem__(self, place: Union[int, slice]) -> Union[T, Sequence[T]]:
+        return list(self)[place]
+
+    def __eq__(self, other: object) -> bool:
+        return isinstance(other, Sequence) and list(self) == list(other)
+
+
+class Block(Rows[Record]):
+    """The records of a block with its `end`, if it has one."""
+
+    def __init__(self, source: Source, place: Place, size: int, end: int, is_ended: bool) -> None:
+        super().__init__(size, lambda: islice(Reader(source, place), size))
+        self.source, self.place, self.end, self.is_ended = source, place, end, is_ended
+
+    def bytes(self) -> bytes:
+        """Returns the lines of its records, and its `end`."""
+        return self.source.data[self.source.byte_of(self.place.line):self.source.byte_of(self.end)]
+
+    @property
+    def rows(self) -> Rows[Record]:
+        """Its records without the `end`."""
+        return Rows(self.size - self.is_ended, lambda: islice(iter(self), self.size - self.is_ended))
+
+    def numbered(self) -> Iterator[Tuple[int, List[str]]]:
+        """Yields the fields of each record without the `end`, with its line."""
+        return islice(Reader(self.source, self.place).numbered(), self.size - self.is_ended)

@@ -1,22 +1,23 @@
-"""Runs the program: on a script, on trials that are about a table each, and again with questions after a script."""
+"""Runs the program: on a script with questions after it, on trials of a table each, and again with more questions."""
 import subprocess
 import tempfile
 from functools import cached_property
-from itertools import compress, zip_longest
-from typing import Dict, Iterable, Iterator, List, NamedTuple, Optional, Sequence, Tuple
+from itertools import accumulate, compress, zip_longest
+from typing import Dict, Iterable, Iterator, List, Mapping, NamedTuple, Optional, Sequence, Tuple
 
 from ruzgalt.errors import Misfit
-from ruzgalt.script import answers, commands, records
+from ruzgalt.script import answers
 from ruzgalt.script.answers import Answer, Reading
-from ruzgalt.script.commands import Command
-from ruzgalt.script.language import Answered
-from ruzgalt.script.questions import line_of
-from ruzgalt.script.reader import Source
-from ruzgalt.script.records import encode, to_record, visible
+from ruzgalt.script.commands import Answered, Command, commands
+from ruzgalt.script.forms import POINT
+from ruzgalt.script.records import Reader, Source, count_lines, encode, short, to_record, to_text, visible
 
 NAMED_BY = "name it by DIPQ in the environment, or put dipq on the PATH"
 # The number of tables that a script may have, and the number of records of a script of trials, which may have more.
 TABLES, RECORDS = 64, 500_000
+# No commit has a greater number.
+NEWEST = 1_000_000
+EMPTY = "the script is empty: it has no command"
 
 
 class Running:
@@ -32,7 +33,9 @@ class Running:
                 self.process = subprocess.Popen([program], stdin=given, stdout=self.printed)
             except OSError as error:
                 self.printed.close()
-                raise Misfit(f"{program}: {why_not(error)}: {NAMED_BY}") from None
+                is_missing = isinstance(error, FileNotFoundError)
+                why = "no such program" if is_missing else f"can't be run: {error.strerror}"
+                raise Misfit(f"{program}: {why}: {NAMED_BY}") from None
 
     def output(self) -> bytes:
         """Waits until it has ended, and returns its answers."""
@@ -44,27 +47,105 @@ class Running:
             return self.printed.read()
 
     def stop(self) -> None:
-        """Ends it, where its answers aren't wanted any more."""
+        """Ends it, if its answers aren't wanted any more."""
         self.process.kill()
         self.process.wait()
         self.printed.close()
-
-
-def why_not(error: OSError) -> str:
-    return "no such program" if isinstance(error, FileNotFoundError) else f"can't be run: {error.strerror}"
 
 
 def output(program: str, script: bytes) -> bytes:
     return Running(program, script).output()
 
 
-def tried(program: str, trials: Iterable[List[Sequence[str]]]) -> Iterator[List[Answer]]:
+# Questions after a script.
+
+def named(word: str) -> Tuple[str, str]:
+    """Returns the name of a question, or nothing, and the question.
+
+    A name is the text before a `=` that comes before the first comma: no command's word has that sign. It consists of
+    visible characters, and blanks between them.
+    """
+    name, mark, question = word.partition("=")
+    if not mark or "," in name:
+        return "", word
+    if not name.isprintable() or name != name.strip() or not name:
+        raise Misfit(f"--ask {short(word)}: no name of letters, signs, and blanks between them before the =")
+    return name, question
+
+
+def line_of(question: str) -> bytes:
+    """Returns the line of a question after a script."""
+    return encode(question.strip("\r\n")) + b"\n"
+
+
+def dated(question: str) -> Dict[int, str]:
+    """Returns the points that it has instead of a commit's number, such as asof,2024-03-31, by their records' numbers.
+
+    Only a command's first record has such a suffix. Other records may have `asof` as a value.
+    """
+    found = commands(Source(line_of(question)))
+    return {one.record.number: one.as_of for one in found if one.as_of is not None and POINT.fullmatch(one.as_of)}
+
+
+def with_commits(question: str, commits: Mapping[str, int]) -> str:
+    """Returns the question with the commits of its points; without a point it stays as it was written."""
+    points = dated(question)
+    records = Reader(Source(line_of(question)))
+    made = ([*one.fields[:-1], str(commits[points[one.number]])] if one.number in points else one.fields
+            for one in records)
+    return to_text(made) if points else question
+
+
+def with_questions(script: bytes, questions: Sequence[str]) -> Source:
+    """Returns the script with each question on a line of its own."""
+    own = script + (b"\n" if questions and script and not script.endswith((b"\n", b"\r")) else b"")
+    lines = list(map(line_of, questions))
+    if b"\n" in lines:
+        raise Misfit("--ask: the question is empty")
+    return Source(b"".join([own, *lines]), count_lines(own) if questions else None)
+
+
+def lines_of(questions: Sequence[str], source: Source) -> List[int]:
+    """Returns the line on which each question begins."""
+    counts = (count_lines(line_of(question)) for question in questions)
+    return list(accumulate(counts, initial=(source.own_lines or 0) + 1))[:-1]
+
+
+def commands_of(source: Source, questions: Sequence[str]) -> List[Command]:
+    """Returns the commands of a script with questions.
+
+    Raises Misfit if a question isn't a command by itself, since it became part of an open quote or of a block.
+    """
+    begun = list(commands(source))
+    own = {command.line for command in begun}
+    for question, line in zip(questions, lines_of(questions, source)):
+        if line not in own:
+            raise Misfit(f"--ask {short(question)}: the question became part of {taker_of(source, begun, line)}")
+    return begun
+
+
+def taker_of(source: Source, begun: Sequence[Command], line: int) -> str:
+    """Returns the block that has this line as a record, or the record whose quote is open."""
+    found = list(Reader(source))
+    own = next((record.number for record in found if record.line == line), None)
+    if own is None:
+        return f"{[record for record in found if record.line < line][-1].where}, which has an open quote"
+    block = [one for one in begun if one.record.number < own <= one.record.number + len(one.block)][-1]
+    return f"{block.where}, {short(block.text)}'s block"
+
+
+# Trials.
+
+Trial = List[Sequence[str]]
+
+
+def tried(program: str, trials: Iterable[Trial]) -> Iterator[List[Answer]]:
     """Yields the answers to each trial: records that begin with a table, whose name no other trial has.
 
     Several trials are answered by one run. Raises Misfit if a record is refused.
     """
     for some in batches(trials):
-        script = records.encode(records.to_text(fields for trial in some for fields in trial))
+        script = encode(to_text(fields for trial in some for fields in trial))
         found: List[List[Answer]] = []
         for answer in answers.of(script, output(program, script)):
             if answer.refusal:
@@ -75,9 +156,9 @@ def tried(program: str, trials: Iterable[List[Sequence[str]]]) -> Iterator[List[
         yield from found
 
 
-def batches(trials: Iterable[List[Sequence[str]]]) -> Iterator[List[List[Sequence[str]]]]:
+def batches(trials: Iterable[Trial]) -> Iterator[List[Trial]]:
     """Yields lists of trials, each for one script."""
-    some: List[List[Sequence[str]]] = []
+    some: List[Trial] = []
     count = 0
     for trial in trials:
         if some and (len(some) == TABLES or count + len(trial) > RECORDS):
@@ -89,11 +170,7 @@ def batches(trials: Iterable[List[Sequence[str]]]) -> Iterator[List[List[Sequenc
         yield some
 
 
-# No commit has a greater number.
-NEWEST = 1_000_000
-# The position in a version of the commit that closed it.
-CLOSED = 4
-
+# The past of a script.
 
 class Version(NamedTuple):
     """A version of a row: its id, period and values, the commit that made it, and the one that closed it, if any."""
@@ -136,7 +213,7 @@ class Versions:
     def closed_by(self) -> Dict[int, List[Version]]:
         """The versions that each commit closed. Others aren't kept: most tables have few that are closed."""
         found: Dict[int, List[Version]] = {}
-        for one in (version_of(record) for record in self.table.texts() if record[CLOSED]):
+        for one in (version_of(record) for record in self.table.texts() if record[4]):
             found.setdefault(one.closed or 0, []).append(one)
         return found
 
@@ -169,7 +246,7 @@ class Past:
             raise Misfit(f"{self.program}: {why}: {NAMED_BY}")
         reading = Reading(Source(printed[len(self.front.output):]))
         reading.tables, reading.commits = self.tables, self.newest
-        return list(reading.answers(commands.commands(Source(after, 0), self.front.records + 1)))
+        return list(reading.answers(commands(Source(after, 0), self.front.records + 1)))
 
     def ask(self, *questions: str) -> List[Answer]:
         """Returns the answers to questions after the script. New ones are asked in one run."""
@@ -233,42 +310,25 @@ class Beginnings:
         """Names the tables of a query that have no rows yet at the commit of its suffix."""
         if answer.command.as_of is None:
             return
-        names = answer.command.front[1:1 + answer.command.form.tables]
-        for name in dict.fromkeys(names):
+        for name in dict.fromkeys(answer.command.front[1:1 + answer.command.form.tables]):
             if self.made[name] > answer.commit:
                 yield f"{name} was made by commit {self.made[name]}, so commit {answer.commit} has no row of it"
             elif self.filled.get(name, 0) > answer.commit:
                 yield f"{name} has rows from commit {self.filled[name]} on, so commit {answer.commit} has no row of it"
 
 
-OTHER_ANSWERS = "these answers are of another script or question; without --answers the program answers this script"
-
-
-class Difference(NamedTuple):
-    """A line that differs in the kept answers and in the program's; None after the last line."""
-
-    line: int
-    kept: Optional[bytes]
-    now: Optional[bytes]
-
-
-def difference(kept: bytes, now: bytes) -> Optional[Difference]:
-    """Returns the first line that differs."""
-    lines = enumerate(zip_longest(kept.splitlines(True), now.splitlines(True)), 1)
-    return next((Difference(line, *both) for line, both in lines if both[0] != both[1]), None)
-
-
 def refuse_other_bytes(name: str, kept: bytes, now: bytes) -> None:
     """Raises Misfit if kept answers aren't exactly the bytes that the program prints: a script has one output."""
-    found = difference(kept, now) if kept != now else None
-    if found:
-        place = f"{'standard input' if name == '-' else name}, line {found.line}"
-        has, prints = shown_line(found.kept, "no more"), shown_line(found.now, "no more")
-        raise Misfit(f"{place}: it has {has}, and the program prints {prints}: {OTHER_ANSWERS}")
+    lines = enumerate(zip_longest(kept.splitlines(True), now.splitlines(True)), 1)
+    for line, both in lines if kept != now else ():
+        if both[0] != both[1]:
+            where = f"{'standard input' if name == '-' else name}, line {line}"
+            has, prints = ("no more" if one is None else shown_line(one) for one in both)
+            remedy = "without --answers the program answers this script"
+            other = f"these answers are of another script or question; {remedy}"
+            raise Misfit(f"{where}: it has {has}, and the program prints {prints}: {other}")
 
 
-def shown_line(line: Optional[bytes], nothing: str) -> str:
+def shown_line(line: bytes) -> str:
     """Returns a line of answers without its LF, for a person."""
-    if line is None:
-        return nothing
     return visible(line[:-1 if line.endswith(b"\n") else None].decode("utf-8", "surrogateescape"))

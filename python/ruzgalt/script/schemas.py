@@ -1,13 +1,12 @@
-"""Which columns a table of the store has, and which the answer to each command."""
+"""The columns of a table, and of the answer to each command."""
 from dataclasses import dataclass, field
 from enum import Enum
 from typing import Callable, Dict, Iterable, Iterator, List, Optional, Sequence, Tuple, Union
 
 from ruzgalt.errors import Misfit
 from ruzgalt.script import naming
-from ruzgalt.script.commands import Command
+from ruzgalt.script.commands import Answered, Command, Role, key_place
 from ruzgalt.script.forms import POINTS, is_name, is_printed, is_sum, read_point
-from ruzgalt.script.language import Answered, Role
 from ruzgalt.script.records import visible
 
 MOST_COLUMNS = 16
@@ -63,9 +62,8 @@ class Schema:
 
     @staticmethod
     def read(fields: Sequence[str]) -> "Schema":
-        """The table that a `table` record makes which was accepted."""
-        ends = [place for place in range(2, len(fields), 2) if fields[place] == "key"]
-        end = ends[0] if ends else len(fields)
+        """Returns the table of a `table` record that was accepted."""
+        end = key_place(fields)
         columns = tuple(Column(name, Kind(kind)) for name, kind in zip(fields[2:end:2], fields[3:end:2]))
         names = [column.name for column in columns]
         return Schema(fields[1], columns, tuple(names.index(name) for name in fields[end + 1:]))
@@ -125,52 +123,42 @@ VERDICT = [Column("verdict", Kind.TEXT), Column("reason", Kind.TEXT), *ints("cou
 DIVISION = [*ints("part", "row_id"), Column("instant", Kind.POINT)]
 
 
+# An answer's own columns, which precede the table's.
+OWN: Dict[Answered, List[Column]] = {
+    Answered.ROWS: [*ints("row_id"), *PERIOD],
+    Answered.VERSIONS: [*ints("row_id"), *PERIOD, *ints("sys_from", "sys_to")],
+    Answered.PAIRS: [*PERIOD, *ints("left_id", "right_id")], Answered.LOG: COMMIT, Answered.DIVISION: DIVISION,
+    Answered.VERDICT: VERDICT,
+}
+# Before the names of a table's columns.
+SIDES = {Answered.ROWS: [""], Answered.VERSIONS: [""], Answered.PAIRS: ["left_", "right_"]}
+
+
 def header(command: Command, tables: Dict[str, Schema]) -> List[Column]:
     """Returns the columns of the answer to an accepted query. Raises KeyError if its table or point doesn't exist."""
     form, front = command.form, command.front
     named = [tables[name] for name in front[1:1 + form.tables]]
     if form.more == (Role.POINT,) and (len(front) != 3 or read_point(front[2]) is None):
         raise KeyError(command.word)
-    return HEADERS[form.answered](front, named)
+    if form.answered is Answered.STEPS:
+        return of_steps(front, named[0])
+    sides = zip(SIDES.get(form.answered, []), named)
+    columns = [Column(side + column.name, column.kind) for side, table in sides for column in table.columns]
+    return unique([*OWN[form.answered], *columns])
 
 
-def of_rows(_: Sequence[str], tables: Sequence[Schema]) -> List[Column]:
-    return unique([*ints("row_id"), *PERIOD, *tables[0].columns])
-
-
-def of_versions(_: Sequence[str], tables: Sequence[Schema]) -> List[Column]:
-    return unique([*ints("row_id"), *PERIOD, *ints("sys_from", "sys_to"), *tables[0].columns])
-
-
-def of_pairs(_: Sequence[str], tables: Sequence[Schema]) -> List[Column]:
-    sides = [*prefixed("left", tables[0].columns), *prefixed("right", tables[1].columns)]
-    return unique([*PERIOD, *ints("left_id", "right_id"), *sides])
-
-
-def of_steps(front: Sequence[str], tables: Sequence[Schema]) -> List[Column]:
+def of_steps(front: Sequence[str], table: Schema) -> List[Column]:
     """Returns the group's column, the period, and the value's column, named by function and column."""
-    table = tables[0]
     named = front[2] if front[2] == "count" else "_".join(front[2:4])
     group = [table.columns[table.index_of(front[-1])]] if group_of(front) else []
-    # The period keeps its names, by which it is found, whatever the group's name is.
+    # The period is found by its names, so it keeps them if the group has one of them.
     start, end, *others = unique([*PERIOD, *group, *ints(named)])
     return [*others[:-1], start, end, others[-1]]
-
-
-Header = Callable[[Sequence[str], Sequence[Schema]], List[Column]]
-HEADERS: Dict[Answered, Header] = {
-    Answered.ROWS: of_rows, Answered.VERSIONS: of_versions, Answered.PAIRS: of_pairs, Answered.STEPS: of_steps,
-    Answered.LOG: lambda *_: COMMIT, Answered.DIVISION: lambda *_: DIVISION, Answered.VERDICT: lambda *_: VERDICT,
-}
 
 
 def group_of(front: Sequence[str]) -> Optional[str]:
     """Returns the column after `by`, if an aggregate has one."""
     return front[-1] if len(front) in (5, 6) and front[-2] == "by" else None
-
-
-def prefixed(side: str, columns: Iterable[Column]) -> List[Column]:
-    return [Column(f"{side}_{column.name}", column.kind) for column in columns]
 
 
 def unique(columns: Iterable[Column]) -> List[Column]:

@@ -7,22 +7,18 @@
 
 Each module imports only from modules above it:
 
-    docstrings              parts of docstrings that several calls have
-    script                  a store's commands as bytes
-    answers, live           answers of the program as columns; the program
-    tables                  a table's columns, their names and cells
+    parameters              the parameters of calls, for their docstrings
+    tables                  a table's columns, their names and cells; commands
+    live                    the program, and its answers as columns
     labels                  labels and days of commits
     changes                 the commands of a change, and possible mistakes in it
     state                   tables, commands and program together
-    history                 what commits changed
     queries                 the questions of a store
     opening                 a script as a store
-    export                  script, page and pictures
-    store                   the store, and its changes
+    store                   the store: its changes, its files
 """
 from ruzgalt.store.changes import Changed
-from ruzgalt.store.export import Picture
-from ruzgalt.store.script import Script
-from ruzgalt.store.store import Store
+from ruzgalt.store.store import Picture, Store
+from ruzgalt.store.tables import Script
 
 __all__ = ["Store", "Script", "Picture", "Changed"]

@@ -1,35 +1,34 @@
 """The changes of a store: their commands, counts and possible mistakes."""
 from __future__ import annotations
 
-from dataclasses import dataclass, field
 from typing import TYPE_CHECKING, Any, Callable, Collection, Iterator, List, NamedTuple, Optional, Sequence, Tuple
 
 import numpy as np
 import pandas as pd
 
+from ruzgalt.convert import checks, points, values
+from ruzgalt.convert.errors import REMEDIES, Refused
+from ruzgalt.convert.named import names_of, same
+from ruzgalt.convert.values import Values
 from ruzgalt.errors import Misfit
-from ruzgalt.frames import checks, doubts, points, values
-from ruzgalt.frames.arrays import NO_INTS, Ints
-from ruzgalt.frames.errors import REMEDIES, Refused
-from ruzgalt.frames.named import names_of, same
+from ruzgalt.frames import doubts
 from ruzgalt.frames.options import Names, Options
 from ruzgalt.frames.sides import Side
-from ruzgalt.frames.values import Values
-from ruzgalt.lint import rows as of_rows
-from ruzgalt.lint import scripts as marks
-from ruzgalt.periods.rounding import ROUNDINGS
-from ruzgalt.script import commands, fields, forms, raises
+from ruzgalt.lint import rows as of_rows, scripts as marks
+from ruzgalt.periods import ROUNDINGS
+from ruzgalt.script import commands, forms, raises
 from ruzgalt.script.answers import Answer
 from ruzgalt.script.records import Record, visible
-from ruzgalt.store import labels, script
-from ruzgalt.store.script import Command
-from ruzgalt.store.tables import Table, side_of, table_of
+from ruzgalt.store import labels, tables
+from ruzgalt.store.tables import Command, Table
 
 if TYPE_CHECKING:
     from ruzgalt.store.state import State
 
 # The remedy for a raise of a column that may have missing cells.
 OF_ROWS = "take rows(), .dropna() to leave such rows out, and give update_rows the new amounts"
+# What the tools' options are called here.
+PARAMETERS = (("(line ", "(commit "), ("--again", "again=True"), ("--round half-up", "round='half-up'"), (" --", " "))
 
 
 class Changed:
@@ -83,20 +82,19 @@ class Changed:
         return Changed, (self.commit, self.added, self.closed)
 
 
-@dataclass(frozen=True)
-class Change:
+class Change(NamedTuple):
     """A call that changes a table. Each of its commands is a commit.
 
     made     the table, if the call makes it
     side     the rows that its last command loads
-    portion  the seconds at which updates or a delete may cut rows
+    portion  the seconds that may cut rows, of updates or a delete
     """
 
     name: str
     commands: Sequence[Command]
     made: Optional[Table] = None
     side: Optional[Side] = None
-    portion: Ints = field(default_factory=lambda: NO_INTS)
+    portion: Sequence[int] = ()
 
 
 class Done(NamedTuple):
@@ -115,27 +113,27 @@ def making(name: Any, frame: Any, key: Names, options: Options) -> Change:
     if not isinstance(name, str) or not forms.is_name(name):
         reason = "it is a word of the language" if name in forms.RESERVED else REMEDIES["BadName"]
         raise Refused("BadName", f"{checks.shown(name)} can't be the name of a table: {reason}")
+    frame = checks.frame("frame", frame)
     names = [column for column in names_of(frame) if column not in options.period]
-    side = side_of(frame, names, options)
+    side = tables.side_of(frame, names, options)
     doubts.of_decimals(options.decimals, frame)
-    made = table_of(name, side, checks.names("key", key) or (), options)
+    made = tables.table_of(name, side, checks.names("key", key) or (), options)
     warn_of_ends(made, side)
-    keys = [made.word(column) for column in made.key]
-    command = script.make(name, list(made.words.values()), side.columns, keys)
-    return Change(name, [command, *([script.load(name, side)] if len(side) else [])], made, side)
+    command = tables.make(name, list(made.words.values()), side.columns, [made.word(column) for column in made.key])
+    return Change(name, [command, *([tables.load(name, side)] if len(side) else [])], made, side)
 
 
 def loading(table: Table, frame: Any) -> Change:
     side = table.side_of(checks.frame("frame", frame), list(table.columns))
     warn_of_ends(table, side)
-    return Change(table.name, [script.load(table.name, side)], side=side)
+    return Change(table.name, [tables.load(table.name, side)], side=side)
 
 
 def changing(word: str, table: Table, start: Any, end: Any, condition: Sequence[str]) -> Change:
     """Returns an update or a delete."""
     portion = table.portion(start, end)
-    made = script.command(word, table.name, *map(points.text_of, portion), *condition)
-    return Change(table.name, [made], portion=portion)
+    return Change(table.name, [tables.command(word, table.name, *map(tables.text_of, portion), *condition)],
+                  portion=portion)
 
 
 def updating(table: Table, frame: Any, where: Names) -> Change:
@@ -152,14 +150,13 @@ def updating(table: Table, frame: Any, where: Names) -> Change:
     warn_of_ends(table, side)
     columns = [[(table.word(column.name), text) for text in texts_of(column)] for column in side.columns]
     made, cut = [], len(set_to)
-    for start, end, label, *pairs in zip(
-        points.texts_of(side.start), points.texts_of(side.end), frame.index, *columns
-    ):
+    times = points.texts_of(side.start), points.texts_of(side.end)
+    for start, end, label, *pairs in zip(*times, frame.index, *columns):
         set_pairs, where_pairs = ([text for pair in some for text in pair] for some in (pairs[:cut], pairs[cut:]))
-        made.append(script.command(
+        made.append(tables.command(
             "update", table.name, start, end, "set", *set_pairs, "where", *where_pairs, label=label
         ))
-    return Change(table.name, made, portion=np.concatenate([side.start, side.end]))
+    return Change(table.name, made, portion=np.concatenate([side.start, side.end]).tolist())
 
 
 def warn_of_ends(table: Table, side: Side) -> None:
@@ -188,7 +185,7 @@ def raise_of(state: State, table: Table, column: Any, how: Tuple[Any, ...], is_a
     pairs = table.condition(where)[1:]
     table.refuse_missing(column, "would be raised too", OF_ROWS)
     if rounding is not None:
-        checks.one_of("round", rounding, ROUNDINGS)
+        checks.one_of("round", rounding, list(ROUNDINGS))
     wish = raises.Wish(
         table.name, table.word(column), str(percent), first, None if end is None else last,
         list(zip(pairs[::2], pairs[1::2])), rounding,
@@ -199,9 +196,8 @@ def raise_of(state: State, table: Table, column: Any, how: Tuple[Any, ...], is_a
         if not is_again:
             made.refuse_again(list(updates_of(state, table.name)))
     except Misfit as misfit:
-        # The tools name a line of a script, and options of theirs.
-        reason = str(misfit).replace("(line ", "(commit ")
-        for word, parameter in (("--again", "again=True"), ("--round half-up", "round='half-up'"), (" --", " ")):
+        reason = str(misfit)
+        for word, parameter in PARAMETERS:
             reason = reason.replace(word, parameter)
         raise Refused("BadCommand", reason[2:] if reason.startswith("--") else reason) from None
     raised = np.array([one.raised for one in made.steps], np.int64)
@@ -256,13 +252,14 @@ def mistakes_in_portion(change: Change, table: Table, closed: int) -> Iterator[s
     reason = marks.of_touched(command.fields, closed)
     if reason:
         # It names the change, since there may be many.
-        indices = fields.where_places(command.fields)
+        indices = commands.where_places(command.fields)
         pairs = [f"{command.fields[index]} is '{visible(command.fields[index + 1])}'" for index in indices]
         where = f" where {' and '.join(pairs)}" if pairs else ""
         yield f"{command.word} of {change.name}{where}: {reason}"
-    reason = None if table.form.has_last_days else marks.of_end(command.fields[3])
-    if reason and closed and int(change.portion[-1]) < table.last:
-        yield f"{command.word} of {change.name}: {reason}"
+    if closed and not table.form.has_last_days and change.portion[-1] < table.last:
+        reason = marks.of_end(command.fields[3])
+        if reason:
+            yield f"{command.word} of {change.name}: {reason}"
 
 
 def mistakes_in_rows(change: Change, closed: Collection[int]) -> Iterator[str]:
@@ -271,7 +268,7 @@ def mistakes_in_rows(change: Change, closed: Collection[int]) -> Iterator[str]:
     if idle:
         more = f"; {len(idle) - 1} more rows do so" if len(idle) > 1 else ""
         yield f"update of {change.name}: row {idle[0].label!r}: {marks.of_touched(idle[0].fields, 0)}{more}"
-    updated = [(one.fields[2], *one.fields[fields.where_place(one.fields):]) for one in change.commands]
+    updated = [(one.fields[2], *one.fields[commands.where_place(one.fields):]) for one in change.commands]
     is_later = pd.Series(updated).duplicated().to_numpy()
     if is_later.any():
         number = int(is_later.argmax())

@@ -8,23 +8,20 @@ from __future__ import annotations
 import datetime
 import difflib
 from bisect import bisect_right
-from typing import TYPE_CHECKING, Any, Dict, Iterator, List, Mapping, NamedTuple, Optional, Tuple
+from typing import Any, Dict, Iterator, List, Mapping, NamedTuple, Optional, Sequence, Tuple
 
 import numpy as np
 import pandas as pd
 
+from ruzgalt.convert import checks, instants, points
+from ruzgalt.convert.arrays import Cells, Ints
+from ruzgalt.convert.errors import Refused, doubt
+from ruzgalt.convert.kinds import Kind
 from ruzgalt.errors import Misfit
-from ruzgalt.frames import checks, instants, points
-from ruzgalt.frames.arrays import Cells, Ints
-from ruzgalt.frames.errors import Refused, doubt
-from ruzgalt.frames.kinds import Kind
 from ruzgalt.script import changes as past
 from ruzgalt.script import forms
 from ruzgalt.script.schemas import Schema
-from ruzgalt.store.tables import point_of
-
-if TYPE_CHECKING:
-    from ruzgalt.store.state import State
+from ruzgalt.store.tables import written
 
 # The columns of a diary after its period. The tools read the first one, and Store.from_script all.
 NEWEST, COMMIT, LABEL = COLUMNS = ("newest", "commit", "label")
@@ -42,10 +39,6 @@ class Note(NamedTuple):
     label: Optional[str] = None
     second: Optional[int] = None
 
-    def within(self, batch: Note) -> Note:
-        """Returns the note of a change in a batch: it has the batch's day unless it has its own."""
-        return self._replace(second=batch.second) if self.second is None else self
-
     def refuse_without_commit(self) -> None:
         """Raises Refused for a label of a change that makes no commit."""
         if self.label is not None:
@@ -57,7 +50,9 @@ NO_NOTE = Note()
 
 def note_of(label: Any, day: Any) -> Note:
     """Returns a checked label and day. Raises Refused."""
-    second = None if day is None else instants.second_of(point_of(day))
+    if label is None and day is None:
+        return NO_NOTE
+    second = None if day is None else instants.second_of(written(day))
     if second is not None and second >= points.NO_END:
         raise Refused("BadPoint", f"day={day!r}: 9999-12-31 stands for no end, so it can't be the day of a commit")
     return Note(None if label is None else label_of(label), second)
@@ -68,16 +63,15 @@ def label_of(given: Any) -> str:
     if not isinstance(given, str):
         raise checks.wrong("label", given, "must be a text")
     label, shown = str.__str__(given), checks.shown(given)
-    if not label.strip():
-        raise Refused("BadName", f"label={shown} is blank: give it some letters")
-    if is_number(label):
-        raise Refused("BadName", f"label={shown} looks like a commit's number: add a word, such as 'run {label}'")
-    if forms.POINT.fullmatch(point_of(label.strip())):
-        raise Refused("BadName", f"label={shown} looks like a day: give a day by day=, or add a word")
-    if not forms.is_utf8(label):
-        raise Refused("BadUtf8", f"label={shown} has half of a surrogate pair, so it isn't a text")
-    if not forms.is_short(label):
-        raise Refused("TooLong", f"label={shown} has more than 4,096 bytes: give a shorter one")
+    for is_wrong, name, reason in (
+        (not label.strip(), "BadName", "is blank: give it some letters"),
+        (is_number(label), "BadName", f"looks like a commit's number: add a word, such as 'run {label}'"),
+        (forms.POINT.fullmatch(label.strip().replace(" ", "T")), "BadName", "looks like a day: day= takes one"),
+        (not forms.is_utf8(label), "BadUtf8", "has half of a surrogate pair, so it isn't a text"),
+        (forms.is_utf8(label) and not forms.is_short(label), "TooLong", "has more than 4,096 bytes: shorten it"),
+    ):
+        if is_wrong:
+            raise Refused(name, f"label={shown} {reason}")
     return label
 
 
@@ -87,6 +81,16 @@ def is_number(label: str) -> bool:
     except ValueError:
         return False
     return True
+
+
+class Row(NamedTuple):
+    """A row of a diary. `newest` is 0 if the label's commit has no day: then the row says nothing about days."""
+
+    start: int
+    end: int
+    newest: int
+    commit: int
+    label: str
 
 
 class Diary:
@@ -99,6 +103,11 @@ class Diary:
         self.labels: Dict[str, int] = {}
         self.seconds: List[int] = []
         self.commits: List[int] = []
+
+    def copied(self) -> Diary:
+        made = Diary()
+        made.labels, made.seconds, made.commits = dict(self.labels), list(self.seconds), list(self.commits)
+        return made
 
     def add(self, commit: int, note: Note) -> None:
         """Adds the label and day of a commit. Raises Refused, as refuse() does."""
@@ -115,8 +124,8 @@ class Diary:
 
     def cut(self, size: Tuple[int, int]) -> None:
         """Removes the labels and days that were added after the diary had this size."""
-        for label in list(self.labels)[size[0]:]:
-            del self.labels[label]
+        while len(self.labels) > size[0]:
+            self.labels.popitem()
         del self.seconds[size[1]:], self.commits[size[1]:]
 
     def refuse(self, note: Note) -> None:
@@ -130,35 +139,28 @@ class Diary:
 
     def commit_of(self, option: str, given: Any) -> int:
         """Returns the commit of a label, or the newest commit of a day. Raises Refused."""
-        if not isinstance(given, str):
-            return self.newest_at(option, given)
-        if given in self.labels:
+        if isinstance(given, str) and given in self.labels:
             return self.labels[given]
-        if forms.read_point(point_of(given)) is not None:
-            return self.newest_at(option, point_of(given))
-        near = {one.casefold(): one for one in list(self.labels)[-COMPARED:]}
-        alike = difflib.get_close_matches(given.strip().casefold(), near, 1, ALIKE)
-        reason = f"{option}={checks.shown(given)} isn't a day, and no commit has this label"
-        reason += f", but {near[alike[0]]!r} looks alike" if alike else ""
-        reason += f"; give a commit's number as a number: {int(given)}" if is_number(given) else ""
-        raise Refused("NoLabel", f"{reason}; {self.listed()}")
-
-    def newest_at(self, option: str, day: Any) -> int:
-        commit = past.newest_at(self.seconds, self.commits, instants.second_of(day))
+        if isinstance(given, str) and not instants.written(given):
+            raise Refused("NoLabel", f"{option}={checks.shown(given)} {self.why_unknown(given)}")
+        commit = past.newest_at(self.seconds, self.commits, instants.second_of(given))
         if commit is not None:
             return commit
-        given = f"{option}={str(day)!r}"
-        if not self.seconds:
-            remedy = "give days by day= of changes, or by diary= of Store.from_script"
-            raise Refused("NoDay", f"{given}: no commit has a day; {remedy}")
-        raise Refused("NoDay", f"{given}: the first day of a commit is {points.text_of(self.seconds[0])}")
+        reason = f"the first day of a commit is {points.text_of(self.seconds[0])}" if self.seconds else (
+            "no commit has a day; give days by day= of changes, or by diary= of Store.from_script")
+        raise Refused("NoDay", f"{option}={str(given)!r}: {reason}")
 
-    def listed(self) -> str:
+    def why_unknown(self, given: str) -> str:
+        reason = "isn't a day, and no commit has this label"
+        near = {one.casefold(): one for one in list(self.labels)[-COMPARED:]}
+        alike = difflib.get_close_matches(given.strip().casefold(), near, 1, ALIKE)
+        reason += f", but {near[alike[0]]!r} looks alike" if alike else ""
+        reason += f"; give a commit's number as a number: {int(given)}" if is_number(given) else ""
         if not self.labels:
-            return "give labels by label= of changes, or by diary= of Store.from_script"
-        newest = list(self.labels)[-LISTED:]
+            return f"{reason}; give labels by label= of changes, or by diary= of Store.from_script"
+        newest = ", ".join(map(checks.shown, list(self.labels)[-LISTED:]))
         more = f" and {len(self.labels) - LISTED} more" if len(self.labels) > LISTED else ""
-        return f"the labels are {', '.join(map(checks.shown, newest))}{more}; diary() lists them"
+        return f"{reason}; the labels are {newest}{more}; diary() lists them"
 
     def days(self) -> past.Days:
         """Returns the days, each with the newest commit from then on, in the form of the tools."""
@@ -169,10 +171,9 @@ class Diary:
         rows = [row for row in self.rows() if row.commit > after]
         times = np.array([(row.start, row.end) for row in rows], np.int64).reshape(-1, 2)
         kind = Kind("D" if points.has_all(Kind("D"), times) else "S")
-        ends = {name: points.series_of(column, kind) for name, column in zip(("from", "to"), times.T)}
-        newest, commits = np.array([(row.newest, row.commit) for row in rows], np.int64).reshape(-1, 2).T
-        labels = pd.Series([row.label for row in rows], dtype=object)
-        return pd.DataFrame({**ends, NEWEST: newest, COMMIT: commits, LABEL: labels})
+        made = {name: points.series_of(column, kind) for name, column in zip(("from", "to"), times.T)}
+        made[NEWEST], made[COMMIT] = np.array([(row.newest, row.commit) for row in rows], np.int64).reshape(-1, 2).T
+        return pd.DataFrame({**made, LABEL: pd.Series([row.label for row in rows], dtype=object)})
 
     def rows(self) -> Iterator[Row]:
         """Yields a row for each label and each day, by commits. Labels without a day come first."""
@@ -190,33 +191,22 @@ class Diary:
                 yield Row(second, end, commit, commit, label)
 
 
-class Row(NamedTuple):
-    """A row of a diary. `newest` is 0 if the label's commit has no day: then the row says nothing about days."""
-
-    start: int
-    end: int
-    newest: int
-    commit: int
-    label: str
-
-
-def read(state: State, name: Any, schemas: Mapping[str, Schema]) -> Diary:
-    """Returns the diary in a table of the store. Raises Refused if the table isn't a diary."""
-    table, schema, newest = state.known(name), schemas[name], state.newest
-    start, end, *cells = state.block(["rows", table.name], "-pp" + table.readers)
-    rows = zip(points.texts_of(start), points.texts_of(end), *([str(cell) for cell in one] for one in cells))
+def read(schema: Schema, cells: Sequence[Cells], newest: int) -> Diary:
+    """Returns the diary in a table whose rows have these starts, ends and cells. Raises Refused if it isn't a diary."""
+    start, end, *values = cells
+    rows = zip(points.texts_of(start), points.texts_of(end), *([str(cell) for cell in one] for one in values))
     try:
         # A commit of several labels has a row for each.
         days = list(dict.fromkeys(past.days_of(schema, rows)))
     except Misfit as misfit:
         raise Refused("WrongKind", str(misfit)) from None
-    columns = {column.name: (column.kind.value, own) for column, own in zip(schema.columns, cells)}
-    labels = list(labels_in(columns, cells[0]))
+    columns = {column.name: (column.kind.value, own) for column, own in zip(schema.columns, values)}
+    labels = list(labels_in(columns, values[0]))
     for reason in past.strange_commits([*days, *(("", commit) for _, commit in labels)], newest):
         raise Refused("Future", f"{schema.name}: {reason}")
     for reason in past.steps_back(days):
         raise Refused("BadNumber", f"{schema.name}: {reason}")
-    for time in gaps_in(start, end, cells[0]):
+    for time in gaps_in(start, end, values[0]):
         doubt(f"{schema.name}: no row holds {time}; as of a day then the commit before that is taken")
     made = Diary()
     made.seconds, made.commits = [points.FIRST + forms.seconds(day) for day, _ in days], [one for _, one in days]

@@ -1,32 +1,29 @@
 """A script as a store: the program reads it once, and its accepted changes are kept."""
 from __future__ import annotations
 
+import csv
 import os
 import re
 from pathlib import Path
-from typing import Any, List, Mapping, Sequence, Union
+from typing import Any, Iterator, List, Mapping, Optional, Set, Union
 
 import numpy as np
 
+from ruzgalt.convert import checks, kinds, points
+from ruzgalt.convert.arrays import NO_INTS
+from ruzgalt.convert.errors import Refused, doubt
+from ruzgalt.convert.named import same
+from ruzgalt.convert.values import Texts, Values
 from ruzgalt.errors import Misfit
-from ruzgalt.frames import checks, kinds, points
-from ruzgalt.frames.arrays import NO_INTS
-from ruzgalt.frames.errors import Refused, doubt
-from ruzgalt.frames.named import same
 from ruzgalt.frames.options import OF_TABLE, options_of
-from ruzgalt.frames.values import Texts, Values
-from ruzgalt.script import answers
-from ruzgalt.script import commands, naming
-from ruzgalt.script import refusals
-from ruzgalt.script.answers import Answer
-from ruzgalt.script.language import CHANGES
-from ruzgalt.script.reader import Block, Source, long_fields
+from ruzgalt.script import answers, commands, naming, refusals
+from ruzgalt.script.commands import COMMANDS, NONE
+from ruzgalt.script.records import BYTE_ORDER_MARK, Block, Source, long_fields
 from ruzgalt.script.schemas import Kind, Schema
-from ruzgalt.store import labels, script
-from ruzgalt.store.answers import unreadable
+from ruzgalt.store import labels, tables
+from ruzgalt.store.live import unreadable
 from ruzgalt.store.state import State
-from ruzgalt.store.script import Command, Script
-from ruzgalt.store.tables import Table, listed, refuse_stand_ins
+from ruzgalt.store.tables import Command, Script, Table
 
 # A script, or the file that has it.
 Given = Union[bytes, str, "os.PathLike[str]"]
@@ -34,6 +31,10 @@ Given = Union[bytes, str, "os.PathLike[str]"]
 NAMED = 10
 # A command that is refused. If it is answered by itself, all commands before it are complete.
 LAST_OF_ALL = b"rows\n"
+# The bytes that may come before a quote that begins a field, or after one that ends it, or next to one in a field.
+NEXT_TO_QUOTES = np.frombuffer(b',\n"', np.uint8)
+# What each point with a time has, and other texts seldom.
+HOUR = re.compile(rb"T\d\d:")
 # A row or a change whose start or end isn't midnight, nor the last second that there is.
 TIMES = re.compile(
     rb'(?:^|[\r\n])"?(?:row|(?:update|delete)"?,[^,]*)"?(?:,"?\d{4}-\d\d-\d\d(?:T00:00:00)?"?)?'
@@ -46,46 +47,120 @@ def read(state: State, given: Given, options: Any, diary: Any) -> None:
 
     Raises Refused, Stopped; warns of refused changes.
     """
-    found = answers_of(state, bytes_of(given))
-    state.commands = [command_of(one) for one in found if one.command.word in CHANGES and not one.refusal]
-    state.loads = {one.data for one in state.commands if one.word == "load"}
-    schemas = found[-1].tables if found else {}
+    with_times = fill(state, bytes_of(given))
+    schemas = {one.fields[1]: Schema.read(one.fields) for one in state.commands if one.word == "table"}
     refuse_options(options, schemas)
     names = given.names if isinstance(given, Script) else {}
     for name, schema in schemas.items():
         of_table = {"names": names.get(name, {}), **options.get(name, {})}
-        state.tables[name] = table_of(schema, of_table, has_times(state.commands, name))
+        state.tables[name] = table_of(schema, of_table, name in with_times)
     if diary is not None:
-        state.diary = labels.read(state, diary, schemas)
+        table = state.known(diary)
+        cells = state.block(["rows", table.name], "-pp" + table.readers)
+        state.diary = labels.read(schemas[diary], list(cells), state.newest)
 
 
-def answers_of(state: State, data: bytes) -> List[Answer]:
-    """Returns the commands of a script with their answers. The program reads it once. Warns of refused changes.
+def fill(state: State, data: bytes) -> Set[str]:
+    """Puts the accepted changes of a script into a state. The program reads it once. Warns of refused changes.
 
-    A last command shows that all before it are complete, and their answers too. Raises Refused (Unended), Stopped.
+    Returns the names of the tables with times. A last command shows that all before it are complete, and their answers
+    too. Raises Refused (Unended), Stopped.
     """
     text = data + b"\n" * (not data.endswith((b"\n", b"\r"))) + LAST_OF_ALL
-    begun: List[commands.Command] = []
+    begun: List[Command] = []
+    with_times: List[bool] = []
 
     def count() -> int:
-        begun[:] = commands.commands(Source(text))
-        if begun[-1].record.fields != ["rows"]:
-            what = "the script ends within a block, or between quotes"
-            raise Refused("Unended", f"{begun[-1].where}: {what}: give all of it, with the block's `end`")
+        # While the program works. A hash is kept by its bytes.
+        begun[:] = plain_commands(text) or all_commands(text)
+        with_times[:] = [bool(HOUR.search(one.data) and TIMES.search(one.data)) for one in begun]
+        state.loads = {one.data for one in begun if one.word == "load"}
         return len(begun)
 
-    with long_fields():
-        output = state.live.answers([], text, count)
+    found = state.live.answers([], text, count)
+    others = [(one.word, answer) for one, answer in zip(begun, found) if not answer.startswith(b"ok,")]
+    # A question may be refused; each other answer is a refused change, or of no command at all.
+    if any(answer.startswith(b"error,") and not COMMANDS.get(word, NONE).is_query for word, answer in others):
+        warn_of_refused(text, b"".join(found))
+    done = [(one, has_times) for one, has_times, answer in zip(begun, with_times, found) if answer.startswith(b"ok,")]
+    state.commands = [one for one, _ in done]
+    state.loads = {one.data for one in state.commands if one.word == "load"}
+    return {one.fields[1] for one, has_times in done if has_times}
+
+
+def plain_commands(text: bytes) -> Optional[List[Command]]:
+    """Returns the commands of a script, or None if it isn't plain. It doesn't read the rows of a load one by one."""
+    if not is_plain(text):
+        return None
+    place, found = 0, []
+    while place < len(text):
+        end = end_of(b"\n", text, place, place)
         try:
-            found = answers.of_commands(begun, bytes(output))[:-1]
+            fields: List[str] = next(csv.reader([text[place:end].decode(errors="surrogateescape")]), [])
+        except csv.Error:
+            # It has a long field.
+            return None
+        if fields[:1] in (["together"], ["check"]):
+            return None
+        if fields[:1] == ["load"]:
+            end = end_of(b"\nend\n", text, end, end - 1)
+        if fields:
+            found.append(Command(fields, text[place:end]))
+        place = end
+    return found
+
+
+def is_plain(text: bytes) -> bool:
+    """Returns whether each line end after an even number of quotes ends a record, and each `end` is a line."""
+    if text.startswith(BYTE_ORDER_MARK) or any(mark in text for mark in (b"\r", b"\0", b'"end"')):
+        return False
+    cells = np.frombuffer(text, np.uint8)
+    quotes = np.flatnonzero(cells == ord('"'))
+    # The last byte, a line end, comes before the first one.
+    near = np.concatenate([cells[quotes[::2] - 1], cells[quotes[1::2] + 1]])
+    return len(quotes) % 2 == 0 and bool(np.isin(near, NEXT_TO_QUOTES).all())
+
+
+def end_of(mark: bytes, text: bytes, begin: int, place: int) -> int:
+    """Returns the end of the first mark, from `place` on, with an even number of quotes between `begin` and it."""
+    found = text.find(mark, place)
+    while found >= 0 and text.count(b'"', begin, found) % 2:
+        found = text.find(mark, found + 1)
+    if found < 0:
+        raise unended(text)
+    return found + len(mark)
+
+
+def all_commands(text: bytes) -> Iterator[Command]:
+    """Yields the commands of any script."""
+    with long_fields():
+        begun = list(commands.commands(Source(text)))
+    if begun[-1].record.fields != ["rows"]:
+        raise unended(text)
+    for one in begun:
+        rows = one.block.bytes() if isinstance(one.block, Block) else b""
+        # The script's last line may have no end.
+        end = b"\n" if rows and not rows.endswith((b"\n", b"\r")) else b""
+        yield Command(list(one.record.fields), tables.record(one.record.fields) + rows + end)
+
+
+def unended(text: bytes) -> Refused:
+    with long_fields():
+        last = list(commands.commands(Source(text)))[-1]
+    what = "the script ends within a block, or between quotes"
+    return Refused("Unended", f"{last.where}: {what}: give all of it, with the block's `end`")
+
+
+def warn_of_refused(text: bytes, output: bytes) -> None:
+    with long_fields():
+        try:
+            found = answers.of_commands(commands.commands(Source(text)), output)
         except Misfit as misfit:
             raise unreadable(misfit) from None
-        refused = [one for one in found if one.refusal and not one.command.form.is_query]
+        refused = [one for one in found[:-1] if one.refusal and not one.command.form.is_query]
         reasons = "; ".join(map(refusals.described, refused[:NAMED]))
-    if refused:
-        more = f"; and {len(refused) - NAMED} more" if len(refused) > NAMED else ""
-        doubt(f"refused changes are left out: {reasons}{more}")
-    return found
+    more = f"; and {len(refused) - NAMED} more" if len(refused) > NAMED else ""
+    doubt(f"refused changes are left out: {reasons}{more}")
 
 
 def bytes_of(given: Given) -> bytes:
@@ -98,14 +173,6 @@ def bytes_of(given: Given) -> bytes:
         return Path(given).read_bytes()
     except (OSError, ValueError) as error:
         raise checks.wrong("script", given, f"{getattr(error, 'strerror', None) or error}; {wanted}") from None
-
-
-def command_of(answer: Answer) -> Command:
-    fields, block = answer.command.record.fields, answer.command.block
-    rows = block.bytes() if isinstance(block, Block) else b""
-    # The script's last line may have no end.
-    end = b"\n" if rows and not rows.endswith((b"\n", b"\r")) else b""
-    return Command(list(fields), script.record(fields) + rows + end)
 
 
 def refuse_options(options: Any, schemas: Mapping[str, Schema]) -> None:
@@ -139,15 +206,9 @@ def table_of(schema: Schema, given: Mapping[str, Any], has_times: bool) -> Table
         reason = f"{schema.name} has points with times, so its ends can't be last days: leave out last_day=True"
         raise Refused("BadPoint", reason)
     words, kind_of_points = dict(zip(names, schema.names)), kinds.Kind("S" if has_times else "D")
-    made = Table(schema.name, columns, key, options, words, kind_of_points, points.FIRST, points.NO_END)
-    refuse_stand_ins(made)
-    return made
-
-
-def has_times(changes: Sequence[Command], name: str) -> bool:
-    """Whether the script has a row or a portion of a table that starts or ends at another time than midnight."""
-    own = (one for one in changes if one.fields[1] == name and one.word != "table" and b":" in one.data)
-    return any(TIMES.search(one.data) for one in own)
+    return tables.checked(Table(
+        schema.name, columns, key, options, words, kind_of_points, points.FIRST, points.NO_END
+    ))
 
 
 def names_of(schema: Schema, given: Any) -> List[Any]:
@@ -156,7 +217,7 @@ def names_of(schema: Schema, given: Any) -> List[Any]:
         raise checks.wrong("names", given, "must be a dict of the script's columns with their names in frames")
     for word in given:
         if word not in schema.names:
-            reason = f"names= has it, but the columns of {schema.name} in the script are {listed(schema.names)}"
+            reason = f"names= has it, but the columns of {schema.name} in the script are {tables.listed(schema.names)}"
             raise Refused("NoColumn", reason, word)
     names = [same(given.get(word, word)) for word in schema.names]
     for name in naming.twice(names):

@@ -2,28 +2,31 @@
 from __future__ import annotations
 
 from dataclasses import replace
-from typing import Any, Iterator, List, Mapping, Optional, Sequence, Tuple
+from typing import Any, Iterable, Iterator, List, Mapping, Optional, Sequence, Tuple
 
 import numpy as np
 import pandas as pd
 
-from ruzgalt.frames import answer, checks, division, doubts, groups, instants, measures, pairs, points
+from ruzgalt.convert import checks, instants, points
+from ruzgalt.convert.arrays import NO_INTS, Cells, Ints, of_objects
+from ruzgalt.convert.errors import Refused, doubt
+from ruzgalt.convert.kinds import Kind
+from ruzgalt.convert.values import Values
+from ruzgalt.frames import answer, division, doubts, groups, measures, pairs
 from ruzgalt.frames.answer import Column, Columns
-from ruzgalt.frames.arrays import NO_INTS, Cells, Ints, of_objects
 from ruzgalt.frames.division import Division
-from ruzgalt.frames.errors import Refused
-from ruzgalt.frames.kinds import Kind
 from ruzgalt.frames.measures import Measures
-from ruzgalt.frames.options import INNER, SUFFIXES, AsOf, Commit, Functions, Names, Options, PairOfSuffixes
-from ruzgalt.frames.options import compared, options_of
+from ruzgalt.frames.options import (
+    INNER, SUFFIXES, AsOf, Commit, Functions, Names, Options, PairOfSuffixes, compared, options_of, shared_in,
+)
 from ruzgalt.frames.pairs import Taken
 from ruzgalt.frames.sides import Side
-from ruzgalt.frames.values import Values
+from ruzgalt.script import changes as past
 from ruzgalt.script import forms
-from ruzgalt.store import history, script
-from ruzgalt.store.docstrings import described
+from ruzgalt.script.run import Versions, versions_of
+from ruzgalt.store.parameters import described
 from ruzgalt.store.state import State
-from ruzgalt.store.tables import Table, coded, point_of
+from ruzgalt.store.tables import Table, coded
 
 LOG = ("commit", "caller", "kind", "table", "added", "closed")
 IDS = ("left_id", "right_id")
@@ -34,21 +37,15 @@ class Queries:
     """The questions of a store. Changes and questions of other threads wait for a question."""
 
     state: State
-    lock: Any
 
     def rows(self, name: str, as_of: AsOf = None) -> pd.DataFrame:
-        """All rows of a table, as of a commit.
-
-        Parameters
-        ----------
-        {table}
-        {as_of}
+        """All rows of a table as of a commit.
 
         Returns
         -------
         DataFrame
-            row_id in int64, the period's columns, and the table's, in the dtypes in which they came. Rows are sorted by
-            row_id.
+            row_id in int64, the period's columns, and the table's, in the dtypes of the loaded frames. Rows are sorted
+            by row_id.
 
         Examples
         --------
@@ -57,18 +54,11 @@ class Queries:
         0       1 2024-01-01 2025-01-01    Ada   5000
         1       2 2024-03-01 2024-10-01  Grace   4800
         """
-        with self.lock:
+        with self.state.lock:
             return listed(self.state, as_of, ["rows", name])
 
     def at(self, name: str, point: Any, as_of: AsOf = None) -> pd.DataFrame:
         """The rows of a table that hold at a point, as of a commit.
-
-        Parameters
-        ----------
-        {table}
-        point : str, date, datetime, Timestamp or Period
-            A day is its midnight.
-        {as_of}
 
         Returns
         -------
@@ -80,17 +70,11 @@ class Queries:
         >>> [store.at("pay", "2024-12-01", as_of=commit)["cents"].tolist() for commit in (2, 3)]
         [[5000], [5400]]
         """
-        with self.lock:
-            return listed(self.state, as_of, ["at", name, instants.text_of(point_of(point))])
+        with self.state.lock:
+            return listed(self.state, as_of, ["at", name, instants.text_of(point)])
 
     def between(self, name: str, first: Commit, last: Commit) -> pd.DataFrame:
         """The versions of rows that some commit from `first` to `last` shows.
-
-        Parameters
-        ----------
-        {table}
-        first, last : int, str, date, datetime, Timestamp or Period
-            Commits, as as_of= takes them.
 
         Returns
         -------
@@ -107,11 +91,9 @@ class Queries:
         2       3         3    <NA>   5000
         3       4         3    <NA>   5400
         """
-        with self.lock:
+        with self.state.lock:
             table = self.state.known(name)
-            numbers = [self.state.commit(*one, may_be_later=True) for one in (("first", first), ("last", last))]
-            if numbers[0] > numbers[1]:
-                raise Refused("BadPeriod", f"{numbers[0]} to {numbers[1]}: the first commit is after the last")
+            numbers = self._numbers(first, last, may_be_later=True)
             cells = self.state.block(["between", name, *map(str, numbers)], "ippcc" + table.readers)
             columns = Columns([("row_id", next(cells)), *table.period_cells(cells)])
             made, closed = next(cells), next(cells)
@@ -122,17 +104,6 @@ class Queries:
     def join(self, left: str, right: str, on: Names = None, *, left_on: Names = None, right_on: Names = None,
              how: str = INNER, suffixes: PairOfSuffixes = SUFFIXES, as_of: AsOf = None) -> pd.DataFrame:
         """Joins rows of two tables that are equal in the columns `on`, each pair for as long as both hold.
-
-        Parameters
-        ----------
-        {tables}
-        {on}
-        how : str, default "inner"
-            inner has the pairs. left also has each left row for as long as no right row meets it, with missing cells in
-            the right columns; right has right rows without a left one, and outer has both.
-        suffixes : pair of str or None, default ("_left", "_right")
-            Endings for equal names of columns, of the left table and of the right one; None for no ending.
-        {as_of}
 
         Returns
         -------
@@ -155,7 +126,7 @@ class Queries:
         1 2024-03-01 2024-06-01        1         2  Grace  4800.0
         """
         options = options_of(left_on=left_on, right_on=right_on, how=how, suffixes=suffixes)
-        with self.lock:
+        with self.state.lock:
             tables = [self.state.known(name) for name in (left, right)]
             fields = on_of(tables, on, options)
             if options.how == INNER:
@@ -168,12 +139,6 @@ class Queries:
     def anti(self, left: str, right: str, on: Names = None, *, left_on: Names = None, right_on: Names = None,
              as_of: AsOf = None) -> pd.DataFrame:
         """The left table's rows, each for as long as no right row holds that is equal in the columns `on`.
-
-        Parameters
-        ----------
-        {tables}
-        {on}
-        {as_of}
 
         Returns
         -------
@@ -190,7 +155,7 @@ class Queries:
         0       1 2024-02-01 2024-03-01  Grace
         """
         options = options_of(left_on=left_on, right_on=right_on)
-        with self.lock:
+        with self.state.lock:
             tables = [self.state.known(name) for name in (left, right)]
             made = listed(self.state, as_of, ["anti", left, right, *on_of(tables, on, options)], tables[1].kind)
             warn_of_pairs(self.state, as_of, tables, on, options)
@@ -198,24 +163,13 @@ class Queries:
 
     def agg(self, name: str, function: Functions, column: Optional[str] = None, by: Names = None,
             as_of: AsOf = None) -> pd.DataFrame:
-        """Aggregates the rows that hold, group by group, for each period in which the value stays the same.
-
-        Parameters
-        ----------
-        {table}
-        function : str or dict
-            count, sum, min, max or mean. Or a dict of columns, each with one of these or a list of them, for several at
-            once: a period is one in which all stay the same.
-        column : name, optional
-            The column of numbers of a sum, min, max or mean. A count has none, nor has a dict.
-        by : name or list of names, optional
-            Columns whose equal values are a group; without any all rows are one.
-        {as_of}
+        """Aggregates the rows that hold, group by group, for each period while the value stays the same.
 
         Returns
         -------
         DataFrame
-            The columns of `by`, the period's, and the values, as in ruzgalt.agg. Rows are sorted by group and start.
+            The columns of `by`, the period's, and the values, named as in ruzgalt.agg. Rows are sorted by group and
+            start.
 
         Examples
         --------
@@ -226,16 +180,11 @@ class Queries:
         2  Grace 2024-03-01 2024-10-01       4800
         """
         asked, options = measures.of_call(function, column), options_of(by=by)
-        with self.lock:
+        with self.state.lock:
             return agg(self.state, as_of, self.state.known(name), asked, options)
 
     def dip(self, name: str, as_of: AsOf = None) -> Division[pd.DataFrame]:
-        """Divides the rows into the fewest parts in which no two rows hold at one time.
-
-        Parameters
-        ----------
-        {table}
-        {as_of}
+        """Divides the rows into the fewest parts, so that no two rows of a part hold at one time.
 
         Returns
         -------
@@ -251,10 +200,9 @@ class Queries:
         >>> division.parts.to_dict("list")
         {'part': [0, 0, 1], 'row_id': [3, 4, 2]}
         """
-        with self.lock:
+        with self.state.lock:
             table = self.state.known(name)
-            suffix = [] if as_of is None else ["asof", str(self.state.commit("as_of", as_of))]
-            output = self.state.answer(script.command("dip", name, *suffix))
+            output = self.state.answer(["dip", name], as_of)
         _, _, count, instant = output.record()[:4]
         lists = [np.array(output.record()[2:], np.int64) for _ in range(int(count))]
         numbers = np.repeat(np.arange(len(lists)), [len(one) for one in lists])
@@ -279,25 +227,20 @@ class Queries:
         1       2       1    load   pay      2       0
         2       3       1  update   pay      2       1
         """
-        with self.lock:
+        with self.state.lock:
             return pd.DataFrame(dict(zip(LOG, self.state.block(["log"], "iittii"))))
 
     def diary(self, *, after: AsOf = None) -> pd.DataFrame:
-        """The labels and days of the commits, as a frame that a table of the store can keep.
+        """The labels and days of the commits in a frame that a table of the store can keep.
 
         A script has no labels and days. `store.table("diary", store.diary())`, after all other changes, keeps them;
-        Store.from_script(.., diary="diary") and `--diary diary` of tools/answers read that table.
-
-        Parameters
-        ----------
-        after : int, str, date, datetime, Timestamp or Period, optional
-            Lists only commits after this one, given as as_of= takes it: `store.load("diary", store.diary(after=..))`
-            adds rows to a table that is there.
+        `store.load("diary", store.diary(after=..))` adds rows later. Store.from_script(.., diary="diary") and
+        `--diary diary` of tools/answers read that table.
 
         Returns
         -------
         DataFrame
-            from and to, the time in which the commit was the newest, in period[D], or period[S] if some have times;
+            from and to, the time when the commit was the newest, in period[D], or period[S] if some have times;
             newest and commit, its number, in int64; label, an empty text if it has none. If a labelled commit has no
             day, newest is 0 and the period is all time. Rows are sorted by commit, those without a day first. If
             several commits of a day have no label, only the last one is listed.
@@ -320,28 +263,19 @@ class Queries:
         >>> again.at("pay", "2024-09-01", as_of="July")["person"].tolist()
         ['Grace', 'Ada']
         """
-        with self.lock:
-            return self.state.diary.frame(self._number("after", after, 0))
+        with self.state.lock:
+            return self.state.diary.frame(0 if after is None else self.state.commit("after", after))
 
     def history(self, name: str, where: Optional[Mapping[str, Any]] = None, *, first: AsOf = None, last: AsOf = None,
                 retroactive: bool = False) -> pd.DataFrame:
         """Lists for each commit the time for which values hold since then, or no longer.
-
-        Parameters
-        ----------
-        {table}
-        {where}
-        first, last : int, str, date, datetime, Timestamp or Period, optional
-            The first and the last commit that are listed, as as_of= takes them.
-        retroactive : bool, default False
-            Lists only changes of the time before the commit's day.
 
         Returns
         -------
         DataFrame
             commit in int64; entered, the first day on which the commit was there, if commits have days; change: "-" for
             values that no longer hold, "+" for values that hold since; the period; the table's columns. Rows are sorted
-            by commit, values and start, as in `tools/answers history`.
+            by commit, values and start, like the rows of `tools/answers history`.
 
         Examples
         --------
@@ -351,21 +285,13 @@ class Queries:
         1       3      - 2024-07-01 2025-01-01    Ada   5000
         2       3      + 2024-07-01 2025-01-01    Ada   5400
         """
-        with self.lock:
-            numbers = self._number("first", first, 0), self._number("last", last, self.state.newest)
-            if numbers[0] > numbers[1]:
-                raise Refused("BadPeriod", f"{numbers[0]} to {numbers[1]}: the first commit is after the last")
+        with self.state.lock:
+            numbers = self._numbers(0 if first is None else first, self.state.newest if last is None else last)
             flag = checks.flag("retroactive", retroactive)
-            return history.history(self.state, name, where, range(numbers[0], numbers[1] + 1), flag)
+            return history(self.state, name, where, range(numbers[0], numbers[1] + 1), flag)
 
     def changed(self, name: str, before: Commit, after: AsOf = None) -> pd.DataFrame:
         """Lists the time for which values hold at only one of two commits.
-
-        Parameters
-        ----------
-        {table}
-        before, after : int, str, date, datetime, Timestamp or Period
-            The commits, as as_of= takes them; without `after` it is the newest.
 
         Returns
         -------
@@ -381,13 +307,21 @@ class Queries:
         0      - 2024-07-01 2025-01-01    Ada   5000
         1      + 2024-07-01 2025-01-01    Ada   5400
         """
-        with self.lock:
-            numbers = self.state.commit("before", before), self._number("after", after, self.state.newest)
-            return history.changed(self.state, name, numbers)
+        with self.state.lock:
+            state, table = self.state, self.state.known(name)
+            numbers = state.commit("before", before), state.newest if after is None else state.commit("after", after)
+            if numbers[0] > numbers[1]:
+                what = f"commit {numbers[0]} is later than {numbers[1]}: `-` is what only the later one has"
+                doubt(f"changed of {name}: {what}")
+            answers = [state.answer_to(f"rows,{name},asof,{commit}") for commit in numbers]
+            return frame_of(table, [], past.between(*answers).records)
 
-    def _number(self, option: str, given: AsOf, otherwise: int) -> int:
-        """Returns the number of a commit, or another number if none is given."""
-        return otherwise if given is None else self.state.commit(option, given)
+    def _numbers(self, first: Commit, last: Commit, may_be_later: bool = False) -> Tuple[int, int]:
+        """Returns the numbers of a first and a last commit. Raises Refused."""
+        numbers = self.state.commit("first", first, may_be_later), self.state.commit("last", last, may_be_later)
+        if numbers[0] > numbers[1]:
+            raise Refused("BadPeriod", f"{numbers[0]} to {numbers[1]}: the first commit is after the last")
+        return numbers
 
 
 def listed(state: State, as_of: AsOf, fields: Sequence[str], *others: Kind) -> Any:
@@ -423,9 +357,9 @@ def matched(state: State, as_of: AsOf, tables: Sequence[Table], fields: Sequence
     cells = state.block(["join", left.name, right.name, *fields], "ppii" + left.readers + right.readers, as_of)
     own = left.period_cells(cells, right.kind, is_open=right.form.is_open)
     own += [(name, next(cells)) for name in IDS]
-    shared = compared(on, options)[1] if on is not None else []
+    shared = shared_in(*compared(on, options))
     sides = [left.cells(cells), [column for column in right.cells(cells) if column[0] not in shared]]
-    return answer.beside(own, sides, options.suffixes)
+    return answer.of_two(own, sides, options.suffixes)
 
 
 def with_unmatched(state: State, as_of: AsOf, tables: Sequence[Table], on: Any, options: Options) -> Any:
@@ -433,12 +367,12 @@ def with_unmatched(state: State, as_of: AsOf, tables: Sequence[Table], on: Any, 
     left, right = tables
     names = compared(on, options)
     sides, frames = zip(*(side_and_frame(state, as_of, table, own) for table, own in zip(tables, names)))
-    start, end, *rows = pairs.matched(sides, replace(options, workers=state.workers))
+    start, end, *rows = pairs.matched(sides, replace(options, workers=state.live.workers))
     taken = [Taken(frame, own, False) for frame, own in zip(frames, rows)]
     period = left.period_cells(iter((start, end)), right.kind, is_open=right.form.is_open)
-    shared = list(dict.fromkeys(names[1] if on is not None else []))
+    shared = shared_in(*names)
     digits = {name: right.column(name).digits for name in shared}
-    return answer.beside([*period, *ids_of(taken)], pairs.columns_beside(taken, shared, digits), options.suffixes)
+    return answer.of_two([*period, *ids_of(taken)], pairs.columns_of_both(taken, shared, digits), options.suffixes)
 
 
 def side_and_frame(state: State, as_of: AsOf, table: Table, names: Sequence[Any]) -> Tuple[Side, Any]:
@@ -479,6 +413,8 @@ def rows_with(state: State, as_of: AsOf, table: Table, names: Sequence[Any]) -> 
     return start, end, [coded(table.columns[name], found[name]) for name in wanted]
 
 
+# Aggregates.
+
 def agg(state: State, as_of: AsOf, table: Table, asked: Measures, options: Options) -> Any:
     """Returns an aggregate, which the library computes of the table's rows. Raises Refused."""
     by = [table.column(name) for name in options.by or ()]
@@ -493,7 +429,9 @@ def agg(state: State, as_of: AsOf, table: Table, asked: Measures, options: Optio
     doubts.of_groups(one for one in side.columns if table.stand_in(one.name) is None)
     codes, firsts = groups.group_codes(side, len(by))
     counted = dict(zip(names, columns[len(by):]))
-    start, end, group, *values = measures.measured(replace(side, columns=[codes]), counted, asked, state.workers)
+    start, end, group, *values = measures.measured(
+        replace(side, columns=[codes]), counted, asked, state.live.workers
+    )
     made = Columns([(one.name, restored_at(table, one, firsts[group])) for one in side.columns])
     made.add(table.period_cells(iter((start, end))))
     made.add(measures.columns_of(values, asked, amounts))
@@ -505,3 +443,49 @@ def restored_at(table: Table, column: Values, rows: Ints) -> Any:
     codes = column.codes[rows]
     cells: Cells = codes if column.kind == "int" else of_objects(column.texts.cells)[codes]
     return table.restored(column, cells)
+
+
+# Changes of a table, which the tools' functions compute.
+
+def history(state: State, name: str, where: Any, numbers: range, is_retroactive: bool) -> Any:
+    """Returns the changes by each of these commits in rows that have the values of where=. Raises Refused."""
+    table, days = state.known(name), state.diary.days()
+    pairs = table.condition(where)[1:]
+    if is_retroactive and not days:
+        raise Refused("NoDay", "retroactive=True needs days of commits: give them by day= of changes")
+    words = [column.name for column in table.schema.columns]
+    wanted = [(words.index(word), value) for word, value in zip(pairs[::2], pairs[1::2])]
+    versions = Versions(state.answer_to(versions_of(name)))
+    found = past.history(versions, wanted, numbers, days, is_retroactive)
+    if found.is_of_none:
+        doubt(f"history of {name}: no row ever had the values of where=")
+    for reason in found.doubts if is_retroactive else ():
+        doubt(f"history of {name}: {reason.replace('--retroactive', 'retroactive=True')}")
+    own: Sequence[Column] = [("commit", np.array([one.commit for one in found.entries], np.int64))]
+    if days:
+        kind = table.options.kind_of(table.period, table.kind)
+        own = [*own, ("entered", days_of([one.day for one in found.entries], kind))]
+    return frame_of(table, own, [one.change for one in found.entries])
+
+
+def frame_of(table: Table, own: Iterable[Column], found: Sequence[Sequence[Optional[str]]]) -> Any:
+    """Returns the frame of changes, after columns of its own."""
+    signs, start, end, *values = list(zip(*found)) or [()] * (len(past.CHANGE) + len(table.columns))
+    columns = Columns([*own, ("change", of_objects(signs))])
+    columns.add(table.period_cells(iter((seconds_of(start), seconds_of(end)))))
+    kinds = [one.kind for one in table.columns.values()]
+    cells = (np.array(one, np.int64) if kind == "int" else of_objects(one) for one, kind in zip(values, kinds))
+    columns.add(table.cells(cells))
+    return columns.of_table()
+
+
+def days_of(days: Sequence[Optional[str]], kind: Kind) -> Any:
+    """Returns the days of commits as points of this kind, or period[S] if that can't hold all. Some may be missing."""
+    known = seconds_of([day for day in days if day is not None])
+    seconds = np.full(len(days), points.NO_END)
+    seconds[[day is not None for day in days]] = known
+    return points.series_of(seconds, kind if points.has_all(kind, known) else Kind("S"), is_open=True)
+
+
+def seconds_of(texts: Sequence[Any]) -> Ints:
+    return points.FIRST + np.fromiter(map(forms.seconds, texts), np.int64, len(texts))

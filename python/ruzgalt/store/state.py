@@ -1,63 +1,74 @@
 """The state of a store: its tables, the commands that made them, and the program that has done these commands."""
 from __future__ import annotations
 
-import copy
+import os
+import weakref
 from contextlib import contextmanager
-from typing import Any, Dict, Iterator, List, Optional, Sequence, Set, Tuple
+from threading import RLock
+from typing import Any, Dict, Iterator, List, NamedTuple, Optional, Sequence, Set, Tuple
 
 import numpy as np
 import pandas as pd
 
+from ruzgalt.convert import checks, points
+from ruzgalt.convert.arrays import Cells, of_objects
+from ruzgalt.convert.errors import REMEDIES, Refused
+from ruzgalt.convert.kinds import DAY
+from ruzgalt.convert.values import Values
 from ruzgalt.errors import Misfit
-from ruzgalt.frames import checks, points, zones
-from ruzgalt.frames.arrays import Cells, of_objects
-from ruzgalt.frames.errors import REMEDIES, Refused
-from ruzgalt.frames.options import WORKERS, AsOf
+from ruzgalt.frames.options import AsOf
 from ruzgalt.frames.progress import of_call
-from ruzgalt.frames.sides import Side
-from ruzgalt.frames.values import Values
-from ruzgalt.script import commands, questions, records
+from ruzgalt.script import commands, records, refusals, run
 from ruzgalt.script.answers import Answer, Reading
-from ruzgalt.script.reader import Source, long_fields
-from ruzgalt.store import labels, script
-from ruzgalt.store.answers import Output, reading, unreadable
-from ruzgalt.store.changes import Change
-from ruzgalt.store.labels import Diary
-from ruzgalt.store.live import Live
-from ruzgalt.store.script import LIMIT, Command, Script
-from ruzgalt.store.tables import Table, coded
+from ruzgalt.script.records import Source
+from ruzgalt.store import labels, tables
+from ruzgalt.store.changes import Change, Done
+from ruzgalt.store.labels import Diary, Note
+from ruzgalt.store.live import Live, Output, reading, unreadable
+from ruzgalt.store.tables import Command, Script, Table
 
-LOG = script.command("log")
+LOG = tables.command("log")
+# The most bytes of a command with its block.
+LIMIT = 67_108_864
+# All states, for forks.
+STATES: "weakref.WeakSet[State]" = weakref.WeakSet()
+
+
+class Batch(NamedTuple):
+    """The label and the day of an open batch, and its changes."""
+
+    note: Note
+    done: List[Done]
 
 
 class State:
-    """Tables, and the commands that made them. Each command is a commit. The store's lock is held while it is used.
+    """Tables, and the commands that made them. Each command is a commit. The lock is held while the state is used.
 
-    counts      for the first commits how many versions each added, and how many it closed
-    loads       the bytes of all loads
-    diary       the labels and days of the commits
-    live        a program that has done all commands, from the first question on
-    progress    whether progress is shown
-    begun       for each `whole` that hasn't ended, the outer one first, what its end may have to restore
+    counts   for the first commits how many versions each added, and how many it closed
+    loads    the bytes of all loads
+    diary    the labels and days of the commits
+    live     a program that has done all commands, from the first question on
+    batch    the batch that is open
+    is_lost  whether the process was forked within a batch, which is undone here and hasn't ended
+    saved    what the end of the outermost `whole` may have to restore
     """
 
     def __init__(self, workers: int, progress: Optional[bool]) -> None:
-        self.live, self.progress = Live(workers), progress
+        self.lock, self.live, self.progress = RLock(), Live(workers), progress
         self.tables: Dict[str, Table] = {}
         self.commands: List[Command] = []
         self.counts: List[Tuple[int, int]] = []
         self.loads: Set[bytes] = set()
         self.diary = Diary()
-        self.begun: List[Tuple[Dict[str, Table], Tuple[int, int], int]] = []
+        self.batch: Optional[Batch] = None
+        self.is_lost = False
+        self.saved: Optional[Tuple[Dict[str, Table], Tuple[int, int], int]] = None
+        STATES.add(self)
 
-    def __getstate__(self) -> Dict[str, Any]:
-        """Returns the state of a copy, which has a program of its own."""
-        own = {name: copy.copy(getattr(self, name)) for name in ("tables", "commands", "counts", "loads")}
-        return {**self.__dict__, **own, "diary": copy.deepcopy(self.diary), "live": Live(self.workers), "begun": []}
-
-    @property
-    def workers(self) -> int:
-        return self.live.workers
+    def __reduce__(self) -> Tuple[Any, ...]:
+        """Returns what makes a copy, which has a program of its own."""
+        own = dict(self.tables), list(self.commands), list(self.counts), set(self.loads), self.diary.copied()
+        return copied, (self.live.workers, self.progress, *own)
 
     @property
     def newest(self) -> int:
@@ -89,50 +100,53 @@ class State:
 
     # Questions.
 
-    def bytes_of(self, *commands: Command) -> bytearray:
+    def ask(self, *asked: Command) -> List[bytes]:
         """Returns the answers to commands. Raises Stopped."""
         with of_call("Store", self.progress):
-            return self.live.answers(self.commands, b"".join(one.data for one in commands), lambda: len(commands))
+            return self.live.answers(self.commands, b"".join(one.data for one in asked), lambda: len(asked))
 
-    def answer(self, question: Command) -> Output:
-        """Returns the answer to a question. Raises Refused if the program refuses it, Stopped."""
-        output = Output(self.bytes_of(question))
-        record = output.record()
-        if record[0] == "error":
-            raise refusal(question, record)
-        output.place = 0
-        return output
+    def answer(self, fields: Sequence[str], as_of: AsOf = None) -> Output:
+        """Returns the answer to a question as of a commit. Raises Refused if the program refuses it, Stopped."""
+        suffix = [] if as_of is None else ["asof", str(self.commit("as_of", as_of))]
+        question = tables.command(*fields, *suffix)
+        [found] = self.ask(question)
+        if found.startswith(b"error,"):
+            raise refusal(question, found)
+        return Output(found)
 
     def block(self, fields: Sequence[str], kinds: str, as_of: AsOf = None) -> Iterator[Cells]:
-        """Yields the columns of the answer to a question, as of a commit. Raises Refused, Stopped."""
-        suffix = [] if as_of is None else ["asof", str(self.commit("as_of", as_of))]
-        return iter(self.answer(script.command(*fields, *suffix)).block(kinds))
+        """Yields the columns of the answer to a question as of a commit. Raises Refused, Stopped."""
+        return iter(self.answer(fields, as_of).block(kinds))
 
     def answer_to(self, question: Any) -> Answer:
         """Returns the answer to a question in the words of the language. Raises Refused, Stopped."""
         if not isinstance(question, str):
             raise checks.wrong("question", question, "must be a question of the language, such as 'rows,pay'")
-        with refusing(), long_fields():
-            begun = list(commands.commands(Source(questions.line_of(questions.named(question)[1]))))
+        with refusing():
+            begun = list(commands.commands(Source(run.line_of(run.named(question)[1]))))
         if len(begun) != 1 or not begun[0].form.is_query or not begun[0].is_ended:
             raise checks.wrong("question", question, "must be one question, not a change")
         fields = [one.fields for one in (begun[0].record, *begun[0].block)]
-        command = Command(fields[0], b"".join(map(script.record, fields)))
-        output = bytes(self.bytes_of(command))
+        command = Command(fields[0], records.encode(records.to_text(fields)))
+        [output] = self.ask(command)
         if output.startswith(b"error,"):
-            raise refusal(command, output.decode().strip().split(","))
+            # The program counts records from its start on.
+            output = b"error,1," + output.split(b",", 2)[2]
         found = Reading(Source(output))
         found.tables, found.commits = {name: table.schema for name, table in self.tables.items()}, self.newest
-        with from_program(), long_fields():
-            return next(found.answers(begun))
+        with from_program():
+            answer = next(found.answers(begun))
+        if answer.refusal is not None:
+            raise Refused(answer.refusal.name, f"question={checks.shown(question)}: {refusals.reason(answer)}")
+        return answer
 
     def counted(self, first: int, last: int) -> List[Tuple[int, int]]:
         """Returns how many versions each commit after `first` up to `last` added, and how many it closed."""
         if len(self.counts) < last:
-            self.count(self.bytes_of(LOG))
+            self.count(self.ask(LOG)[0])
         return self.counts[first:last]
 
-    def count(self, log: bytearray) -> None:
+    def count(self, log: bytes) -> None:
         """Reads the counts that are missing from the answer to `log`."""
         missing = self.newest - len(self.counts)
         lines = log.rsplit(b"\n", missing + 2)[-missing - 2:-2]
@@ -144,15 +158,16 @@ class State:
     @contextmanager
     def whole(self) -> Iterator[None]:
         """Within, all changes are kept, or none if an exception is raised."""
-        self.begun.append((dict(self.tables), self.diary.size, self.newest))
+        before, is_outermost = (dict(self.tables), self.diary.size, self.newest), self.saved is None
+        self.saved = self.saved or before
         try:
             yield
         except BaseException as error:
             # The program may have done a change that an interrupt kept from being recorded here.
-            self.undo(*self.begun[-1], is_program_ended=not isinstance(error, Exception))
+            self.undo(*before, is_program_ended=not isinstance(error, Exception))
             raise
         finally:
-            self.begun.pop()
+            self.saved = None if is_outermost else self.saved
 
     def undo(self, tables: Dict[str, Table], size: Tuple[int, int], count: int, is_program_ended: bool = False) -> None:
         """Restores the tables, the diary of this size, and the first `count` commands."""
@@ -163,48 +178,79 @@ class State:
             self.loads = {one.data for one in self.commands if one.word == "load"}
             self.live.end()
 
-    def undo_all(self) -> None:
-        """Undoes all changes since the first `whole` that hasn't ended."""
-        if self.begun:
-            self.undo(*self.begun[0])
-            self.begun.clear()
+    def begun_in_child(self) -> None:
+        """Undoes unfinished changes in a forked process, which has a program of its own, and only one thread."""
+        self.live.end()
+        if self.saved is not None:
+            self.undo(*self.saved)
+        if self.lock.acquire(blocking=False):
+            self.is_lost = self.is_lost or self.batch is not None
+            self.lock.release()
+        else:
+            self.lock, self.saved = RLock(), None
+        self.batch = None
+
+    def refuse_lost(self) -> None:
+        """Raises Refused in a process that was forked within a batch, until the batch ends."""
+        if self.is_lost:
+            reason = "this process was forked within a batch, so its store has no change of the batch"
+            raise Refused("BadCommand", f"{reason}: begin a batch after a fork, or fork after its end")
 
     def do(self, change: Change, is_counted: bool) -> None:
         """Does a change, and asks for its counts too. Raises Refused for its first command that is refused, Stopped."""
-        first, table = self.newest, change.made or self.known(change.name)
-        for command in change.commands:
-            self.send(command, table, change, is_counted and command is change.commands[-1])
+        first, table, asked = self.newest, change.made or self.known(change.name), change.commands
+        for one in asked:
+            if len(one.data) > LIMIT:
+                raise Refused("Full", f"{one.word} has more than {LIMIT:,} bytes: give fewer rows or shorter texts")
+        # The first one by itself: if it is refused, no other one is done.
+        for some in filter(None, (asked[:1], asked[1:])):
+            self.send(some, table, change, is_counted and some[-1] is asked[-1])
         if change.side is not None and len(change.side):
             table = table.with_rows(change.side)
-            self.loads.add(change.commands[-1].data)
+            self.loads.add(asked[-1].data)
         wider = table.widened(change.portion)
         if wider is not table and any(closed for _, closed in self.counted(first, self.newest)):
             table = wider
         self.tables[change.name] = table
 
-    def send(self, command: Command, table: Table, change: Change, is_counted: bool) -> None:
-        if len(command.data) > LIMIT:
-            raise Refused("Full", f"{command.word} has more than {LIMIT:,} bytes: give fewer rows or shorter texts")
-        found, _, log = self.bytes_of(command, *[LOG] * is_counted).partition(b"\n")
-        if not found.startswith(b"ok,"):
-            record = found.decode(errors="replace").split(",")
-            raise self.overlap(command, table, change) if "KeyOverlap" in record else refusal(command, record)
-        self.commands.append(command)
+    def send(self, some: Sequence[Command], table: Table, change: Change, is_counted: bool) -> None:
+        found = self.ask(*some, *[LOG] * is_counted)
+        for number, (one, answer) in enumerate(zip(some, found), 1):
+            if not answer.startswith(b"ok,"):
+                if number < len(some):
+                    # The program has done later ones.
+                    self.live.end()
+                row_labels = None if change.side is None else change.side.labels
+                raise overlap(self, table, one, row_labels) if b"KeyOverlap" in answer else refusal(one, answer)
+            self.commands.append(one)
         if is_counted:
-            self.count(log)
-
-    def overlap(self, command: Command, table: Table, change: Change) -> Exception:
-        """Returns why a key refused a command, by the rows that were there before it."""
-        there = self.answer(script.command("rows", table.name)).block("ipp" + table.readers)
-        row_labels = None if change.side is None else change.side.labels
-        return overlap_in(table, command, row_labels, there) or refusal(command, ["error", "", "KeyOverlap"])
+            self.count(found[-1])
 
 
-def refusal(command: Command, record: Sequence[str]) -> Exception:
+def copied(workers: int, progress: Optional[bool], *own: Any) -> State:
+    """Returns a state of these tables, commands, counts, loads and diary."""
+    made = State(workers, progress)
+    made.tables, made.commands, made.counts, made.loads, made.diary = own
+    return made
+
+
+def begin_in_child() -> None:
+    for one in list(STATES):
+        one.begun_in_child()
+
+
+os.register_at_fork(after_in_child=begin_in_child)
+
+
+# Refusals.
+
+def refusal(command: Command, answer: bytes) -> Exception:
     """Returns the exception for an answer that is an error, or that the command can't have."""
+    record = answer.decode(errors="replace").rstrip("\n").split(",")
     if record[0] != "error" or len(record) < 3:
         return unreadable(f"the program answered {records.visible(records.to_record(record))} to {command.word}")
-    return Refused(record[2], REMEDIES.get(record[2], f"see {command.word} in docs/LANGUAGE.md"), label=command.label)
+    reason = REMEDIES.get(record[2], f"see {command.word} in docs/LANGUAGE.md")
+    return Refused(record[2], f"{' '.join(command.fields[:2])}: {reason}", label=command.label)
 
 
 @contextmanager
@@ -222,45 +268,43 @@ def refusing() -> Iterator[None]:
     try:
         yield
     except Misfit as misfit:
-        raise Refused("BadCommand", without_dashes(misfit).replace("by where", "by where=")) from None
+        raise Refused("BadCommand", f" {misfit}".replace(" --", " ")[1:].replace("by where", "by where=")) from None
 
 
-def without_dashes(message: object) -> str:
-    """Returns a message of the tools with their options as words."""
-    return f" {message}".replace(" --", " ")[1:]
+def overlap(state: State, table: Table, command: Command, row_labels: Any) -> Exception:
+    """Returns why a key refused a command, naming two rows. The program names none.
 
-
-# Why a key refuses a change. The program names no rows. So another program does the change in a table of the same rows
-# without a key, and joins that table with itself on the key.
-
-def overlap_in(table: Table, command: Command, row_labels: Any, there: Sequence[Cells]) -> Optional[Refused]:
-    """Returns the refusal of a load of rows with these labels, or of an update, naming two rows of one key.
-
-    there: the columns of the rows before the change: id, start, end, values.
+    So another program does the table's changes and this one without the key, and joins the table with itself on it.
     """
-    ids, start, end, *cells = there
-    columns = [coded(column, own) for column, own in zip(table.columns.values(), cells)]
-    side, words = Side(start, end, columns, places=np.arange(len(ids))), list(table.words.values())
-    made = [script.make(table.name, words, columns), *([script.load(table.name, side)] if len(ids) else []), command]
-    key = [word for name in table.key for word in [table.word(name)] * 2]
-    asked = [script.command("join", table.name, table.name, "on", *key), script.command("rows", table.name)]
-    data = b"".join(one.data for one in (*made, *asked))
-    output = Output(Live(WORKERS).answers([], data, lambda: len(made) + len(asked)))
-    if any(output.record()[0] != "ok" for _ in made):
-        return None
-    begins, _, left, right = output.block("ppii")
-    found = np.flatnonzero(left < right)
-    if not len(found):
-        return None
-    rows = output.block("ipp" + table.readers)
-    both = [np.flatnonzero(rows[0] == one[found[0]]) for one in (left, right)]
+    trial = State(state.live.workers, None)
+    own = [one for one in state.commands if one.fields[1] == table.name]
+    first = list(own[0].fields)
+    trial.commands = [tables.command(*first[:first.index("key")]), *own[1:]]
+    on = [word for name in table.key for word in [table.word(name)] * 2]
+    rows = tables.command("rows", table.name)
+    before, done, found, after = trial.ask(rows, command, tables.command("join", *[table.name] * 2, "on", *on), rows)
+    begins, _, left, right = Output(found).block("ppii") if done.startswith(b"ok,") else [np.empty(0, np.int64)] * 4
+    pairs = np.flatnonzero(left < right)
+    if not len(pairs):
+        return refusal(command, b"error,,KeyOverlap")
+    there, cells = set(Output(before).block("i")[0].tolist()), Output(after).block("ipp" + table.readers)
+    both = [np.flatnonzero(cells[0] == one[pairs[0]])[0] for one in (left, right)]
     # A row with a greater id than all rows before was loaded, or updated.
-    other, at_fault = sorted([[column[row][0] for column in rows] for row in both], key=lambda row: int(row[0]))
-    names = [row_named(table, row_labels, ids, row) for row in (at_fault, other)]
-    pairs = zip(table.columns.items(), at_fault[3:])
-    shown = ", ".join(f"{name} {cell_shown(column, value)}" for (name, column), value in pairs if name in table.key)
-    reason = f"{shown}: {' and '.join(names)} both hold at {points.text_of(int(begins[found[0]]))}"
-    label = command.label if row_labels is None else row_labels[int(at_fault[0]) - 1 - len(ids)]
+    other, at_fault = ([column[place] for column in cells] for place in both)
+    begin_of_load = int(cells[0].max()) - (0 if row_labels is None else len(row_labels))
+
+    def named(row: Sequence[Any]) -> str:
+        number, start, end = (int(one) for one in row[:3])
+        last = end - DAY if table.form.has_last_days and end != points.NO_END else end
+        name = f"the store's row of id {number}" if number in there else "the updated row"
+        if number not in there and row_labels is not None:
+            name = f"row {row_labels[number - begin_of_load - 1]!r}"
+        return f"{name} from {points.text_of(start)} to {points.text_of(last)}"
+
+    values = zip(table.columns.items(), at_fault[3:])
+    shown = ", ".join(f"{name} {cell_shown(column, value)}" for (name, column), value in values if name in table.key)
+    reason = f"{shown}: {named(at_fault)} and {named(other)} both hold at {points.text_of(int(begins[pairs[0]]))}"
+    label = command.label if row_labels is None else row_labels[int(at_fault[0]) - begin_of_load - 1]
     return Refused("KeyOverlap", f"{reason}: end one before the other starts, or update() it", label=label)
 
 
@@ -270,15 +314,3 @@ def cell_shown(column: Values, value: Any) -> str:
     cell = column.restored(cells)[0]
     text = repr(cell) if isinstance(cell, str) else str(cell)
     return text if len(text) < 100 else text[:98] + ".."
-
-
-def row_named(table: Table, row_labels: Any, ids: Cells, row: Sequence[Any]) -> str:
-    """Returns a row's name with its period, whose end is as in its frame."""
-    number, start, end = (int(one) for one in row[:3])
-    last = end - zones.DAY if table.form.has_last_days and end != points.NO_END else end
-    name = "the updated row"
-    if number <= len(ids):
-        name = f"the store's row of id {ids[number - 1]}"
-    elif row_labels is not None:
-        name = f"row {row_labels[number - 1 - len(ids)]!r}"
-    return f"{name} from {points.text_of(start)} to {points.text_of(last)}"

@@ -7,48 +7,82 @@ from __future__ import annotations
 
 import copy
 import os
-import weakref
+import tempfile
 from contextlib import contextmanager
+from dataclasses import dataclass
 from functools import partial
-from threading import RLock
-from typing import Any, ContextManager, Dict, Iterator, List, Mapping, Optional, Sequence, Tuple, Union
+from pathlib import Path
+from typing import Any, ContextManager, Dict, Iterable, Iterator, List, Mapping, Optional, Sequence, Tuple, Union
 
 import pandas as pd
 
-from ruzgalt.frames import checks
-from ruzgalt.frames.errors import Refused, doubt
+from ruzgalt import files
+from ruzgalt.cli import answers as answers_tool
+from ruzgalt.cli import given as given_tool
+from ruzgalt.convert import checks, instants
+from ruzgalt.convert.errors import Refused, doubt
 from ruzgalt.frames.options import (
     NO_DECIMALS, NO_STAND_INS, PERIOD, WORKERS, Names, PeriodNames, options_of, workers_of,
 )
 from ruzgalt.frames.progress import OfCall
+from ruzgalt.report import contents, document, figures, svg
 from ruzgalt.script import naming
-from ruzgalt.store import changes, opening, script as scripts
+from ruzgalt.script.run import Versions, versions_of
+from ruzgalt.store import changes, opening, tables
 from ruzgalt.store.changes import Change, Changed, Done
-from ruzgalt.store.docstrings import described
-from ruzgalt.store.export import Export
-from ruzgalt.store.labels import NO_NOTE, Note, note_of
+from ruzgalt.store.labels import Note, note_of
 from ruzgalt.store.opening import Given
+from ruzgalt.store.parameters import described
 from ruzgalt.store.queries import Queries
-from ruzgalt.store.state import State
-from ruzgalt.store.tables import Table
+from ruzgalt.store.state import Batch, State, from_program, refusing
+from ruzgalt.store.tables import Script, Table
 
+AnyPath = Union[str, "os.PathLike[str]"]
+Where = Optional[Mapping[str, Any]]
 # A store of at most this number of commits counts each change at once. The answer to `log` lists all commits.
 COUNTED = 1_000
-# All stores, for forks.
-STORES: "weakref.WeakSet[Store]" = weakref.WeakSet()
+# A raise by fewer per cent may be meant as a fraction.
+LEAST_RAISE = 0.1
+
+
+@dataclass(frozen=True, repr=False)
+class Picture:
+    """A picture of an answer of a store, which a notebook shows by itself.
+
+    Attributes
+    ----------
+    svg : str
+        The picture, for a browser.
+
+    Examples
+    --------
+    >>> day = pd.to_datetime
+    >>> stay = pd.DataFrame({"from": day(["2024-01-01"]), "to": day(["2024-01-05"]), "desk": [7]})
+    >>> store = ruzgalt.Store()
+    >>> store.table("stay", stay)
+    commit 2: 1 added, 0 closed
+    >>> picture = store.picture("rows,stay")
+    >>> picture.svg.startswith("<svg")
+    True
+    """
+
+    svg: str
+
+    def __repr__(self) -> str:
+        return f"<Picture of {len(self.svg):,} characters of SVG>"
+
+    def _repr_svg_(self) -> str:
+        return self.svg
 
 
 @described
-class Store(Queries, Export):
+class Store(Queries):
     """Tables with a past, in memory: each change is a commit, and each question may be asked as of any of them.
 
     A commit is named by its number, by the label of its change, or by a day on which it was the newest. Threads may
     share a store: changes, questions and batches wait for each other.
-    `copy.copy` makes another store of the same commits; so does pickle.
-
-    Parameters
-    ----------
-    {store}
+    `copy.copy` makes another store of the same commits; so does pickle. A forked process has a store of its own, as it
+    was before an open batch.
 
     Raises
     ------
@@ -83,31 +117,13 @@ class Store(Queries, Export):
     def __init__(self, *script: Any, workers: int = WORKERS, progress: Optional[bool] = None) -> None:
         if script:
             raise checks.wrong("script", script[0], "a store begins empty; Store.from_script(..) opens a script")
-        self._begin(State(workers_of("workers", workers), options_of(progress=progress).progress))
-
-    def _begin(self, state: State) -> None:
-        # The label and day of a batch, and its changes; outside of a batch no list.
-        self.state, self.lock, self.note = state, RLock(), NO_NOTE
-        self.done: Optional[List[Done]] = None
-        STORES.add(self)
+        self.state = State(workers_of("workers", workers), options_of(progress=progress).progress)
 
     @classmethod
     def from_script(cls, script: Given, *, workers: int = WORKERS, progress: Optional[bool] = None,
                     options: Optional[Mapping[str, Mapping[str, Any]]] = None,
                     diary: Optional[str] = None) -> Store:
         """Opens a script: the store has its accepted changes, without its questions and refused changes.
-
-        Parameters
-        ----------
-        script : bytes or path
-            A script, such as ./dipq reads and Store.script() returns; or its file.
-        {store}
-        options : dict, optional
-            For each table's name a dict of options of `table`: period, open_end, last_day, decimals, missing. With
-            decimals, numbers become Decimals. `names` is Script.names, for a script from a file.
-        diary : str, optional
-            The table with the commits' labels and days, made by `diary()`, or as the tools read it: its first column
-            has the newest commit from a row's start on.
 
         Returns
         -------
@@ -130,19 +146,16 @@ class Store(Queries, Export):
         return store
 
     def __repr__(self) -> str:
-        with self.lock:
+        with self.state.lock:
             return f"<Store of {self.state.newest} commits, tables: {', '.join(self.state.tables) or 'none'}>"
+
+    def __getstate__(self) -> Dict[str, Any]:
+        with self.state.lock:
+            return {"state": copy.copy(self._settled())}
 
     def __deepcopy__(self, _: Any) -> Store:
         """Does what copy.copy does: commands and tables are never changed, so both stores may share them."""
         return copy.copy(self)
-
-    def __getstate__(self) -> Dict[str, Any]:
-        with self.lock:
-            return {"state": copy.copy(self._settled())}
-
-    def __setstate__(self, state: Mapping[str, Any]) -> None:
-        self._begin(state["state"])
 
     @property
     def tables(self) -> Dict[str, Table]:
@@ -158,12 +171,12 @@ class Store(Queries, Export):
         >>> {name: list(table.columns) for name, table in store.tables.items()}
         {'pay': ['person', 'cents']}
         """
-        with self.lock:
+        with self.state.lock:
             return dict(self.state.tables)
 
     def _settled(self) -> State:
         """Returns the state to copy or to write. Raises Refused in a batch, whose changes may still be undone."""
-        if self.done is not None:
+        if self.state.batch is not None:
             reason = "the batch hasn't ended, and its changes may still be undone"
             raise Refused("BadCommand", f"{reason}: copy, save and make pages after its end")
         return self.state
@@ -174,104 +187,50 @@ class Store(Queries, Export):
               day: Any = None) -> Optional[Changed]:
         """Makes a table of a frame's columns, except the period's two, and loads its rows.
 
-        Parameters
-        ----------
-        name : str
-            1 to 32 of a to z, 0 to 9 and _, the first a letter.
-        frame : DataFrame
-            A frame of pandas with the period's columns and the table's, which have any names.
-        period : pair of names, or name, default ("from", "to")
-            The columns of a row's start and of its end, the first point after it; or one of intervals.
-        key : name or list of names, default none
-            Rows that are equal in all of these columns never hold at one point.
-        open_end : bool, default False
-            In each frame of this table, a missing end stands for 9999-12-31, and comes back as missing.
-        last_day : bool, default False
-            In each frame of this table, and in each change, an end is the last day. No point has a time then.
-        decimals : dict, optional
-            The number of decimals of a column of floats or Decimals, such as `{"hours": 2}`.
-        missing : dict, optional
-            A value that no cell has, which the store keeps for a missing cell, such as `{"note": "?"}`. It comes back
-            as missing; such a column isn't compared, added up or raised.
-        {note}
-
-        {changed}
-
         Examples
         --------
         >>> store.table("centre", pay[["from", "to", "person"]].assign(centre="lab"), key=["person"])
         commit 5: 2 added, 0 closed
         """
-        given = {"open_end": open_end, "last_day": last_day, "decimals": decimals, "missing": missing}
-        of_table = options_of(period=period, **given)
-        note = note_of(label, day)
-        return self._change(changes.making(name, checks.frame("frame", frame), key, of_table), note)
+        options = options_of(period=period, open_end=open_end, last_day=last_day, decimals=decimals, missing=missing)
+        return self._change(changes.making(name, frame, key, options), note_of(label, day))
 
     def load(self, name: str, frame: pd.DataFrame, *, label: Optional[str] = None,
              day: Any = None) -> Optional[Changed]:
         """Adds the rows of a frame that has the table's columns and no others, in any order.
-
-        Parameters
-        ----------
-        {table}
-        {frame}
-        {note}
-
-        {changed}
 
         Examples
         --------
         >>> store.load("pay", pay.assign(person=["Mary", "Emmy"]))
         commit 4: 2 added, 0 closed
         """
-        with self.lock:
+        with self.state.lock:
             return self._change(changes.loading(self.state.known(name), frame), note_of(label, day))
 
-    def update(self, name: str, start: Any, end: Any, set: Mapping[str, Any],
-               where: Optional[Mapping[str, Any]] = None, *, label: Optional[str] = None,
-               day: Any = None) -> Optional[Changed]:
+    def update(self, name: str, start: Any, end: Any, set: Mapping[str, Any], where: Where = None, *,
+               label: Optional[str] = None, day: Any = None) -> Optional[Changed]:
         """Sets values from `start` on and before `end`, in all rows or in the rows with the values of `where`.
-
-        Parameters
-        ----------
-        {table}
-        {portion}
-        set : dict
-            Columns with their new values.
-        {where}
-        {note}
-
-        {changed}
 
         Examples
         --------
         >>> store.update("pay", "2024-09-01", None, set={"cents": 4900}, where={"person": "Grace"})
         commit 4: 2 added, 1 closed
         """
-        with self.lock:
+        with self.state.lock:
             table = self.state.known(name)
             fields = ["set", *table.pairs("set", set), *table.condition(where)]
             return self._change(changes.changing("update", table, start, end, fields), note_of(label, day))
 
-    def delete(self, name: str, start: Any, end: Any, where: Optional[Mapping[str, Any]] = None, *,
-               label: Optional[str] = None, day: Any = None) -> Optional[Changed]:
+    def delete(self, name: str, start: Any, end: Any, where: Where = None, *, label: Optional[str] = None,
+               day: Any = None) -> Optional[Changed]:
         """Removes the time from `start` on and before `end` from all rows or from the rows with the values of `where`.
-
-        Parameters
-        ----------
-        {table}
-        {portion}
-        {where}
-        {note}
-
-        {changed}
 
         Examples
         --------
         >>> store.delete("pay", "2024-06-01", None, where={"person": "Grace"})
         commit 4: 1 added, 1 closed
         """
-        with self.lock:
+        with self.state.lock:
             table = self.state.known(name)
             made = changes.changing("delete", table, start, end, table.condition(where))
             return self._change(made, note_of(label, day))
@@ -280,49 +239,19 @@ class Store(Queries, Export):
                     day: Any = None) -> Optional[Changed]:
         """Does an update for each row of a frame, in their order. Each is a commit; all are done, or none.
 
-        Parameters
-        ----------
-        {table}
-        frame : DataFrame
-            A frame of pandas: portions of time, values that find rows, and new values. Columns may be left out.
-        where : name or list of names, optional
-            The columns that find rows, if not the table's key.
-        {note}
-
-        {changed}
-
         Examples
         --------
         >>> raises = pay.assign(cents=[5100, 4900])
         >>> store.update_rows("pay", raises)
         commit 5: 3 added, 3 closed
         """
-        with self.lock:
+        with self.state.lock:
             return self._change(changes.updating(self.state.known(name), frame, where), note_of(label, day))
 
-    def raise_by(self, name: str, column: Any, percent: Any, start: Any, end: Any = None, *,
-                 where: Optional[Mapping[str, Any]] = None, round: Optional[str] = None,
-                 dry_run: bool = False, again: bool = False, label: Optional[str] = None,
-                 day: Any = None) -> Union[Changed, pd.DataFrame, None]:
+    def raise_by(self, name: str, column: Any, percent: Any, start: Any, end: Any = None, *, where: Where = None,
+                 round: Optional[str] = None, dry_run: bool = False, again: bool = False,
+                 label: Optional[str] = None, day: Any = None) -> Union[Changed, pd.DataFrame, None]:
         """Raises amounts by a percentage, exactly: an update for each amount that rows have.
-
-        Parameters
-        ----------
-        {table}
-        column : name
-            The column of amounts.
-        percent : str, int, float or Decimal
-            A raise such as 2.5, or a cut such as -3.
-        {portion}
-        {where}
-        round : str, optional
-            How a new amount is rounded to a number of the column: half-up, half-down, half-even, up, down, ceiling or
-            floor, as in Python's decimal.
-        dry_run : bool, default False
-            Changes nothing, and returns a frame of the updates.
-        again : bool, default False
-            Raises amounts once more that were already raised from the same start on.
-        {note}
 
         Returns
         -------
@@ -347,14 +276,16 @@ class Store(Queries, Export):
         """
         is_dry, is_again = checks.flag("dry_run", dry_run), checks.flag("again", again)
         note = note_of(label, day)
-        with self.lock:
+        with self.state.lock:
             self.state.diary.refuse(note)
             table = self.state.known(name)
             made = changes.raise_of(self.state, table, column, (percent, start, end, where, round), is_again)
+            if abs(float(percent)) < LEAST_RAISE:
+                doubt(f"percent={percent!r} is less than a tenth of 1 per cent: 2.5 raises 1000 to 1025")
             if is_dry:
                 names = naming.apart(["rows", "exact", "raised", column])
                 return pd.DataFrame(list(made.table().values()), columns=[names[0], names[3], *names[1:3]])
-            commands = [scripts.command(*fields) for fields in made.updates()]
+            commands = [tables.command(*fields) for fields in made.updates()]
             if not commands:
                 note.refuse_without_commit()
                 doubt(f"raise of {name}: {'; '.join(made.notes())}")
@@ -367,13 +298,6 @@ class Store(Queries, Export):
         Each change within is a commit, and may have a label and a day of its own. It is done at once, and
         raises Refused if it is refused; a question within is answered with the changes before it. Other threads wait
         for the batch's end. To undo changes takes as long as to open the store's script.
-
-        Parameters
-        ----------
-        label : str, optional
-            A name of the batch's last commit.
-        day : str, date, datetime, Timestamp or Period, optional
-            The day of changes that have none of their own.
 
         Returns
         -------
@@ -394,44 +318,50 @@ class Store(Queries, Export):
     def _held(self, note: Note) -> Iterator[List[Changed]]:
         """Holds the lock for a batch."""
         changed: List[Changed] = []
-        with self.lock:
-            if self.done is not None:
+        state = self.state
+        with state.lock:
+            state.refuse_lost()
+            if state.batch is not None:
                 raise Refused("BadCommand", "a batch can't begin within a batch: end the outer one first")
-            self.state.diary.refuse(note)
+            state.diary.refuse(note)
             try:
-                with self.state.whole():
-                    self.note, self.done = note, []
+                with state.whole():
+                    state.batch = batch = Batch(note, [])
                     yield changed
-                    if any(one.change.commands for one in self.done):
-                        self.state.diary.add(self.state.newest, Note(note.label))
+                    state.refuse_lost()
+                    if any(one.change.commands for one in batch.done):
+                        state.diary.add(state.newest, Note(note.label))
                     else:
                         note.refuse_without_commit()
-                    changed += self._reported(self.done)
+                    changed += self._reported(batch.done, True)
             finally:
-                self.note, self.done = NO_NOTE, None
+                state.batch, state.is_lost = None, False
 
     def _change(self, change: Change, note: Note) -> Optional[Changed]:
         """Does a change, with its label and day. If it is refused, nothing is changed."""
-        with self.lock:
-            state, note = self.state, note.within(self.note)
+        with self.state.lock:
+            state, batch = self.state, self.state.batch
+            state.refuse_lost()
+            if batch is not None and note.second is None:
+                note = Note(note.label, batch.note.second)
             state.diary.refuse(note)
             if not change.commands:
                 note.refuse_without_commit()
             is_repeated = bool(change.commands) and change.commands[-1].data in state.loads
             with state.whole():
                 before = state.newest
-                state.do(change, self.done is None and before < COUNTED)
+                is_counted = batch is None and before < COUNTED
+                state.do(change, is_counted)
                 if change.commands:
                     state.diary.add(state.newest, note)
                 done = Done(change, before, state.newest, is_repeated)
-                if self.done is None:
-                    return self._reported([done])[0]
-            self.done.append(done)
+                if batch is None:
+                    return self._reported([done], is_counted)[0]
+            batch.done.append(done)
             return None
 
-    def _reported(self, changes_done: Sequence[Done]) -> List[Changed]:
+    def _reported(self, changes_done: Sequence[Done], is_counted: bool) -> List[Changed]:
         """Returns what changes did, and warns of possible mistakes in them."""
-        is_counted = self.state.newest <= COUNTED or self.done is not None
         found = []
         for done in changes_done:
             counts = self.state.counted(done.before, done.last) if is_counted else None
@@ -446,25 +376,123 @@ class Store(Queries, Export):
 
     def _counts(self, before: int, last: int) -> Tuple[int, int]:
         """Returns how many versions some commits added, and how many they closed."""
-        with self.lock:
+        with self.state.lock:
             return sums(self.state.counted(before, last))
+
+    # Files and pictures.
+
+    def script(self) -> Script:
+        """All changes that were accepted, as ./dipq and tools/answers read them.
+
+        Returns
+        -------
+        Script
+            Bytes: a script of the language, CSV in UTF-8. Its `names` say what its columns are called in frames.
+
+        Examples
+        --------
+        >>> print(store.script().decode().strip())
+        table,pay,person,text,cents,int,key,person
+        load,pay
+        row,2024-01-01,2025-01-01,Ada,5000
+        row,2024-03-01,2024-10-01,Grace,4800
+        end
+        update,pay,2024-07-01,2025-01-01,set,cents,5400,where,person,Ada
+        """
+        with self.state.lock:
+            return self._settled().script
+
+    def save(self, path: AnyPath) -> None:
+        """Writes the script to a file, which it replaces. Store.from_script(path) opens a store of it.
+
+        Returns
+        -------
+        None
+            An error of the system comes as Python's OSError; the file is complete then, or as it was. It keeps its
+            mode. A symbolic link is followed. A device, a pipe or a file with a second hard link is written into. The
+            file that standard output goes to is refused.
+
+        Examples
+        --------
+        >>> import tempfile
+        >>> with tempfile.TemporaryDirectory() as folder:
+        ...     store.save(f"{folder}/pay.csv")
+        ...     ruzgalt.Store.from_script(f"{folder}/pay.csv")
+        <Store of 3 commits, tables: pay>
+        """
+        write(path_of(path), [self.script()])
+
+    def page(self, path: AnyPath, questions: Sequence[str] = (), *, title: str = "", note: str = "",
+             diary: Optional[str] = None) -> None:
+        """Writes a page for a browser, with the script's commits and tables, and answers to questions.
+
+        Returns
+        -------
+        None
+            As save() does.
+
+        Examples
+        --------
+        >>> import tempfile
+        >>> with tempfile.TemporaryDirectory() as folder:
+        ...     store.page(f"{folder}/pay.html", ["agg,pay,sum,cents"])
+        """
+        asked, target = checks.texts("questions", questions), path_of(path)
+        given = {"title": title, "note": note, **({} if diary is None else {"diary": diary})}
+        words = [f"--{option}={checks.text(option, one)}" for option, one in given.items()]
+        words += [f"--ask={question}" for question in asked]
+        with self.state.lock:
+            script = self._settled().script
+            for question in asked:
+                self.state.answer_to(question)
+        if not script:
+            raise Refused("NoTable", "the store is empty, so there is nothing to show")
+        with tempfile.TemporaryDirectory() as folder, refusing():
+            file = Path(folder, target.with_suffix(".csv").name)
+            file.write_bytes(script)
+            options = answers_tool.options_of("page", [str(file), *words])
+            with from_program():
+                found = given_tool.sources(options)
+            write(target, document.pieces(contents.of(found, diary)))
+
+    def picture(self, question: str, *, by: Optional[str] = None, label: Optional[str] = None, where: Where = None,
+                start: Any = None, end: Any = None, width: Optional[int] = None) -> Picture:
+        """A picture of the answer to a question, which a notebook shows.
+
+        Returns
+        -------
+        Picture
+            Its svg is a text; a notebook shows it.
+
+        Examples
+        --------
+        >>> store.picture("rows,pay", by="person").svg.count("<svg")
+        1
+        """
+        if width is not None:
+            width = checks.whole("width", width, 40, 100_000)
+        limits = [None if point is None else instants.text_of(point) for point in (start, end)]
+        wanted = [] if where is None else checks.records("where", where)
+        wish = figures.Wish(by, label, wanted, limits[0], limits[1])
+        with self.state.lock, refusing():
+            return Picture(svg.draw(figures.of(self.state.answer_to(question), wish, self._versions), width, None))
+
+    def _versions(self, name: str) -> Versions:
+        return Versions(self.state.answer_to(versions_of(name)))
 
 
 def sums(counts: Sequence[Tuple[int, int]]) -> Tuple[int, int]:
     return sum(one for one, _ in counts), sum(one for _, one in counts)
 
 
-def free_stores() -> None:
-    """Frees the stores that other threads held when the process was forked: a child has none of these threads.
-
-    Their unfinished changes are undone in the child.
-    """
-    for store in list(STORES):
-        if store.lock.acquire(blocking=False):
-            store.lock.release()
-        else:
-            store.state.undo_all()
-            store._begin(store.state)
+def path_of(given: Any) -> Path:
+    """Returns the path of a file. Raises Refused."""
+    if not isinstance(given, (str, os.PathLike)) or not Path(given).name:
+        raise checks.wrong("path", given, "must be the path of a file, such as 'pay.csv'")
+    return Path(given)
 
 
-os.register_at_fork(after_in_child=free_stores)
+def write(path: Path, pieces: Iterable[bytes]) -> None:
+    """Writes a file, which is complete or as it was. Raises Refused if standard output goes to it."""
+    with refusing(), files.whole([path]) as [made], made.open("wb") as file:
+        file.writelines(pieces)

@@ -1,27 +1,29 @@
-"""A store's tables: columns of frames, with their names and texts in the store.
+"""A store's tables and commands: columns of frames, with their names and cells in the store.
 
 A column of a frame may have any name. In the store its name is a word of the language: `Table.words` has both.
 """
 from __future__ import annotations
 
-import re
+import datetime
 from dataclasses import dataclass, field, replace
 from decimal import Decimal
+from functools import lru_cache
 from types import MappingProxyType
-from typing import Any, Iterable, Iterator, List, Mapping, Optional, Sequence, Tuple, Union
+from typing import Any, Iterable, Iterator, List, Mapping, NamedTuple, Optional, Sequence, Tuple, Union
 
 import numpy as np
 import pandas as pd
 
-from ruzgalt.frames import checks, instants, intervals, kinds, points, sides, values
-from ruzgalt.frames.arrays import Cells, Ints, equal_to
-from ruzgalt.frames.errors import Refused, refuse
-from ruzgalt.frames.kinds import WITHOUT_ZONE, Kind
-from ruzgalt.frames.named import column_of, names_of, same
+from ruzgalt.convert import checks, instants, kinds, named, points, values
+from ruzgalt.convert.arrays import Cells, equal_to
+from ruzgalt.convert.errors import Refused, refuse
+from ruzgalt.convert.kinds import WITHOUT_ZONE, Kind
+from ruzgalt.convert.named import column_of, names_of, same
+from ruzgalt.convert.points import Form
+from ruzgalt.convert.values import Texts, Values
+from ruzgalt.frames import sides
 from ruzgalt.frames.options import Options
-from ruzgalt.frames.points import Form
 from ruzgalt.frames.sides import Period, Side
-from ruzgalt.frames.values import Texts, Values
 from ruzgalt.script import forms, naming
 from ruzgalt.script.schemas import Column, Schema
 from ruzgalt.script.schemas import Kind as Kinds
@@ -32,9 +34,79 @@ Cell = Union[int, str]
 NO_COLUMNS: Mapping[Any, Values] = MappingProxyType({})
 # The remedy for a question about a column that may have missing cells.
 OF_FRAMES = "take rows(), .dropna() to leave such rows out, and ruzgalt.join, anti or agg"
-# A point as str(Timestamp) has it.
-SPACED = re.compile(r"\d{4}-\d\d-\d\d \d\d:\d\d:\d\d", re.ASCII)
 
+
+# Commands.
+
+class Script(bytes):
+    """The changes of a store that were accepted: bytes of a script, as ./dipq and tools/answers read it.
+
+    Attributes
+    ----------
+    names : dict
+        For each table a dict of the columns' names in the script with their names in frames. If a name isn't one of the
+        language, the script has one like it.
+
+    Examples
+    --------
+    >>> day = pd.to_datetime
+    >>> rent = pd.DataFrame({"from": day(["2024-01-01"]), "to": day(["2025-01-01"]), "Löhne €": [5000]})
+    >>> store = ruzgalt.Store()
+    >>> store.table("rent", rent)
+    commit 2: 1 added, 0 closed
+    >>> script = store.script()
+    >>> script.decode().splitlines()[0], script.names
+    ('table,rent,lohne,int', {'rent': {'lohne': 'Löhne €'}})
+    """
+
+    names: Mapping[str, Mapping[str, Any]]
+
+    def __new__(cls, data: bytes, names: Optional[Mapping[str, Mapping[str, Any]]] = None) -> Script:
+        made = super().__new__(cls, data)
+        made.names = {} if names is None else names
+        return made
+
+
+class Command(NamedTuple):
+    """A command's fields, its bytes with its block, and for an update by a frame's row the row's label."""
+
+    fields: Sequence[str]
+    data: bytes
+    label: Any = None
+
+    @property
+    def word(self) -> str:
+        return self.fields[0]
+
+
+def record(fields: Sequence[str]) -> bytes:
+    text = ",".join(fields)
+    if text.count(",") >= len(fields) or any(mark in text for mark in '"\r\n'):
+        text = ",".join(map(values.quoted, fields))
+    return f"{text}\n".encode("utf-8", "surrogateescape")
+
+
+def command(*fields: str, label: Any = None) -> Command:
+    return Command(fields, record(fields), label)
+
+
+def load(table: str, side: Side) -> Command:
+    return Command(("load", table), b"".join([record(("load", table)), rows_of(side), b"end\n"]))
+
+
+def make(table: str, names: Sequence[str], columns: Sequence[Values], key: Sequence[str] = ()) -> Command:
+    given = [text for name, column in zip(names, columns) for text in (name, column.kind)]
+    return command("table", table, *given, *(["key", *key] if key else []))
+
+
+def rows_of(side: Side) -> bytes:
+    """Returns the `row` records."""
+    times = [points.texts_of(side.start), points.texts_of(side.end)]
+    rows = zip(*times, *map(values.fields_of, side.columns))
+    return "".join(["row,", "\nrow,".join(map(",".join, rows)), "\n"]).encode() if len(side) else b""
+
+
+# Tables.
 
 @dataclass(frozen=True)
 class Table:
@@ -64,8 +136,7 @@ class Table:
     @property
     def schema(self) -> Schema:
         """The columns as the language has them."""
-        columns = tuple(Column(self.words[name], Kinds(one.kind)) for name, one in self.columns.items())
-        return Schema(self.name, columns)
+        return Schema(self.name, tuple(Column(self.words[one.name], Kinds(one.kind)) for one in self.columns.values()))
 
     @property
     def readers(self) -> str:
@@ -91,21 +162,22 @@ class Table:
             if name not in self.period:
                 self.column(name)
         side = side_of(frame, names, self.options, self.columns)
-        refuse_points(side, self.period)
         for given in side.columns:
             wanted = self.column(given.name).kind
             if given.kind != wanted:
                 remedy = ".astype('int64') makes numbers" if wanted == "int" else ".astype(str) makes texts"
-                reason = f"it is {given.kind}, but the column of {self.name} is {wanted}; {remedy}"
+                reason = f"it is {given.kind}, and the column of {self.name} is {wanted}; {remedy}"
                 raise Refused("WrongKind", reason, given.name)
         return side
 
-    def portion(self, start: Any, end: Any) -> Ints:
+    def portion(self, start: Any, end: Any) -> Tuple[int, int]:
         """Returns the seconds of a change's start and end, the first point after it.
 
         Raises Refused (BadPoint, BadPeriod).
         """
-        portion = instants.portion(point_of(start), point_of(end), self.form)
+        start, end = written(start), written(end)
+        is_text = isinstance(start, str) and (end is None or isinstance(end, str))
+        portion = portion_of_texts(start, end, self.form) if is_text else portion_of(start, end, self.form)
         if portion[0] >= portion[1]:
             last = "the last day" if self.form.has_last_days else "the first point after it"
             reason = f"it starts at {start} and ends at {end}: a portion must start before its end, which is {last}"
@@ -114,7 +186,7 @@ class Table:
 
     def pairs(self, word: str, given: Any) -> List[str]:
         """Returns the columns and values of set= or where= as fields of a change. Raises Refused."""
-        if not isinstance(given, Mapping):
+        if not isinstance(given, (dict, Mapping)):
             reason = "must be a dict of columns with values, such as {'person': 'Ada'}"
             raise checks.wrong(word, given, reason)
         if not given:
@@ -151,10 +223,10 @@ class Table:
         first, last = int(side.start.min(initial=self.first)), int(side.end.max(initial=self.last))
         return replace(self, kind=kinds.joint_kind(self.kind, side.kind), first=first, last=last)
 
-    def widened(self, portion: Ints) -> Table:
+    def widened(self, portion: Sequence[int]) -> Table:
         """Returns the table after its rows were cut at these seconds: its kind of points then has them."""
-        inside = portion[(self.first < portion) & (portion < self.last)]
-        if points.has_all(self.kind, inside):
+        inside = tuple(one for one in portion if self.first < one < self.last)
+        if not inside or has_all(self.kind.name, inside):
             return self
         return replace(self, kind=Kind("datetime" if self.kind.name in ("", "date") else "S"))
 
@@ -176,22 +248,85 @@ class Table:
         start, end = next(cells), next(cells)
         kind = self.options.kind_of(self.period, self.kind, *others)
         # An interval has no missing end.
-        form = self.form if intervals.are_in(self.period) else replace(self.form, is_open=self.form.is_open or is_open)
-        return intervals.columns_of(self.period, points.series_of(start, kind), form.restored_ends(end, kind))
+        form = self.form if named.are_in(self.period) else replace(self.form, is_open=self.form.is_open or is_open)
+        return named.columns_of(self.period, points.series_of(start, kind), form.restored_ends(end, kind))
 
 
-def point_of(given: Any) -> Any:
-    """Returns a point that a call takes; of str(Timestamp) the same point in the form of the language."""
-    return given.replace(" ", "T") if isinstance(given, str) and SPACED.fullmatch(given) else given
+def table_of(name: str, side: Side, key: Sequence[Any], options: Options) -> Table:
+    """Returns a table without rows that has the columns of its first rows. Raises Refused."""
+    columns = [replace(one, name=same(one.name), codes=one.codes[:0], texts=Texts()) for one in side.columns]
+    names = [one.name for one in columns]
+    if any(name != name for name in names):
+        raise Refused("BadName", "NaN can't be the name of a store's column; .rename(columns=..) gives another one")
+    for column in key:
+        if column not in names:
+            raise Refused("NoColumn", f"key= has it, but the table's columns are {listed(names)}", column)
+    words = dict(zip(names, naming.of_store(names)))
+    return checked(Table(name, dict(zip(names, columns)), list(key), options, words, side.kind))
 
+
+def checked(table: Table) -> Table:
+    """Returns the table.
+
+    Raises Refused if missing= has a name that isn't a column, a column of the key, or a value that can't be one.
+    """
+    for name in table.options.missing:
+        table.stand_in(name)
+        if name in table.key:
+            raise Refused("BadCommand", "missing= can't have a column of the key, which has a value in each row", name)
+    return table
+
+
+def listed(names: Iterable[Any]) -> str:
+    """Returns names of columns for a message."""
+    return ", ".join(
+        name if isinstance(name, str) and forms.is_name(name) else checks.shown(name) for name in names
+    ) or "none"
+
+
+# Points. Changes often have the same ones, and pandas takes long for a single one.
+
+text_of = lru_cache(maxsize=1024)(points.text_of)
+
+
+def written(point: Any) -> Any:
+    """Returns a date or datetime as a text of the language, if there is one; all else as it was given."""
+    text = point.isoformat() if isinstance(point, datetime.date) else point
+    return text if isinstance(text, str) and instants.written(text) else point
+
+
+def portion_of(start: Any, end: Any, form: Form) -> Tuple[int, int]:
+    """Returns the seconds of a start, and of the first point after an end; None means without an end."""
+    first, last = instants.portion(start, end, form).tolist()
+    return first, last
+
+
+portion_of_texts = lru_cache(maxsize=1024)(portion_of)
+
+
+@lru_cache(maxsize=1024)
+def has_all(kind: str, seconds: Tuple[int, ...]) -> bool:
+    """Returns whether a column of points of this kind can have these seconds."""
+    return points.has_all(Kind(kind), np.array(seconds, np.int64))
+
+
+# Columns and cells.
 
 def side_of(frame: Any, names: Sequence[Any], options: Options, known: Mapping[Any, Values] = NO_COLUMNS) -> Side:
-    """Returns a frame's rows with these columns. Raises Refused.
+    """Returns a frame's rows with these columns. Raises Refused, also for months and zones, which stores don't have.
 
-    known: the columns of the table. A column of objects without rows doesn't show its kind, and has that of the table.
+    known: the columns of the table. A column of objects without rows doesn't show its kind, so the table's is taken.
     """
     found = [column_of(frame, name) for name in names]
     side = sides.side_of(frame, [], options.period, options.form, {})
+    if side.kind.is_long:
+        reason = f"a store's points are days or times, but these are period[{side.kind.name}]"
+        remedy = ".dt.asfreq('D', 'start') of starts, .dt.asfreq('D', 'end') of ends with last_day=True"
+        raise Refused("WrongKind", f"{reason}; {remedy}", options.period[0])
+    if side.kind.zone is not None:
+        reason = f"a store's points have no time zone, but these have {side.kind.zone}"
+        remedy = f".dt.tz_convert(ZONE){WITHOUT_ZONE} gives the days and times of a zone"
+        raise Refused("WrongKind", f"{reason}; {remedy}", options.period[0])
 
     def values_in(column: Any) -> Values:
         name = same(column.name)
@@ -210,58 +345,15 @@ def coded(column: Values, cells: Cells) -> Values:
     return replace(column, codes=codes, texts=Texts(found))
 
 
-def refuse_points(side: Side, period: Period) -> None:
-    """Raises Refused for zones and for months: a store's script, questions and days don't have them."""
-    if side.kind.is_long:
-        reason = f"a store's points are days or times, but these are period[{side.kind.name}]"
-        remedy = ".dt.asfreq('D', 'start') of starts, .dt.asfreq('D', 'end') of ends with last_day=True"
-        raise Refused("WrongKind", f"{reason}; {remedy}", period[0])
-    if side.kind.zone is not None:
-        reason = f"a store's points have no time zone, but these have {side.kind.zone}"
-        remedy = f".dt.tz_convert(ZONE){WITHOUT_ZONE} gives the days and times of a zone"
-        raise Refused("WrongKind", f"{reason}; {remedy}", period[0])
-
-
-def listed(names: Iterable[Any]) -> str:
-    """Returns names of columns for a message."""
-    return ", ".join(
-        name if isinstance(name, str) and forms.is_name(name) else checks.shown(name) for name in names
-    ) or "none"
-
-
-def table_of(name: str, side: Side, key: Sequence[Any], options: Options) -> Table:
-    """Returns a table without rows that has the columns of its first rows. Raises Refused."""
-    refuse_points(side, options.period)
-    columns = [replace(one, name=same(one.name), codes=one.codes[:0], texts=Texts()) for one in side.columns]
-    names = [one.name for one in columns]
-    if any(name != name for name in names):
-        raise Refused("BadName", "NaN can't be the name of a store's column; .rename(columns=..) gives another one")
-    for column in key:
-        if column not in names:
-            raise Refused("NoColumn", f"key= has it, but the table's columns are {listed(names)}", column)
-    words = dict(zip(names, naming.of_store(names)))
-    made = Table(name, dict(zip(names, columns)), list(key), options, words, side.kind)
-    refuse_stand_ins(made)
-    return made
-
-
-def refuse_stand_ins(table: Table) -> None:
-    """Raises Refused if missing= has a name that isn't a column, a column of the key, or a value that can't be one."""
-    for name in table.options.missing:
-        table.stand_in(name)
-        if name in table.key:
-            raise Refused("BadCommand", "missing= can't have a column of the key, which has a value in each row", name)
-
-
-# Cells.
-
 def cell_of(column: Values, value: Any) -> Cell:
     """Returns a single value as a cell of the column. Raises Refused."""
-    refuse_type(column, value)
-    if column.kind == "text" and len(value) <= forms.TEXT_LIMIT and str.isascii(value):
-        return str.__str__(value)
-    if column.kind == "int" and column.digits is None and values.LEAST <= int(value) <= values.GREATEST:
+    # Most values, in a fraction of the time.
+    if type(value) is str and column.kind == "text" and len(value) <= forms.TEXT_LIMIT and value.isascii():
+        return value
+    is_whole = type(value) is int and column.digits is None and column.dtype == np.int64
+    if is_whole and values.LEAST <= value <= values.GREATEST:
         return int(value)
+    refuse_type(column, value)
     try:
         found = values.values_of(series_of(column, value), column.digits)
     except Refused as error:
@@ -275,16 +367,15 @@ def cell_of(column: Values, value: Any) -> Cell:
 def refuse_type(column: Values, value: Any) -> None:
     """Raises Refused if the value has another type than the column's."""
     if column.digits is not None:
-        wanted, remedy = f"numbers of {column.digits} decimals", "decimal.Decimal(..) makes a number of a text"
         is_right = checks.is_whole(value) or isinstance(value, (float, np.floating, Decimal))
+        wanted, remedy = f"numbers of {column.digits} decimals", "decimal.Decimal(..) makes a number of a text"
+    elif column.kind == "text":
+        is_right, wanted, remedy = isinstance(value, str), "texts", "str(..) makes a text"
     elif values.is_bool(column.dtype):
-        wanted, remedy = "True and False", "bool(..) converts a number"
-        is_right = isinstance(value, (bool, np.bool_))
-    elif column.kind == "int":
-        wanted, remedy = "whole numbers", f"decimals={{{column.name!r}: 2}}, when the table is made, takes others"
-        is_right = checks.is_whole(value)
+        is_right, wanted, remedy = checks.is_flag(value), "True and False", "bool(..) converts a number"
     else:
-        wanted, remedy, is_right = "texts", "str(..) makes a text", isinstance(value, str)
+        is_right, wanted = checks.is_whole(value), "whole numbers"
+        remedy = f"decimals={{{column.name!r}: 2}}, when the table is made, takes others"
     if not is_right:
         raise Refused("WrongKind", f"{checks.shown(value)}: the column has {wanted}; {remedy}", column.name)
 
@@ -316,7 +407,13 @@ def stand_in_of(column: Values, given: Any) -> Cell:
 def column_values(column: Any, digits: Optional[int], given: Any) -> Values:
     """Returns a Series as a column, with the stand-in `given`, if it isn't None, for missing cells. Raises Refused."""
     if given is None:
-        return without_stand_in(column, digits)
+        try:
+            return values.values_of(column, digits)
+        except Refused as error:
+            if error.reason != values.no_value(column.name):
+                raise
+            remedy = f"missing={{{column.name!r}: ..}}, when the table is made, gives a value for it"
+            raise Refused(error.name, f"{error.reason}; {remedy}", error.column, error.label) from None
     is_missing = column.isna().to_numpy()
     there = values.values_of(column.iloc[np.flatnonzero(~is_missing)], digits)
     code, texts = stand_in_of(there, given), there.texts
@@ -331,20 +428,11 @@ def column_values(column: Any, digits: Optional[int], given: Any) -> Values:
     return replace(there, codes=codes, texts=texts)
 
 
-def without_stand_in(column: Any, digits: Optional[int]) -> Values:
-    """Returns a Series as a column. Raises Refused; for missing cells with the advice to give missing=."""
-    try:
-        return values.values_of(column, digits)
-    except Refused as error:
-        if error.reason != values.no_value(column.name):
-            raise
-        remedy = f"missing={{{column.name!r}: ..}}, when the table is made, gives a value for it"
-        raise Refused(error.name, f"{error.reason}; {remedy}", error.column, error.label) from None
-
-
 def restored_cells(column: Values, cells: Cells, stand_in: Optional[Cell]) -> Any:
     """Returns cells of an answer in the column's dtype; if some are missing, in a dtype that has missing cells."""
-    is_missing = np.zeros(len(cells), bool) if stand_in is None else equal_to(cells, stand_in)
+    if stand_in is None:
+        return column.restored(cells)
+    is_missing = equal_to(cells, stand_in)
     there = column.restored(cells[~is_missing])
     if not is_missing.any():
         return there

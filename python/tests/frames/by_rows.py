@@ -49,7 +49,7 @@ def answer(columns):
 
 
 NONE = -1
-# Behind all places.
+# An index after the index of each row.
 LAST = 1000
 
 
@@ -76,11 +76,11 @@ def join(frames, given):
     if given.how in ("right", "outer"):
         found += [(start, end, NONE, row) for row, start, end in unmet(right, left)]
     found.sort(key=lambda row: [LAST if one == NONE else one for one in row])
-    return beside(frames, found, given)
+    return side_by_side(frames, found, given)
 
 
-def beside(frames, found, given):
-    """Columns of start, end and places of rows."""
+def side_by_side(frames, found, given):
+    """The answer's columns; each item of found has a start, an end, and the indices of its rows."""
     places = [[row[2 + side] for row in found] for side in (0, 1)]
     columns = [(name, None, [row[side] for row in found]) for side, name in enumerate(given.periods[0])]
     for side, frame in enumerate(frames if given.keeps_periods else ()):
@@ -99,7 +99,7 @@ def beside(frames, found, given):
 
 
 def unmet(left, right):
-    """Place, start and end of what is left of the left rows: pairs of a period and a key."""
+    """Index of a left row, start and end of each time without a right row; rows are pairs of a period and a key."""
     for row, ((start, end), key) in enumerate(left):
         met = [period for period, other in right if other == key]
         held = [start <= day < end and not any(one <= day < two for one, two in met) for day in range(OPEN)]
@@ -107,7 +107,7 @@ def unmet(left, right):
 
 
 def taken(values, places):
-    """The cells at these places, of NONE a missing one, beside which whole numbers are floats."""
+    """The cells at these indices. NONE means a missing cell; then whole numbers are floats."""
     is_whole = NONE in places and all(type(value) is int for value in values)
     found = [None if place == NONE else values[place] for place in places]
     return [float(value) if is_whole and value is not None else value for value in found]
@@ -118,7 +118,7 @@ def either(values, others, places):
 
 
 def runs(days):
-    """Start, end and value of each longest run of days of one value, where there is one."""
+    """Start, end and value of each longest run of days with one value; None isn't a value."""
     found = []
     for day, value in enumerate(days):
         if value is not None and found and found[-1][1:] == (day, value):
@@ -146,7 +146,7 @@ def order(group):
 
 
 def agg(frame, measures, given):
-    """measures: functions with their columns, None of the rows alone."""
+    """measures: pairs of a function and its columns; if rows are counted, the columns are None."""
     groups, rows = keys(frame, given.on[0]), []
     amounts = [frame[0][1] if column is None else cells(frame, column[0]) for _, column in measures]
     held = list(zip(periods(frame, given.periods[0]), groups, zip(*amounts)))
@@ -218,7 +218,7 @@ def half_up(fraction):
 
 
 def wholes(sums, found):
-    """Whole numbers that add up to the sum, rounded: one after another is raised, that which lacks most."""
+    """Whole numbers that add up to the rounded sum: numbers with the largest remainders are raised by one."""
     listed = [sums[piece] // 1 for piece in found]
     total = sum(sums.values())
     for _ in range(half_up(total) - sum(listed)):
@@ -234,7 +234,7 @@ def overlaps(frame, given):
         for other, (two, other_key) in enumerate(rows) for row, (one, key) in enumerate(rows[:other])
         if key == other_key and max(one[0], two[0]) < min(one[1], two[1])
     )
-    return beside([frame, frame], found, given)
+    return side_by_side([frame, frame], found, given)
 
 
 def most(frame, period):

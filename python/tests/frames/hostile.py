@@ -71,9 +71,9 @@ SUFFIXES = st.sampled_from([("_left", "_right"), ("", "_2"), (None, "_r"), ("_l"
 
 @dataclass
 class Case:
-    """Frames as by_rows has them and as pandas, and what is asked.
+    """Frames, as lists for by_rows and as frames of pandas, and the options of a call.
 
-    is_right: a call that isn't is to be refused.
+    is_right: other calls must be refused.
     """
 
     kind: str
@@ -93,14 +93,14 @@ class Case:
 
     @property
     def is_plain(self):
-        """Whether it may not be refused, but for names of the answer that clash."""
+        """Whether the call may be refused only if names of its answer are equal."""
         names = [[name for name, _ in frame] for frame in self.columns]
         return self.is_right and all(
             len(set(own)) == len(own) and all(isinstance(name, str) for name in own) for own in names
         )
 
     def point(self, day):
-        """The number of a day, as the frames have it."""
+        """A day's point in the kind of the frames, from its number."""
         if day == by_rows.OPEN:
             return None if self.kind == "date" else pd.NaT
         return DAYS[self.kind](FIRST + datetime.timedelta(days=day))
@@ -164,7 +164,7 @@ def rarely(draw):
 
 @st.composite
 def times(draw, is_open):
-    """Starts and ends of rows; rarely an end isn't behind its start."""
+    """Starts and ends of rows; rarely an end isn't after its start."""
     least, made = int(not rarely(draw)), []
     for _ in range(draw(st.integers(1, 5))):
         start = draw(st.integers(0, 12))
@@ -261,7 +261,7 @@ def one_sided(flag, given):
 
 
 def one_or_all(draw, names, several):
-    """One name by itself, where it can be given so."""
+    """All names, or a single name by itself if the option allows that."""
     is_alone = len(names) == 1 and isinstance(names[0], (str, int, float))
     return names[0] if is_alone and draw(st.booleans()) else several(names)
 

@@ -6,7 +6,7 @@ import pandas as pd
 from hypothesis import strategies as st
 
 import plain_store
-from ruzgalt.frames.kinds import OFFSETS
+from ruzgalt.convert.kinds import OFFSETS
 
 NAMES = ["row_id", "id", "left_id", "right_id", "part", "count", "cents", "sum_cents", "sys_from", "sys_to", "sys_to_",
          "valid_from", "id_left", "a", "b", "person", "Person", "PERSON", "Löhne €", "", " id", 'a"b', "a\nb", "by",
@@ -14,7 +14,7 @@ NAMES = ["row_id", "id", "left_id", "right_id", "part", "count", "cents", "sum_c
 BAD_NAMES = ["Id", " id", "", "größe", "x" * 33, "by", "set", 7, None, ("a", "b"), 1.5]
 TEXTS = ["", "a", "A", " a", "a,b", 'a"b', "row", "where", "é", "e\u0301", "a\0b", "a\nb"]
 PERIODS = [("from", "to"), ("valid_from", "to"), ("row_id", "sys_from"), ("von", 1)]
-# The day 0 of a store; behind the day 10 of the second datetime64[ns] has no point.
+# Day 0 of a store. datetime64[ns] ends at day 10 of the second one.
 FIRSTS = [datetime.datetime(2024, 1, 1), datetime.datetime(2262, 4, 1)]
 FIRST = FIRSTS[0]
 OPEN, MOST = 40, 10
@@ -141,7 +141,7 @@ def texts_of_points(draw, form, given):
 
 @st.composite
 def spoiled(draw, form, frame, hows=("more", "fewer", "twice", "missing", "float", "levels", "other")):
-    """A frame that is none of the table's."""
+    """A frame that the table must refuse."""
     how = draw(st.sampled_from(hows))
     place = draw(st.integers(2, len(frame.columns) - 1))
     places = list(range(len(frame.columns)))

@@ -1,6 +1,6 @@
-"""A store of several tables, computed plainly: rows are dicts, times are seconds, and each pair of rows is looked at.
+"""A store of several tables, computed plainly: rows are dicts, times are seconds, and each pair of rows is compared.
 
-Nothing here is of the package. What a call answers is a list of names and a list of rows; REFUSED is what must be so.
+Nothing here uses the package. A call answers a list of names and a list of rows, or REFUSED if it must be refused.
 """
 import copy
 from collections import Counter
@@ -22,7 +22,7 @@ class PlainStore:
     # Changes. Each answers commit, added and closed, or REFUSED, and then nothing is changed.
 
     def tried(self, change):
-        """A change that is done to a copy, which takes the store's place if no key is broken."""
+        """Makes a change in a copy; the copy replaces the store if no key is broken."""
         other = copy.deepcopy(self)
         before = other.newest
         change(other)
@@ -51,7 +51,7 @@ class PlainStore:
             self.tables[name].add(start, end, values, self.newest)
 
     def change(self, word, name, changes):
-        """Of start, end, where and to, each of which is a commit."""
+        """changes: tuples of start, end, where and to; each change makes a commit."""
         def done(other):
             for one in changes:
                 other.do_change(word, name, *one)
@@ -149,18 +149,18 @@ def join(sides, pairs, shared, suffixes, how="inner"):
     names = [f"{name}{suffix}" if suffix and listed.count(name) > 1 else name for name, suffix in given]
     if len(set(names)) < len(names):
         return REFUSED
-    return names, [[*pair[:2], *(row and row["id"] for row in pair[2:]), *cells_beside(left, rest, shared, *pair[2:])]
+    return names, [[*pair[:2], *(row and row["id"] for row in pair[2:]), *cells_of_pair(left, rest, shared, *pair[2:])]
                    for pair in found]
 
 
-def cells_beside(left, rest, shared, one, other):
-    """The left row's cells, of which the shared ones are the other's where there is none, and the other row's."""
+def cells_of_pair(left, rest, shared, one, other):
+    """The left row's cells, then the right row's. If the left row is missing, shared cells are the right row's."""
     mine = [one["values"][name] if one else other["values"][name] if name in shared else None for name in left.names]
     return [*mine, *(other and other["values"][name] for name in rest)]
 
 
 def free_parts(one, others, pairs):
-    """The times of a row in which none of the others holds that is equal in the pairs of columns."""
+    """The times of a row without the times of all other rows that have equal values in the pairs of columns."""
     free = [(one["start"], one["end"])]
     for other in others:
         if all(one["values"][a] == other["values"][b] for a, b in pairs):
@@ -219,7 +219,7 @@ def dip(shown):
 
 
 def apart(names):
-    """Each name once: one that stood before has `_` behind it, so often that it is no other one."""
+    """Makes names unique: a repeated name gets `_` until it differs from all others."""
     found = []
     for name in names:
         if name in found:

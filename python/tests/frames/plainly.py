@@ -1,6 +1,6 @@
 """The answers computed plainly, with numpy and Python's datetimes; nothing here is of the package.
 
-A frame's periods are counted in seconds from year 1 on, by Python's own calendar; each pair of rows is looked at.
+A frame's periods are counted in seconds from year 1 on, by Python's own calendar; each pair of rows is compared.
 """
 import datetime
 
@@ -12,7 +12,7 @@ BEGIN = datetime.datetime(1, 1, 1)
 
 
 def moment(point):
-    """A point of any kind as a datetime; what is missing as 9999-12-31."""
+    """A point of any kind as a datetime; a missing point as 9999-12-31."""
     if point is None or point is pd.NaT:
         return OPEN
     if isinstance(point, pd.Period):
@@ -53,7 +53,7 @@ def equal(left, right):
 
 
 def join(left, right, left_keys, right_keys):
-    """Start, end, place of the left row and of the right one; left and right are pairs of arrays of numbers."""
+    """Start, end, and the indices of the left and the right row; left and right are pairs of arrays of numbers."""
     start = np.maximum(left[0][:, None], right[0][None, :])
     end = np.minimum(left[1][:, None], right[1][None, :])
     rows, others = np.nonzero((start < end) & equal(left_keys, right_keys))
@@ -62,7 +62,7 @@ def join(left, right, left_keys, right_keys):
 
 
 def anti(left, right, left_keys, right_keys):
-    """Place of the left row, start and end, by these."""
+    """Index of the left row, start and end, sorted by these."""
     matched, found = equal(left_keys, right_keys), []
     for place, (start, end) in enumerate(zip(*left)):
         begins, ends = right[0][matched[place]], right[1][matched[place]]
@@ -73,7 +73,7 @@ def anti(left, right, left_keys, right_keys):
 
 
 def steps(cuts, is_there, values):
-    """Start, end and value of each longest stretch of cuts of one value, where there is one."""
+    """Start, end and value of each longest stretch of cuts that is there and has one value."""
     found = []
     for start, end, there, value in zip(cuts[:-1].tolist(), cuts[1:].tolist(), is_there, values):
         if there and found and found[-1][1] == start and found[-1][2] == value:
@@ -106,7 +106,7 @@ def order(group):
 
 
 def dip(times):
-    """The part of each row, how many there are, and the first second at which as many rows hold."""
+    """The part of each row, the number of parts, and the first second when that number of rows hold."""
     ends, parts = [], {}
     for place in np.lexsort((np.arange(len(times[0])), times[1], times[0])):
         free = [(end, part) for part, end in enumerate(ends) if end <= times[0][place]]

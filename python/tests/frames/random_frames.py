@@ -16,7 +16,7 @@ PERIOD = ("from", "to")
 
 
 def points(random, kind, count, is_open=False, is_last_day=False):
-    """A column of starts and one of ends of so many rows."""
+    """A column of starts and a column of ends, each of `count` rows."""
     base = datetime.datetime(random.choice(FIRST_YEARS.get(kind, [1, 999, 1969, 2024, 9990])), 1, 1)
     span = random.choice([5, 20, 60])
     is_day = is_last_day or kind in ("D", "date") or random.random() < 0.6
@@ -63,7 +63,7 @@ def compared_column(random, count, kind, among=None):
 
 
 def frame(random, count, kind, **words):
-    """names and kinds of the compared columns; period, is_open and is_last_day, as the calls take them."""
+    """words: names and kinds of the compared columns; the options period, is_open and is_last_day."""
     period_names = words.get("period", PERIOD)
     start, end = points(random, kind, count, words.get("is_open", False), words.get("is_last_day", False))
     cells = {period_names[0]: start, period_names[1]: end}

@@ -12,7 +12,7 @@ import ruzgalt
 pa = importlib.import_module("pyarrow") if importlib.util.find_spec("pyarrow") else None
 FIRST = datetime.datetime(2024, 1, 1)
 DAY, NOON = datetime.timedelta(days=1), datetime.timedelta(hours=12)
-# Start, end, and a number; None is no end.
+# Start, end, and a number; None means no end.
 LEFT, RIGHT = [(0, 9, 1), (2, None, 2), (4, 6, 1)], [(1, 5, 1), (3, 8, 2), (5, 7, 3)]
 
 
@@ -43,7 +43,7 @@ def arrow(array):
 
 
 def pairs():
-    """Start, end, and places of the rows that meet, by rows; None for no end."""
+    """Start, end, and the indices of each pair of rows that match, sorted; 99 means no end."""
     ends = [[(start, 99 if end is None else end, key) for start, end, key in rows] for rows in (LEFT, RIGHT)]
     return sorted(
         (max(one[0], two[0]), min(one[1], two[1]), row, other) for row, one in enumerate(ends[0])
@@ -115,7 +115,7 @@ class Arrow(unittest.TestCase):
         whole = last.astype({"from": pd.ArrowDtype(pa.timestamp("s")), "to": pd.ArrowDtype(pa.timestamp("s"))})
         self.assertEqual(str(ruzgalt.agg(whole, "count")["to"][0]), "9999-12-31 00:00:00")
 
-    def test_what_is_refused(self):
+    def test_refusals(self):
         cases = [
             ("NA compared", frame(LEFT, pa.date32()).assign(k=arrow(pa.array([1, None, 2]))), "k", 1),
             ("a fraction", frame([(0, 1, 1)], pa.timestamp("us"), first=FIRST + DAY / 7), "from", 0),

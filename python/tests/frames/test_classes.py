@@ -1,4 +1,4 @@
-"""Classes, and the rows that are sent: beside Python's own comparison of UTF-8, with texts that look alike."""
+"""Classes and the rows that are sent, compared with Python's own order of UTF-8; some texts look alike."""
 import unittest
 import warnings
 
@@ -8,9 +8,10 @@ from hypothesis import given, settings
 from hypothesis import strategies as st
 
 import ruzgalt
-from ruzgalt.frames import classes, points, values
-from ruzgalt.store import script
-from ruzgalt.frames.sides import Side
+from ruzgalt.convert import points, values
+from ruzgalt.frames import sides
+from ruzgalt.frames.sides import Side, with_codes
+from ruzgalt.store import tables as script
 
 
 class Folded(str):
@@ -57,7 +58,7 @@ class Classes(unittest.TestCase):
     def test_they_are_equal_where_the_values_are(self, case):
         kinds, *rows = case
         sides, keys = zip(*(side_of(kinds, own) for own in rows))
-        found = [side.columns for side in classes.with_classes(sides)]
+        found = [side.columns for side in with_codes(sides)]
         self.assertEqual([[column.kind for column in columns] for columns in found], [["int"], ["int"]])
         codes = [code for columns in found for code in columns[0].codes.tolist()]
         flat = [*keys[0], *keys[1]]
@@ -68,15 +69,15 @@ class Classes(unittest.TestCase):
     @given(SIDES)
     def test_sorted_they_rise_with_the_values(self, case):
         side, keys = side_of(case[0], case[1])
-        found = classes.together(([column] for column in side.columns), sort=True)[0].tolist()
+        found = sides.codes_of(([column] for column in side.columns), sort=True)[0].tolist()
         wanted = [one < other for one in keys for other in keys]
         self.assertEqual([one < other for one in found for other in found], wanted)
 
     def test_many_are_numbered_anew(self):
         far = values.Values(None, "int", np.array([0, 10**12, -10**12, 10**12, 5], np.int64))
         near = values.Values(None, "int", np.array([0, 4_000_000, 0, 4_000_001, 0], np.int64))
-        self.assertEqual(classes.together([[far]], sort=True)[0].tolist(), [1, 3, 0, 3, 2])
-        numbers, bound = classes.together([[far], [near]] * 3, sort=True)
+        self.assertEqual(sides.codes_of([[far]], sort=True)[0].tolist(), [1, 3, 0, 3, 2])
+        numbers, bound = sides.codes_of([[far], [near]] * 3, sort=True)
         self.assertEqual((numbers.tolist(), bound), ([1, 3, 0, 4, 2], 5))
 
     def test_texts_that_look_alike_do_not_meet(self):
@@ -97,14 +98,14 @@ class Classes(unittest.TestCase):
 
 
 class Rows(unittest.TestCase):
-    """What is written, beside what Python would."""
+    """The rows that are written, compared with Python's own texts."""
 
     @settings(deadline=None)
     @given(st.lists(st.tuples(
         st.integers(points.FIRST, points.NO_END - 1), st.booleans(), st.booleans(),
         st.sampled_from(NUMBERS) | st.integers(0, 30), st.sampled_from(TEXTS[:26]),
     ), max_size=30))
-    def test_each_field_stands_as_python_writes_it(self, rows):
+    def test_each_field_is_as_python_writes_it(self, rows):
         ends = [points.NO_END if is_open else start + 1 for start, _, is_open, _, _ in rows]
         starts = [start // points.DAY * points.DAY if is_day else start for start, is_day, _, _, _ in rows]
         numbers, texts = [row[3] for row in rows], [row[4] for row in rows]

@@ -39,7 +39,7 @@ class United(unittest.TestCase):
         got = ruzgalt.gaps(rows, **within)
         self.assertEqual(got.astype(str).values.tolist(), [["2024-03-05", "2024-03-07"]])
 
-    def test_months_beside_dates_are_points_that_lack_none(self):
+    def test_months_and_dates_make_points_without_gaps(self):
         months = pd.PeriodIndex(["2024-01"], freq="M")
         rows = pd.DataFrame({"from": months, "to": [datetime.date(2024, 3, 1)]})
         got = ruzgalt.gaps(rows, within=("2023-12-15", "2024-03-02T06:00:00"))
@@ -49,7 +49,7 @@ class United(unittest.TestCase):
         wanted.append(["2024-03-01 00:00:00", "2024-03-02 06:00:00"])
         self.assertEqual(got.astype(str).values.tolist(), wanted)
 
-    def test_a_time_that_is_looked_at_has_no_end(self):
+    def test_a_time_of_a_question_has_no_end(self):
         rows = frame(("2024-01-01", "2024-02-01"), ("2024-03-01", None))
         words = {"open_end": True, "within": ("2023-01-01", None)}
         got = ruzgalt.gaps(rows, **words)
@@ -103,7 +103,7 @@ class United(unittest.TestCase):
 
 class Divisions(unittest.TestCase):
     def test_each_group_has_its_own_division(self):
-        """As many groups as take several runs, beside a division of each."""
+        """More groups than one run takes, compared with a division of each group."""
         days = pd.date_range("2024-01-01", periods=400).to_series().reset_index(drop=True)
         groups = [one % 130 for one in range(400)]
         given = pd.DataFrame({"from": days, "to": days + pd.Timedelta(days=200), "k": groups})

@@ -1,4 +1,4 @@
-"""Labels and days of a store's commits: what they mean, what is refused, and the table that keeps them."""
+"""Labels and days of a store's commits: their meaning, refusals, and the table that keeps them."""
 import copy
 import datetime
 import io
@@ -89,7 +89,7 @@ class Labels(Case):
                 self.assertEqual(one.at("t", "2024-03-01", label)["n"].max(), max(place, 1), label)
             self.assertEqual(one.diary()["label"].tolist(), HOSTILE)
 
-    def test_what_is_no_label_is_refused_and_nothing_is_changed(self):
+    def test_wrong_labels_are_refused_and_nothing_is_changed(self):
         made = store(label="first")
         before = made.script()
         for label, name in NO_LABELS:
@@ -128,8 +128,8 @@ class Labels(Case):
     def test_an_unknown_one_is_refused_with_those_that_are_there(self):
         made = store()
         self.refuses(lambda: made.rows("t", "july"), "NoLabel", "label= of changes")
-        for place in range(12):
-            made.update("t", "2024-02-01", None, {"n": place}, {"k": "a"}, label=f"Payslips, week {place}")
+        for week in range(12):
+            made.update("t", "2024-02-01", None, {"n": week}, {"k": "a"}, label=f"Payslips, week {week}")
         self.refuses(lambda: made.rows("t", "payslips, week 11"), "NoLabel", "'Payslips, week 11' looks alike",
                      "and 2 more")
         self.refuses(lambda: made.at("t", "2024-02-01", "Payslip, week 5"), "NoLabel", "looks alike")
@@ -283,7 +283,7 @@ class Kept(Case):
             with self.subTest(new), self.assertWarnsRegex(ruzgalt.Doubt, f"notes: no row holds {part}"):
                 self.same(ruzgalt.Store.from_script(made, diary="notes"), day, number)
 
-    def test_what_is_no_diary_is_refused(self):
+    def test_frames_that_are_no_diary_are_refused(self):
         script = bytes(self.made().script())
         for old, new, name, word in (
             ("notes", "notes2", "NoTable", "notes"), ("newest,int", "newest,text", "WrongKind", "first column"),

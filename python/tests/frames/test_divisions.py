@@ -1,4 +1,4 @@
-"""Divisions and verdicts as objects: what they have, in the frame's own kinds, and in words."""
+"""Divisions and verdicts as objects: their attributes, in the frame's own kinds, and their texts."""
 import copy
 import datetime
 import pickle
@@ -78,7 +78,8 @@ class Divisions(unittest.TestCase):
             lambda: found["x"] + division, lambda: found[division], lambda: found.loc[division],
             lambda: found["x"].where(division), lambda: found.join(division), lambda: list(division),
             lambda: len(division), lambda: 0 in division, lambda: division[0], lambda: dict(enumerate(division)),
-            lambda: sum(division), lambda: max(division),
+            lambda: sum(division), lambda: max(division), lambda: np.array_equal(division, found["x"]),
+            lambda: np.allclose(found["x"], division), lambda: np.isin(found["x"], division),
         ]
         for place, use in enumerate(uses):
             with self.subTest(place), self.assertRaisesRegex(ruzgalt.Refused, "division.parts"):
@@ -86,9 +87,9 @@ class Divisions(unittest.TestCase):
         for name in ("tolist", "iloc", "index", "part", "values", "merge", "sum"):
             with self.subTest(name), self.assertRaisesRegex(AttributeError, "division.parts"):
                 getattr(division, name)
-        # These say in pandas' words that it is no key.
+        # pandas itself refuses a division as a key.
         self.assertRaises(KeyError, lambda: found.set_index(division))
-        # pandas 2.2 looks into it, as into a list of names.
+        # pandas 2.2 reads it like a list of names.
         self.assertRaises((TypeError, ruzgalt.Refused), lambda: found.groupby(division).sum())
         self.assertFalse(pd.api.types.is_dict_like(division))
 
@@ -108,6 +109,8 @@ class Checks(unittest.TestCase):
     def test_an_overlap_has_its_rows_their_part_and_the_time_that_they_share(self):
         checked = ruzgalt.check(self.frame, part="bed")
         self.assertEqual((bool(checked), checked.rows, checked.part), (False, ("x", "v"), 1))
+        whole = ruzgalt.check(self.frame.assign(ward=True), part=["bed", "ward"])
+        self.assertEqual(list(map(type, (checked.part, checked.count, *whole.part))), [int, int, int, bool])
         self.assertEqual((checked.start, checked.end), (FIRST[1], LAST[0]))
         self.assertEqual((checked.count, checked.least), (3, 4))
         said = "No: rows 'x' and 'v' of part 1 both hold from 2024-02-01 to 2024-03-01."
@@ -119,7 +122,7 @@ class Checks(unittest.TestCase):
         self.assertTrue(checked)
         self.assertEqual((checked.count, checked.least, checked.rows), (4, 4, ()))
         apart = frame(FIRST, FIRST + pd.Timedelta(days=3)).assign(bed=["1", "2"])
-        self.assertIn("The rows have 2 parts, and 1 are enough", repr(ruzgalt.check(apart, part="bed")))
+        self.assertIn("The rows have 2 parts, and 1 is enough", repr(ruzgalt.check(apart, part="bed")))
         self.assertTrue(ruzgalt.check(wards.iloc[:0], part="bed"))
 
     def test_it_agrees_with_pairs_that_overlap(self):
@@ -132,7 +135,7 @@ class Checks(unittest.TestCase):
                 warnings.simplefilter("ignore", ruzgalt.Doubt)
                 self.assertEqual(bool(ruzgalt.check(rows, "bed")), not len(ruzgalt.overlaps(rows, "bed")))
 
-    def test_what_is_no_part_is_refused(self):
+    def test_wrong_parts_are_refused(self):
         missing = self.frame.assign(bed=pd.array([1, pd.NA, 2, 3], "Int64"))
         for given, part in ((self.frame, None), (self.frame, "room"), (missing, "bed"), (self.frame["bed"], "bed")):
             with self.assertRaises(ruzgalt.Refused):

@@ -20,7 +20,7 @@ from manual.numpydoc import Docstring  # noqa: E402
 SUBJECTS = dict(api.subjects())
 SECTIONS = ("Parameters", "Returns", "Raises", "Warns", "Examples")
 CALLS = {name: subject for name, subject in SUBJECTS.items() if inspect.isroutine(subject)}
-# Those that mean one thing wherever they are of one kind, but in a store's table, which keeps them.
+# Parameters whose description is the same in all calls, except for a store's table, which keeps them.
 OPTIONS = ("period", "right_period", "open_end", "last_day", "as_of", "function", "column", "by")
 
 
@@ -48,7 +48,7 @@ class Docstrings(unittest.TestCase):
             with self.subTest(name):
                 self.run_example(name, of_methods if name.startswith("Store.") else dict(first))
 
-    def test_they_have_each_parameter_and_what_is_answered(self):
+    def test_they_have_each_parameter_and_the_answer(self):
         for name, call in CALLS.items():
             with self.subTest(name):
                 found = Docstring(call)

@@ -1,4 +1,4 @@
-"""What may not be meant is warned of, as of the line that asks; what is as it should be isn't."""
+"""Possible mistakes are warned of, with the line of the call; correct calls aren't."""
 import datetime
 import unittest
 import warnings
@@ -8,7 +8,8 @@ import numpy as np
 import pandas as pd
 
 import ruzgalt
-from ruzgalt.frames import doubts, errors
+from ruzgalt.convert import errors
+from ruzgalt.frames import doubts
 
 DAYS = pd.to_datetime
 HALVES = ["2024-01-01", "2024-07-01"]
@@ -22,7 +23,7 @@ def pay(persons=("Hill", "Byron"), **cells):
 
 
 def years(last):
-    """Two years of one person's rows, which end on a last day or on the day behind it."""
+    """Two years of one person's rows, which end on a last day or on the day after it."""
     ends = ["2023-12-31", "2024-12-31"] if last else ["2024-01-01", "2025-01-01"]
     return pay(["Hill", "Hill"], **{"from": DAYS(["2023-01-01", "2024-01-01"]), "to": DAYS(ends)})
 
@@ -60,7 +61,12 @@ class Doubts(unittest.TestCase):
         self.warns(lambda: ruzgalt.join(left, right, on="person"), "'person'", "'Ada' and '11'", "columns to compare")
         one, other = (pay(numbers) for numbers in ([1, 2, 3], [4, 5, 6]))
         self.warns(lambda: ruzgalt.anti(one, other, on="person"), "1 and 4")
-        self.assertEqual(self.reported(lambda: ruzgalt.join(left, right.iloc[:2], on="person")), [])
+        self.warns(lambda: ruzgalt.join(left.iloc[:2], right.iloc[:2], on="person"), "'Ada' and '11'")
+        self.assertEqual(self.reported(lambda: ruzgalt.join(left, right.iloc[:1], on="person")), [])
+        left, right = left.assign(year=[1, 1, 2]), left.assign(year=[2, 2, 1])
+        on = ["person", "year"]
+        self.warns(lambda: ruzgalt.join(left, right, on=on), "('Ada', 1) and ('Ada', 2)", "in this order")
+        self.assertEqual(self.reported(lambda: ruzgalt.join(left, left.iloc[1:], on=on)), [])
         self.assertEqual(self.reported(lambda: ruzgalt.join(left, left.iloc[2:], on="person")), [])
 
     def test_blank_keys_that_match(self):
@@ -81,7 +87,7 @@ class Doubts(unittest.TestCase):
         floats, whole = (pay(pd.Series([1, 20], dtype=dtype).astype(str)) for dtype in ("float64", "int64"))
         self.warns(lambda: ruzgalt.anti(floats, whole, on="person"), "'1.0' and '1'", ".str.removesuffix('.0')")
         self.warns(lambda: ruzgalt.join(whole, floats, on="person"), "'1' and '1.0'")
-        halves = pay(["1.5", "2.50"])
+        halves = pay(["1.5", "2.50", "20"])
         self.assertEqual(self.reported(lambda: ruzgalt.join(halves, whole, on="person")), [])
 
     def test_texts_that_stand_for_no_value_elsewhere(self):
@@ -119,7 +125,7 @@ class Doubts(unittest.TestCase):
         self.assertEqual(self.reported(lambda: ruzgalt.join(right, right, **on)), [])
 
     def test_last_days_within_months_without_a_key(self):
-        """Where no two rows share a point they are looked at as those of one key; of groups those of a group are."""
+        """Rows that share no point are checked like rows of one key; grouped rows are checked group by group."""
         starts = DAYS(["2024-01-01", "2024-01-16", "2024-02-11"])
         ends = DAYS(["2024-01-15", "2024-02-10", "2024-03-20"])
         wrong = pay(["Hill"] * 3, **{"from": starts, "to": ends})
@@ -144,7 +150,7 @@ class Doubts(unittest.TestCase):
         self.assertEqual(self.reported(lambda: ruzgalt.dip(last)), [])
 
     def test_ends_that_are_far_off(self):
-        """As databases have them for no end; 9999-12-31 is no end."""
+        """Databases write such days for no end; 9999-12-31 is read as no end."""
         far = pay(to=DAYS(["2024-07-01", "2199-12-31"]))
         made = lambda rows: ruzgalt.Store().table("t", rows)  # noqa: E731
         for call in (ruzgalt.dip, lambda rows: ruzgalt.anti(pay(), rows, on="person"), made):
@@ -164,7 +170,7 @@ class Doubts(unittest.TestCase):
         self.assertEqual(self.reported(lambda: ruzgalt.join(rows, rows, on="person")), [])
 
     def test_a_change_of_no_row_says_which_it_is(self):
-        """Of a batch the line is that of all its changes."""
+        """In a batch, the warning has the line of the batch."""
         store = ruzgalt.Store()
         store.table("t", pay())
 
@@ -176,7 +182,7 @@ class Doubts(unittest.TestCase):
         self.warns(changes, "update of t where person is 'Byron\\xa0' and cents is '1': no row of that time matches")
 
     def test_rows_of_a_day_each_day_by_day(self):
-        """As a diary's, whose entry holds until the next one: an end on which another row starts is no last day."""
+        """A diary's entry holds until the next one begins: an end on which another row starts isn't a last day."""
         starts = DAYS("2024-01-29") + pd.to_timedelta(np.arange(5), unit="D")
         rows = pay(["Hill"] * 5, **{"from": starts, "to": starts + pd.Timedelta(days=1)})
         for call in (lambda rows: ruzgalt.agg(rows, "count", by="person"), ruzgalt.dip):
@@ -187,10 +193,10 @@ class Doubts(unittest.TestCase):
             store.table(f"t{cents}", rows, key=["person"], day=day, label=f"entry {cents}")
         self.assertEqual(self.reported(lambda: store.table("diary", store.diary())), [])
 
-    def test_many_rows_are_looked_at_by_some_of_their_keys(self):
+    def test_many_rows_are_checked_by_some_of_their_keys(self):
         count = 20_000
         wrong = pd.concat([years(last=True).assign(person=f"p{place}") for place in range(2)] * (count // 4))
-        wrong["person"] = [f"p{place // 2}" for place in range(count)]
+        wrong["person"] = [f"p{number // 2}" for number in range(count)]
         self.warns(lambda: ruzgalt.join(wrong, wrong.iloc[:0], on="person"), "start on the day after it")
 
     def test_decimals_of_no_column(self):
@@ -207,16 +213,26 @@ class Doubts(unittest.TestCase):
         for call in (ruzgalt.join, ruzgalt.anti):
             self.warns(lambda: call(left, right), "both frames have 'person'", "on='person'", "on=[] for none")
             self.assertEqual(self.reported(lambda: call(left, right, on=[])), [])
-            self.assertEqual(self.reported(lambda: call(left, pay())), [])
+            self.warns(lambda: call(left, pay()), "'person', 'cents', which aren't", "on=['person', 'cents']")
+            self.assertEqual(self.reported(lambda: call(left, right.rename(columns={"person": "who"}))), [])
+
+    def test_a_time_whose_end_looks_like_a_last_day(self):
+        rows, words = pay(), {"amount": "per month", "within": ("2024-01-01", "2024-06-30")}
+        for asked in (lambda: ruzgalt.during(rows, "2024-06-01", "2024-06-30"),
+                      lambda: ruzgalt.spread(rows, "cents", **words),
+                      lambda: ruzgalt.gaps(rows, within=("2024-01-01", "2024-12-31"))):
+            self.warns(asked, "a month's last day", "the day after it")
+        for start, end in (("2024-01-01", "2024-07-01"), ("2024-01-05", "2024-06-30"), ("2024-06-01", None)):
+            self.assertEqual(self.reported(lambda: ruzgalt.during(rows, start, end)), [])
 
     def test_a_common_column_of_a_name_that_on_takes_in_a_list(self):
         for name in (None, ("person", "name")):
             left, right = (pay().rename(columns={"person": name, "cents": other}) for other in ("cents", "euros"))
-            self.warns(lambda: ruzgalt.anti(left, right), f"on=[{name!r}] to compare it")
+            self.warns(lambda: ruzgalt.anti(left, right), f"on=[{name!r}] to compare")
             self.assertEqual(len(ruzgalt.join(left, right, on=[name])), 2)
 
-    def test_a_million_keys_are_looked_at_no_longer_than_a_run_takes(self):
-        """Those that are looked at are counted, since a time would be of this machine."""
+    def test_a_million_keys_are_checked_no_longer_than_a_run_takes(self):
+        """The test counts the keys that are compared, since times depend on the machine."""
         count = doubts.MOST_TEXTS + 10
         left, right = (pay([f"{mark}{place}" for place in range(count)]) for mark in "pq")
         with mock.patch.object(doubts, "folds", side_effect=doubts.folds) as folded:

@@ -1,4 +1,4 @@
-"""examples/frames.py: each of its cells prints what stands below it, behind # |, and nothing is warned of."""
+"""examples/frames.py: each cell prints the lines below it that begin with # |, and nothing is warned of."""
 import contextlib
 import io
 import unittest
@@ -12,7 +12,7 @@ CELL, OUTPUT = "# %%", "# |"
 
 
 def cells():
-    """The notebook's cells: the lines of each, and what it is said to print."""
+    """Yields the lines of each cell of the notebook, and the output that it should print."""
     first, *others = NOTEBOOK.read_text(encoding="utf-8").split(f"\n{CELL}")
     for text in others:
         lines = f"{CELL}{text}".splitlines()
@@ -21,7 +21,7 @@ def cells():
 
 
 class Examples(unittest.TestCase):
-    def test_each_cell_prints_what_stands_below_it(self):
+    def test_each_cell_prints_the_lines_below_it(self):
         names = {"__file__": str(NOTEBOOK)}
         found = list(cells())
         with pd.option_context("display.width", 120, "display.max_columns", None), warnings.catch_warnings():

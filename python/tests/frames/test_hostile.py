@@ -131,7 +131,7 @@ class Hostile(unittest.TestCase):
         self.are_fewest(rows)
 
     def are_fewest(self, rows):
-        """Of a group's rows no two of a part hold on one day, and on some day as many hold as there are parts."""
+        """In a group, rows of one part share no day, and on some day the number of rows equals the number of parts."""
         for group in {group for group, _, _ in rows}:
             own = [(period, part) for key, period, part in rows if key == group]
             held = [[part for (start, end), part in own if start <= day < end] for day in range(by_rows.OPEN)]

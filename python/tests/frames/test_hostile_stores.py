@@ -1,7 +1,7 @@
-"""Random stores with names that answers have themselves, and wrong calls, beside plain_store.
+"""Random stores with names that answers also have, and wrong calls, compared with plain_store.
 
-Each call answers exactly that or raises Refused, and nothing else. hypothesis draws the calls, and makes few what
-fails; FRAMES_HOSTILE is how many examples a test of frames has, and a tenth of it are stores.
+Each call gives exactly the same answer or raises Refused. hypothesis draws the calls, and shortens failing
+ones; FRAMES_HOSTILE is how many examples a test of frames has, and a tenth of it are stores.
 """
 import copy
 import importlib.util
@@ -110,12 +110,10 @@ class Stores(stateful.RuleBasedStateMachine):
                 for _ in range(count):
                     name, form = self.some_table(data)
                     rows = data.draw(hostile.rows_of(form))
-                    assert self.store.load(name, form.frame(rows)) is None
                     done.append(plain.load(name, rows))
+                    assert self.store.load(name, form.frame(rows)) is None
                     wanted = plain_store.rows(form.plain, plain.tables[name].shown(plain.newest))
-                    self.is_as(form, lambda: self.store.rows(name), REFUSED if REFUSED in done else wanted)
-                    if REFUSED in done:
-                        break
+                    self.is_as(form, lambda: self.store.rows(name), wanted)
         except ruzgalt.Refused:
             assert REFUSED in done, done
         else:
@@ -135,7 +133,7 @@ class Stores(stateful.RuleBasedStateMachine):
         return self.plain.tables[name].shown(self.plain.newest if as_of is None else as_of)
 
     def is_as(self, form, call, wanted, start=1):
-        """Whether the frame is as wanted; start is the place of its starts, behind which its ends are."""
+        """Tests that the frame is as wanted; start is the index of its starts, and the ends follow them."""
         got = outcome(call)
         if wanted is REFUSED or got is REFUSED:
             assert wanted is got, (wanted, got)
@@ -149,7 +147,7 @@ class Stores(stateful.RuleBasedStateMachine):
 
     @staticmethod
     def cell(cell):
-        """A missing one is None; a whole number beside such is a float, which is equal to it."""
+        """A missing cell is None. Whole numbers in its column are floats, which are equal to them."""
         return None if cell is pd.NA or cell != cell else cell
 
     @precondition(lambda self: self.forms)
@@ -174,7 +172,7 @@ class Stores(stateful.RuleBasedStateMachine):
                    plain_store.versions(table, first, first + more))
 
     def days_of(self, form, got, names):
-        """How often each day of a change stands in a frame of changes, which has these names."""
+        """How often a frame of changes, with these names, has each day of a change."""
         assert list(map(repr, got)) == list(map(repr, plain_store.apart(names))), list(got)
         place, found = names.index("change"), Counter()
         for row in got.itertuples(index=False, name=None):
@@ -207,7 +205,7 @@ class Stores(stateful.RuleBasedStateMachine):
         words = {"on": [a for a, _ in pairs]} if is_on else {"left_on": [a for a, _ in pairs],
                                                              "right_on": [b for _, b in pairs]}
         sides = [(form.plain, self.shown(name, as_of)) for name, form in ((left, one), (right, other))]
-        wanted = plain_store.join(sides, pairs, [b for _, b in pairs] if is_on else [], suffixes, how)
+        wanted = plain_store.join(sides, pairs, [a for a, b in pairs if a == b], suffixes, how)
         self.is_as(one, lambda: self.store.join(left, right, suffixes=suffixes, as_of=as_of, how=how, **words), wanted,
                    0)
         self.is_as(one, lambda: self.store.anti(left, right, as_of=as_of, **words), plain_store.anti(sides, pairs))
@@ -286,7 +284,7 @@ class Stores(stateful.RuleBasedStateMachine):
         }
         self.refuses(wrong[data.draw(st.sampled_from(sorted(wrong)))])
 
-    # What holds behind each step.
+    # These hold after each step.
 
     @invariant()
     def log_is_the_same(self):

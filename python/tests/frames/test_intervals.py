@@ -1,4 +1,4 @@
-"""Periods that are a column of intervals, or a level of the index: each call is as that with two columns is."""
+"""Periods in a column of intervals or in a level of the index: each call answers as with two columns."""
 import importlib.util
 import unittest
 
@@ -21,7 +21,7 @@ def frame(seed, count=12, zone=None):
 
 
 def spanned(pairs):
-    """The two columns of each row as an interval, in place of the first."""
+    """Replaces the two columns of a period by one column of intervals."""
     made = pairs.copy()
     place = list(made).index("from")
     made.insert(place, "span", pd.arrays.IntervalArray.from_arrays(made.pop("from"), made.pop("to"), **CLOSED))

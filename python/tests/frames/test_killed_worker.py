@@ -40,7 +40,7 @@ def piece(seed, seconds=0.0):
 
 
 def spread(first):
-    """A frame whose pieces take so long that a worker is killed in their midst."""
+    """A frame whose partitions take time, so that a worker is killed during one."""
     pieces = [dask.delayed(piece)(first + place, 0.3) for place in range(PIECES)]
     return dd.from_delayed(pieces, meta=piece(0).iloc[:0])
 

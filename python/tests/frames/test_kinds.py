@@ -21,7 +21,7 @@ def frame(rows, cells, dtype=None, name="k"):
 
 
 def pairs(left, right):
-    """Places of the rows that meet, by rows."""
+    """Start, end, and the indices of each pair of rows that match, sorted."""
     return sorted(
         (max(one[0], two[0]), min(one[1], two[1]), row, other)
         for row, one in enumerate(left) for other, two in enumerate(right)
@@ -96,7 +96,7 @@ class Bools(unittest.TestCase):
             store.table("t", days)
             answers = [
                 ruzgalt.agg(days, "count", by="k"), ruzgalt.coalesce(days, "k"),
-                ruzgalt.gaps(days, "k", within=(BEGIN, BEGIN + 90 * DAY)),
+                ruzgalt.gaps(days, "k", within=(BEGIN, BEGIN + 100 * DAY)),
                 ruzgalt.spread(days, "n", amount="per day", by="k"),
                 ruzgalt.dip(days, "k").count.index.to_frame(name="k"), store.agg("t", "count", by="k"),
                 store.agg("t", "sum", "n", by=["k"]), store.agg("t", {"n": ["sum", "max"]}, by="k"),
@@ -108,7 +108,7 @@ class Bools(unittest.TestCase):
             store.update("t", BEGIN, None, {"k": values[0] * 7}, {"k": values[0]})
             self.assertEqual(store.agg("t", "count", by="k")["k"].unique().tolist(), [*values[1:], values[0] * 7])
 
-    def test_what_is_missing_is_refused_where_it_is_compared_alone(self):
+    def test_missing_cells_are_refused_only_in_compared_columns(self):
         cells = [True, None, True, False]
         for dtype in ("boolean", "category", object):
             with self.subTest(dtype), self.assertRaises(ruzgalt.Refused) as caught:

@@ -25,7 +25,7 @@ def in_index(frame, *names):
 
 class Levels(unittest.TestCase):
     def is_same(self, got, wanted):
-        """Equal but for the order of columns."""
+        """Tests that both are equal, except for the order of columns."""
         self.assertEqual(sorted(got), sorted(wanted))
         pd.testing.assert_frame_equal(got[list(wanted)], wanted)
 
@@ -43,9 +43,8 @@ class Levels(unittest.TestCase):
     def test_each_side_may_have_its_own(self):
         right = in_index(RIGHT.rename(columns={"k": "who"}), "who")
         got = labels.join(in_index(LEFT, "k"), right, left_on="k", right_on="who")
-        wanted = ruzgalt.join(LEFT, RIGHT, left_on="k", right_on="k")
-        self.assertEqual(got["k"].tolist(), wanted["k_left"].tolist())
-        self.assertEqual(got["who"].tolist(), wanted["k_right"].tolist())
+        wanted = ruzgalt.join(LEFT, right.reset_index(), left_on="k", right_on="who")
+        self.assertEqual(got[["k", "who"]].values.tolist(), wanted[["k", "who"]].values.tolist())
         self.assertEqual(got["left_label"].tolist(), got["k"].tolist())
 
     def test_an_anti_join_keeps_the_index(self):

@@ -1,4 +1,4 @@
-"""The library: what is said if it isn't there, is another one or has too little memory, and calls by many threads."""
+"""The library: messages if it is missing, another version or without memory, and calls by many threads."""
 import doctest
 import os
 import subprocess
@@ -19,7 +19,7 @@ from ruzgalt.kernel import library
 from ruzgalt.kernel.library import Rows
 
 FRAME = pd.DataFrame({"from": pd.to_datetime(["2024-01-01"]), "to": pd.to_datetime(["2024-02-01"]), "k": [1]})
-# Calls with so many MB for arrays of the answer, and too few for what the library needs besides.
+# Calls with the MB that they get: enough for the arrays of the answer, too few for the library's own work.
 HUNGRY = """
 import resource
 from pathlib import Path

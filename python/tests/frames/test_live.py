@@ -1,4 +1,4 @@
-"""The program that a store keeps: when it starts and ends, what is done if it is killed, and where answers end."""
+"""The program that a store keeps: when it starts and ends, the store after it is killed, and where answers end."""
 import copy
 import gc
 import os
@@ -112,6 +112,23 @@ class Lives(unittest.TestCase):
         thread.join()
         self.assertEqual(self.made.rows("t", as_of="whole")["cents"].tolist().count(5), 1)
 
+    def test_a_fork_within_a_batch_has_the_store_as_it_was_and_ends_the_batch(self):
+        before, child = self.made.script(), None
+        try:
+            with self.made.batch(label="whole"):
+                update(self.made, 5)
+                child = os.fork()
+                if not child:
+                    refused = self.assertRaisesRegex(ruzgalt.Refused, "forked within a batch", update, self.made, 6)
+                    is_right = refused is None and len(self.made.rows("t")) == 2 and self.made.script() == before
+        except BaseException as error:
+            if child:
+                raise
+            is_right = is_right and "forked within a batch" in str(error) and update(self.made, 6).commit == 3
+            os._exit(0 if is_right else 1)
+        self.assertEqual(os.waitpid(child, 0)[1], 0)
+        self.assertEqual(self.made.rows("t", as_of="whole")["cents"].tolist().count(5), 1)
+
     def test_a_refused_batch_leaves_no_trace(self):
         before, rows = self.made.script(), self.made.rows("t")
         for wrong in (lambda: self.made.load("t", frame(cents=[3, 4])), lambda: self.made.rows("t", as_of=99)):
@@ -160,7 +177,7 @@ class Lives(unittest.TestCase):
 
 
 class Counts(unittest.TestCase):
-    def test_past_some_commits_counts_are_asked_for_when_they_are_looked_at(self):
+    def test_past_some_commits_counts_are_asked_for_when_they_are_read(self):
         made = store(frame(cents=[1, 2]), key="k")
         with mock.patch.object(stores, "COUNTED", 2), mock.patch.object(live.Live, "exchange", autospec=True,
                                                                         side_effect=live.Live.exchange) as exchange:
@@ -178,7 +195,7 @@ def in_a_batch(made):
 
 
 class Faults(unittest.TestCase):
-    """What is said if there is no program, or it ends badly."""
+    """Messages if the program is missing or ends badly."""
 
     def setUp(self):
         folder = tempfile.TemporaryDirectory(prefix="frames-")

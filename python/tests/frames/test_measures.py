@@ -1,4 +1,4 @@
-"""Several measures at once: beside days counted one by one, of numbers up to the ends of 64 bits and sums past them."""
+"""Several measures at once, compared with days counted one by one; numbers fill 64 bits, and sums exceed them."""
 import importlib.util
 import itertools
 import os
@@ -8,10 +8,10 @@ from fractions import Fraction
 
 import numpy as np
 
+from ruzgalt.convert.arrays import narrowed, of_objects
+from ruzgalt.convert.values import Texts, Values
 from ruzgalt.frames import measures
-from ruzgalt.frames.arrays import narrowed, of_objects
 from ruzgalt.frames.measures import Measure
-from ruzgalt.frames.values import Texts, Values
 
 if not importlib.util.find_spec("hypothesis"):
     raise unittest.SkipTest("hypothesis isn't here: apt-get install python3-hypothesis")

@@ -1,6 +1,6 @@
 """Periods of weeks, months, quarters and years: a start is its first day, an end is all of it.
 
-What is wanted is computed month by month in plain Python.
+The wanted answers are computed month by month in plain Python.
 """
 import datetime
 import unittest
@@ -11,12 +11,12 @@ import pandas as pd
 import labels
 import ruzgalt
 
-# The first month; of a quarter and a year so many.
+# The first year, and the number of months in a month, a quarter and a year.
 YEAR, MONTHS = 2023, {"M": 1, "Q": 3, "Y": 12}
 
 
 def frame(rows, freq, names=("from", "to")):
-    """Rows of numbers of periods from the beginning of 2023 on; None is no end."""
+    """Rows of numbers of periods from the beginning of 2023 on; None means no end."""
     first = pd.Period(year=YEAR, month=1, day=1, freq=freq)
     columns = {name: [pd.NaT if row[place] is None else first + row[place] for row in rows]
                for place, name in enumerate(names)}
@@ -26,7 +26,7 @@ def frame(rows, freq, names=("from", "to")):
 
 
 def number(point):
-    """Of a cell, how many periods it is behind the first one; None for no end."""
+    """The number of periods from the first one to a cell; None means no end."""
     if point is pd.NaT:
         return None
     return point.ordinal - pd.Period(year=YEAR, month=1, day=1, freq=point.freq).ordinal
@@ -40,7 +40,7 @@ def joined(left, right):
 
 
 def runs(held):
-    """First and last place, and value, of each longest run of one value, where there is one."""
+    """First and last index, and value, of each longest run of one value; 0 and None aren't values."""
     found = []
     for place, value in enumerate(held):
         if value and found and found[-1][1:] == [place - 1, value]:
@@ -89,7 +89,7 @@ class Months(unittest.TestCase):
         self.assertEqual(len(got), 1)
         self.assertEqual(ruzgalt.dip(one).instant, one["from"][0])
 
-    def test_a_month_beside_a_quarter_comes_as_points(self):
+    def test_a_month_and_a_quarter_make_points(self):
         got = ruzgalt.join(frame([(1, 6, "a")], "M"), frame([(0, 1, "a")], "Q"), on="k")
         self.assertEqual([str(got[name][0]) for name in ("from", "to")], ["2023-02-01 00:00:00", "2023-07-01 00:00:00"])
 

@@ -1,4 +1,4 @@
-"""What may be given to a call: each option is taken in its types, and in others refused by its name."""
+"""Options of calls: each is accepted in its types, and refused by name in others."""
 import functools
 import inspect
 import unittest
@@ -59,7 +59,7 @@ class Types(unittest.TestCase):
                 if name in inspect.signature(ruzgalt.anti).parameters:
                     self.refuses((name, value), lambda: ruzgalt.anti(FRAME, FRAME, **words), start)
 
-    def test_what_is_no_frame_is_refused(self):
+    def test_other_things_than_frames_are_refused(self):
         for one in NO_FRAMES:
             self.refuses(one, lambda: ruzgalt.join(one, FRAME, on="k"), "left=")
             self.refuses(one, lambda: ruzgalt.anti(FRAME, one, on="k"), "right=")
@@ -89,7 +89,7 @@ class Types(unittest.TestCase):
 
 
 class Signatures(unittest.TestCase):
-    def test_each_option_is_a_keyword_that_is_looked_at(self):
+    def test_each_option_is_a_keyword_that_is_checked(self):
         for call in (*CALLS, ruzgalt.join, ruzgalt.anti, ruzgalt.agg, ruzgalt.dip):
             with self.subTest(call):
                 kinds = {name: one.kind for name, one in inspect.signature(call).parameters.items()}
@@ -146,7 +146,7 @@ class Suffixes(unittest.TestCase):
         self.assertEqual(list(ruzgalt.agg(tuples, "count", by=np.int64(2)).columns), [2, "from", "to", "count"])
         got = ruzgalt.join(tuples, tuples, on=np.int64(2))
         self.assertEqual(list(got.columns)[2:], [2, "('a', 1)_left", "('a', 1)_right"])
-        # Of 0, 1 and None alone pandas makes floats.
+        # Without dtype=object, pandas makes floats of 0, 1 and None.
         numbers = FRAME.drop(columns="x").set_axis(pd.Index([0, 1, None], dtype=object), axis=1)
         self.assertEqual(list(ruzgalt.join(numbers, numbers, on=[None], period=(0, 1)).columns), [0, 1, None])
         levels = FRAME.set_axis(pd.MultiIndex.from_product([["a", "b"], ["x", "y"]]), axis=1)

@@ -26,13 +26,13 @@ FORMS = [{}, {"open_end": True}, {"last_day": True}, {"open_end": True, "last_da
 
 
 def frame(**cells):
-    """Two rows of January 2024, one behind the other."""
+    """Two rows of January 2024, one after the other."""
     days = pd.to_datetime(["2024-01-01", "2024-01-15", "2024-02-01"])
     return pd.DataFrame({"from": days[:2], "to": days[1:], **cells})
 
 
 def becomes(end, words):
-    """What comes of an end."""
+    """How a call reads an end."""
     one = pd.DataFrame({"from": [FIRST], "to": pd.Series([end], dtype=object)})
     try:
         [found] = ruzgalt.agg(one, "count", **words)["to"]

@@ -1,4 +1,4 @@
-"""What commits changed of a store, and what is different between two of them, beside tools/answers."""
+"""Changes of commits, and differences between two commits, compared with tools/answers."""
 import csv
 import io
 import subprocess
@@ -17,7 +17,7 @@ DAY = pd.to_datetime
 
 
 def store():
-    """Commits 2 to 8 have days, but for 4 and 8; of the table t."""
+    """Some commits have days and labels."""
     made = ruzgalt.Store()
     first = pd.DataFrame({"from": DAY(["2024-01-01", "2024-03-01"]), "to": DAY(["2025-01-01", "2024-10-01"]),
                           "Löhne €": ["a,b", 'x"y'], "change": [5, -7]})
@@ -102,7 +102,7 @@ class Past(unittest.TestCase):
         for text in texts_of_t:
             self.assertEqual(made.history("t", {"k": text})["k"].tolist(), [text])
 
-    def test_what_is_refused(self):
+    def test_refusals(self):
         made, bare = store(), ruzgalt.Store()
         bare.table("t", store().rows("t")[["from", "to"]])
         self.refuses(lambda: bare.history("t", retroactive=True), "NoDay", "day=")

@@ -8,9 +8,9 @@ import pandas as pd
 
 import ruzgalt
 from random_frames import period
-from ruzgalt.frames import points, values
-from ruzgalt.store import answers
-from ruzgalt.frames.kinds import Kind, joint_kind
+from ruzgalt.convert import points, values
+from ruzgalt.convert.kinds import Kind, joint_kind
+from ruzgalt.store import live as answers
 
 FIRST, LAST = datetime.datetime(1, 1, 1), datetime.datetime(9999, 12, 31, 23, 59, 59)
 
@@ -19,7 +19,7 @@ def objects(*cells):
     return pd.Series(cells, dtype=object)
 
 
-# A column for each kind, the edges of what it holds in it.
+# A column for each kind, with the first and last points that it can hold.
 EDGES = {
     "ns": pd.Series(pd.to_datetime(["1677-09-21T00:12:44", "1969-12-31T23:59:59", "2262-04-11T23:47:16"])),
     "D": pd.Series(pd.PeriodIndex([period("D", FIRST), period("D", LAST)])),
@@ -85,7 +85,7 @@ class Points(unittest.TestCase):
         self.assertEqual(got["count"].tolist(), [1, 2, 1])
 
     def test_the_last_days_of_time(self):
-        """Each end of a last day or not, of open ends or not, beside what comes back of it; None is refused."""
+        """cases: options, an end, and the end of the answer; None means that the call is refused."""
         last, before = LAST.date(), LAST.date() - datetime.timedelta(days=1)
         cases = [
             ({}, last, last), ({}, before, before), (LAST_DAYS, last, None), (LAST_DAYS, before, before),
@@ -157,7 +157,7 @@ class Values(unittest.TestCase):
         self.assertEqual(values.hashes([numbers, texts]).tolist(), HASHES[1])
 
 
-# Of the numbers alone, and of the numbers and texts.
+# Hashes of the numbers, and of the numbers with the texts.
 HASHES = (
     [1334179124670777289, 3430018290024, 16439502010042732672],
     [2652819786939546221, 4178123441092857458, 2584735395268284661],

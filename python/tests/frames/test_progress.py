@@ -1,4 +1,4 @@
-"""How far a call is: where a line is shown, what it says, and that nothing of it stays."""
+"""Progress of calls: where a line is shown, its text, and that nothing of it remains."""
 import contextlib
 import importlib.util
 import io
@@ -8,6 +8,7 @@ import sys
 import time
 import unittest
 import warnings
+from importlib import import_module
 from unittest import mock
 
 import pandas as pd
@@ -35,7 +36,7 @@ class Watched(unittest.TestCase):
         self.addCleanup(self.show_tqdm)
 
     def show_tqdm(self, is_there=True):
-        """Whether it can be imported. No other module is forgotten, as by patch.dict those that come meanwhile."""
+        """Sets whether tqdm can be imported. patch.dict would forget other modules that are imported meanwhile."""
         for name in ("tqdm", "tqdm.auto"):
             sys.modules.pop(name, None)
             if not is_there:
@@ -112,7 +113,7 @@ class Calls(Watched):
             ruzgalt.agg(FRAME.assign(to=None), "count")
         self.assertEqual((self.said.getvalue()[-4:], Progress.begun), ("\r\033[K" * bool(self.said.getvalue()), []))
 
-    def test_a_doubt_stands_on_a_line_of_its_own(self):
+    def test_a_doubt_has_a_line_of_its_own(self):
         others = FRAME.assign(k=FRAME["k"].str.upper())
         with warnings.catch_warnings():
             warnings.simplefilter("always", ruzgalt.Doubt)
@@ -136,7 +137,7 @@ class Calls(Watched):
 
 class Terminals(unittest.TestCase):
     def test_one_is_known_by_its_number_too(self):
-        """What says so of itself alone is IDLE's; a closed stream is none, nor is one that isn't there."""
+        """IDLE's stream says that it is a terminal but has no number; a closed or missing stream isn't a terminal."""
         said, closed = io.StringIO(), io.StringIO()
         closed.close()
         ours, theirs = os.openpty()
@@ -149,6 +150,11 @@ class Terminals(unittest.TestCase):
 
 @unittest.skipUnless(importlib.util.find_spec("dask"), "Dask isn't here: apt-get install python3-dask")
 class Partitions(Watched):
+    @classmethod
+    def setUpClass(cls):
+        # Newer versions warn on standard error when they are imported.
+        import_module("dask.dataframe")
+
     def test_calls_of_dask_show_nothing(self):
         import dask.dataframe as dd
         with self.slow(is_shown=False):

@@ -1,4 +1,4 @@
-"""Raises of a store beside what each row comes to."""
+"""Raises of a store, compared with the amount of each row."""
 import unittest
 from decimal import ROUND_HALF_UP, Decimal
 from random import Random
@@ -19,7 +19,7 @@ def store_of(**cells):
 
 class Raises(unittest.TestCase):
     def test_each_row_is_raised_once(self):
-        """Also where one amount comes to another one that is there."""
+        """Also if the new amount of one row is the old amount of another."""
         random = Random(1)
         for percent in ("2.5", "100", "-50", "-3.25"):
             amounts = [random.choice([-200, -100, -50, 0, 25, 50, 100, 200, 400, 401]) for _ in range(20)]
@@ -50,7 +50,7 @@ class Raises(unittest.TestCase):
         store.raise_by("pay", "hours", 20, "2024-03-01")
         self.assertEqual(store.at("pay", "2024-03-01")[["Löhne €", "hours"]].values.tolist(), [[102, 1.5]])
 
-    def test_what_is_refused_changes_nothing(self):
+    def test_refused_raises_change_nothing(self):
         store = store_of(cents=[101], k=["a"])
         for words in (
             {"percent": "2.5"}, {"percent": "much"}, {"percent": 0}, {"round": "nearest"}, {"column": "k"},
@@ -82,6 +82,10 @@ class Raises(unittest.TestCase):
         store.raise_by("pay", "cents", 50, "2024-08-01")
         store.raise_by("pay", "cents", 50, "2024-07-01", "2024-08-01", again=True)
         self.assertEqual(store.at("pay", "2024-07-01").sort_values("k")["cents"].tolist(), [165, 330])
+
+    def test_a_percentage_that_looks_like_a_fraction_is_doubted(self):
+        with self.assertWarnsRegex(ruzgalt.Doubt, "percent=0.025 .* 2.5 raises 1000 to 1025"):
+            store_of(cents=[1000]).raise_by("pay", "cents", 0.025, "2024-07-01", round="up")
 
     def test_a_batch_has_raises_too(self):
         store = store_of(cents=[100])

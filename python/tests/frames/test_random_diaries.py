@@ -1,4 +1,4 @@
-"""Labels and days drawn at random, beside a list of the commits that has them; and the table that keeps them."""
+"""Random labels and days, compared with a list of the commits that has them; and the table that keeps them."""
 import datetime
 import importlib.util
 import os
@@ -21,7 +21,7 @@ EXAMPLES = int(os.environ.get("FRAMES_HOSTILE", "50"))
 MANY = settings(max_examples=max(EXAMPLES // 5, 10), deadline=None, database=None, derandomize=EXAMPLES < 1000)
 FIRST = datetime.date(2024, 1, 1)
 DAYS = st.none() | st.integers(0, 9).map(lambda day: FIRST + datetime.timedelta(days=day))
-# Texts that are no labels are among them.
+# Some of these texts aren't labels.
 HOSTILE = ["a", "A", "a,b", 'a"b', " a", "a\nb", "7", "", "2024-01-03", "e\u0301"]
 LABELS = st.none() | st.sampled_from(HOSTILE) | st.text('aZ7-+ ,"\r\n\0\u00e9', min_size=1, max_size=4)
 # How many commits a change makes; a batch is a list of changes.

@@ -1,4 +1,4 @@
-"""join, anti, agg and dip of random frames beside what plainly.py computes of them."""
+"""join, anti, agg and dip of random frames, compared with plainly.py."""
 import datetime
 import os
 import unittest
@@ -15,7 +15,7 @@ from ruzgalt.frames import split
 
 PAIRS = int(os.environ.get("FRAMES_PAIRS", "40"))
 SEED = int(os.environ.get("FRAMES_SEED", "1"))
-# So many rows a table may have: mostly what it has, often so few that frames go in parts.
+# Limits for a table's rows: some are never reached, others are so low that frames go in parts.
 ROWS = [1_000_000, 1_000_000, 1, 2, 3, 5, 8, 12]
 
 
@@ -71,7 +71,7 @@ class Case:
         return {**self.common, "right_period": self.periods[1], **on}
 
     def kept(self, side, with_compared=True):
-        """The columns but for the period, and for the compared ones."""
+        """The columns except for the period and, if wanted, the compared ones."""
         left_out = [*self.periods[side], *([] if with_compared else self.names[side])]
         return [name for name in self.frames[side].columns if name not in left_out]
 
@@ -90,7 +90,7 @@ class RandomFrames(unittest.TestCase):
                 self.assertEqual([bool(pd.isna(point)) for point in column], is_open)
 
     def has_cells(self, got, frame, name, places):
-        """The cells of a frame's column at these places, with their dtype and types."""
+        """Tests that a column has the cells of a frame's column at these indices, with their dtype and types."""
         cells = frame[name].tolist()
         self.assertEqual((got.dtype, len(got)), (frame[name].dtype, len(places)))
         for one, place in zip(got.tolist(), places):

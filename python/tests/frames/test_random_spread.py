@@ -1,4 +1,4 @@
-"""Random frames by Dask, of one to seven partitions, beside one run of the whole."""
+"""Random frames of Dask with one to seven partitions, compared with one run of the whole frame."""
 import importlib.util
 import os
 import tempfile
@@ -53,7 +53,7 @@ def spread(random, frame):
     """A frame of Dask, whose partitions are of random sizes, empty ones too."""
     cuts = sorted(random.randint(0, len(frame)) for _ in range(random.randint(1, 7) - 1))
     pieces = [frame.iloc[first:last] for first, last in zip([0, *cuts], [*cuts, len(frame)])]
-    # Where pyarrow is, Dask would make texts of objects, as of dates.
+    # With pyarrow, Dask would make texts of objects such as dates.
     with dask.config.set({"dataframe.convert-string": False}):
         return dd.from_delayed([dask.delayed(piece) for piece in pieces], meta=frame.iloc[:0], verify_meta=False)
 
@@ -79,7 +79,7 @@ class Case:
         self.words = {"open_end": self.is_open}
 
     def questions(self):
-        """A name, the answer of the whole, and that of Dask, not computed yet."""
+        """Yields a name, the answer for the whole frames, and Dask's answer, not computed yet."""
         function = self.random.choice(["count", "sum", "min", "max"])
         amount = [] if function == "count" else ["euros"]
         words = self.words
@@ -233,7 +233,7 @@ class Spread(unittest.TestCase):
             self.assertEqual((caught.exception.name, caught.exception.label), ("BadPeriod", 70))
 
     def test_overlaps_are_those_of_the_whole(self):
-        """Which of two rows stands first, their places in a partition say."""
+        """Which of two rows is first depends on their positions in a partition."""
         cells = pd.concat([day_of(column(NUMBERS, "int64")).assign(x=number) for number in range(3)], ignore_index=True)
         got = ruzgalt.overlaps(dd.from_pandas(cells, npartitions=4), "k").compute(scheduler="sync")
         self.assertEqual(list(got.columns), ["from", "to", "k", "x_left", "x_right"])
@@ -262,7 +262,7 @@ class Spread(unittest.TestCase):
         self.assertFalse(ruzgalt.agg(frame, "count").known_divisions)
 
     def test_no_setting_of_dask_is_changed_while_rows_are_read(self):
-        """Nor at all, where no column has objects."""
+        """If no column has objects, no setting is changed at all."""
         days = day_of(column(NUMBERS, "int64"))
         for cells, kinds in ((days, {}), (days.assign(k=TEXTS), {"k": object})):
             seen, word = [], "dataframe.convert-string"
@@ -291,12 +291,14 @@ class Spread(unittest.TestCase):
             with self.assertRaisesRegex(ruzgalt.Refused, "'to'.*one kind of all"):
                 asked()
 
-    def test_floats_of_two_dtypes_stay_numbers_of_their_decimals(self):
-        narrow, wide = day_of(column([0.1, 0.2], "float32")), day_of(column([0.1, 0.3], "float64"))
-        left = dd.from_pandas(narrow, npartitions=2)
-        lazy = ruzgalt.join(left, wide, on="k", how="outer", decimals={"k": 1})
-        found = lazy.compute(scheduler="sync")["k"]
-        self.assertEqual((found.dtype, sorted(found)), ("float64", [0.1, 0.2, 0.3]))
+    def test_options_are_tested_before_rows_are_sent(self):
+        spread = dd.from_pandas(day_of(column(NUMBERS, "int64")), npartitions=2)
+        year = "2024-01-01", "2024-12-31"
+        for asked, said in ((lambda: ruzgalt.gaps(spread, "k", within=year), "a month's last day"),
+                            (lambda: ruzgalt.during(spread, *year), "a month's last day"),
+                            (lambda: ruzgalt.coalesce(spread, "k", decimals={"z": 2}), "which isn't a column")):
+            with self.subTest(said), self.assertWarnsRegex(ruzgalt.Doubt, said):
+                asked()
 
     def test_an_answer_is_a_frame_of_dask_as_others_are(self):
         one = day_of(column(NUMBERS, "int64"))

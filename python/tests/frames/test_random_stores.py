@@ -1,4 +1,4 @@
-"""Random stores of one table, with changes and questions, beside plainly.Store; and their scripts."""
+"""Random stores of one table, with changes and questions, compared with plainly.Store; and their scripts."""
 import copy
 import csv
 import datetime
@@ -17,7 +17,7 @@ import ruzgalt
 
 STORES = int(os.environ.get("FRAMES_STORES", "15"))
 SEED = int(os.environ.get("FRAMES_SEED", "1"))
-# Names of columns, many of which answers have themselves.
+# Names of columns. Answers have many of these names themselves.
 NAMES = ["person", "euros", "row_id", "sys_from", "sys_to", "part", "valid_from", "valid_to", "id", "commit", "row_id_"]
 EXACT = [decimal.Decimal(text) for text in ("0.1", "-2.500", "7")]
 CHANGES = ("table", "load", "update", "delete")
@@ -125,7 +125,7 @@ class Case:
         return {name: value for name, value in found.items() if random.random() < 0.4}
 
     def listed(self, frame, has_commits=False):
-        """The rows of an answer, whose columns are known by their places."""
+        """The rows of an answer; its columns are read by position."""
         ids, start, end, *others = (frame.iloc[:, place] for place in range(len(frame.columns)))
         times = [plainly.numbers(start).tolist(), plainly.numbers(end, int(self.is_last_day)).tolist()]
         commits = [[None if pd.isna(one) else int(one) for one in column] for column in others[:2 * has_commits]]
@@ -194,7 +194,7 @@ class RandomStores(unittest.TestCase):
                 rows = self.lists(case)
                 self.asks(case, rows)
                 self.divides(case, rows)
-                # A script of changes alone, a record of which each accepted one begins.
+                # A script of changes only. Each accepted change begins with its own record.
                 words = [record[0] for record in csv.reader(io.StringIO(case.store.script().decode(), newline=""))]
                 self.assertEqual([word for word in words if word in CHANGES], [one[2] for one in case.plain.log])
 

@@ -16,12 +16,12 @@ Decimal = decimal.Decimal
 
 
 def DAYS(texts):
-    """Points in several forms, of which pandas 2 takes one at a time."""
+    """Points in several formats; pandas 2 accepts only one at a time."""
     return pd.DatetimeIndex(np.array(texts, "M8[ns]"))
 
 
 def frame(**cells):
-    """Two rows, x and y, of which these columns are others."""
+    """Two rows with the labels x and y; `cells` replaces or adds columns."""
     usual = {"from": DAYS(["2024-01-01", "2024-01-02"]), "to": DAYS(["2024-02-01", "2024-02-02"]), "k": ["a", "b"]}
     return pd.DataFrame({**usual, **cells}, index=["x", "y"])
 
@@ -80,7 +80,7 @@ VALUES = [
     ("4,097 bytes", ["a", "é" * 2048 + "a"], {}, "TooLong", "y"),
     ("4,097 letters", ["a" * 4097, "a"], {}, "TooLong", "x"),
     ("half a surrogate pair", ["a", "\ud800"], {}, "BadUtf8", "y"),
-    ("half a pair beside its code", ["'\\ud800'", "\ud800"], {}, "BadUtf8", "y"),
+    ("half a pair and its code", ["'\\ud800'", "\ud800"], {}, "BadUtf8", "y"),
     ("three decimals for two", [0.1, 0.125], TWO, "BadNumber", "y"),
     ("NaN for decimals", [0.1, np.nan], TWO, "BadNumber", "y"),
     ("an infinite number", [np.inf, 1], TWO, "BadNumber", "x"),
@@ -91,8 +91,9 @@ VALUES = [
     ("a Decimal of three", objects(Decimal("1.001"), Decimal(1)), TWO, "BadNumber", "x"),
     ("a Decimal past the context", objects(Decimal(1), Decimal("1." + "0" * 30 + "1")), TWO, "BadNumber", "y"),
     ("a great Decimal", objects(Decimal(1), Decimal("92233720368547758.08")), TWO, "BadNumber", "y"),
-    ("a Decimal that is none", objects(Decimal(1), Decimal("NaN")), TWO, "BadNumber", "y"),
+    ("a Decimal of no number", objects(Decimal(1), Decimal("NaN")), TWO, "BadNumber", "y"),
 ]
+RANKS = pd.Categorical([1, 2], [2, 1], ordered=True)
 OK, EARLY = frame(), frame(to=DAYS(["2023-02-01", "2024-01-03"]))
 TIMES, ENDLESS = frame(to=DAYS(["2024-02-01T08:00:00"] * 2)), frame(to=objects(LAST, LAST))
 MANY = pd.DataFrame({"from": DAYS(["2024-01-01"] * 1_000_001), "to": DAYS(["2024-01-02"] * 1_000_001)})
@@ -104,15 +105,16 @@ CALLS = [
     ("floats compared", lambda: ruzgalt.join(frame(k=[1.0, 2.0]), frame(k=[1.0, 2.0]), on="k"), "WrongKind", "k", None),
     ("two kinds", lambda: ruzgalt.join(OK, frame(k=[1, 2]), on="k"), "WrongKind", "k", None),
     ("the right frame's end", lambda: ruzgalt.join(OK, EARLY, on="k"), "BadPeriod", "to", "x"),
-    ("left_on alone", lambda: ruzgalt.join(OK, OK, left_on="k"), "BadCommand", None, None),
+    ("left_on without right_on", lambda: ruzgalt.join(OK, OK, left_on="k"), "BadCommand", None, None),
     ("on and left_on", lambda: ruzgalt.anti(OK, OK, on="k", left_on="k"), "BadCommand", None, None),
     ("the sum of texts", lambda: ruzgalt.agg(OK, "sum", "k"), "WrongKind", "k", None),
     ("avg", lambda: ruzgalt.agg(OK, "avg", "k"), "BadCommand", None, None),
+    ("the greatest of an order", lambda: ruzgalt.agg(frame(k=RANKS), "max", "k"), "WrongKind", "k", None),
     ("a sum of nothing", lambda: ruzgalt.agg(OK, "sum"), "BadCommand", None, None),
     ("a count by count", lambda: ruzgalt.agg(frame(count=[1, 2]), "count", by="count"), "TwiceNamed", "count", None),
     ("a period of three", lambda: ruzgalt.join(OK, OK, on="k", period=("from", "to", "k")), "BadCommand", None, None),
     ("two kinds, the other way round", lambda: ruzgalt.anti(frame(k=[1, 2]), OK, on="k"), "WrongKind", "k", None),
-    ("a time beside last days", lambda: ruzgalt.join(OK, TIMES, on="k", last_day=True), "BadPoint", "to", "x"),
+    ("a time and last days", lambda: ruzgalt.join(OK, TIMES, on="k", last_day=True), "BadPoint", "to", "x"),
     ("a division of 1,000,001 rows", lambda: ruzgalt.dip(MANY), "Full", None, None),
 ]
 
@@ -143,7 +145,7 @@ class Refusals(unittest.TestCase):
         for case in CALLS:
             self.refuses(*case)
 
-    def test_a_refusal_says_what_is_there_and_what_to_do(self):
+    def test_a_refusal_says_what_was_found_and_what_to_do(self):
         floats = frame(k=[1.0, 2.0])
         cases = [
             (lambda: ruzgalt.join(OK, OK, on="z"), "the columns are ['from', 'to', 'k']"),
@@ -162,19 +164,19 @@ class Refusals(unittest.TestCase):
             ruzgalt.agg(OK.set_index("from"), "count", by="k")
         self.assertIn(".reset_index() makes it a column", caught.exception.reason)
 
-    def test_the_remedies_for_a_float_beside_an_integer_are_taken(self):
+    def test_the_remedies_for_a_float_and_an_integer_work(self):
         one, other = frame(k=[1.0, 2.0]), frame(k=[1, 2])
         whole, floats = {"k": "Int64"}, {"k": "float64"}
         self.assertEqual(len(ruzgalt.join(one.astype(whole), other.astype(whole), on="k")), 2)
         got = ruzgalt.join(one.astype(floats), other.astype(floats), on="k", decimals={"k": 2})
         self.assertEqual(got["k"].tolist(), [1.0, 2.0])
 
-    def test_missing_values_are_to_be_left_out_since_an_empty_text_meets_one(self):
+    def test_missing_values_must_be_dropped_since_an_empty_text_would_match(self):
         for cells in (["a", None], ["a", np.nan], pd.array(["a", pd.NA], "string"), pd.array([1, pd.NA], "Int64"),
                       pd.Categorical(["a", None])):
             with self.subTest(cells), self.assertRaises(ruzgalt.Refused) as caught:
                 ruzgalt.join(frame(k=cells), OK, on="k")
-            self.assertIn("rows without one match nothing; .dropna(subset=['k'])", caught.exception.reason)
+            self.assertIn("no value is given; .dropna(subset=['k'])", caught.exception.reason)
             self.assertNotIn("fillna", caught.exception.reason)
 
     def test_an_option_of_another_call_is_a_type_error(self):
@@ -182,8 +184,8 @@ class Refusals(unittest.TestCase):
         self.assertRaises(TypeError, lambda: ruzgalt.dip(OK, how="left"))
         self.assertRaises(TypeError, lambda: ruzgalt.join(OK, OK, onn="k"))
 
-    def test_what_is_said_of_decimals(self):
-        """Of a missing cell, a float, a category of floats, and a sum that the column's floats can't have."""
+    def test_refusals_of_decimals(self):
+        """A missing cell, a float, a category of floats, and a sum that the column's floats can't have."""
         agg = ruzgalt.agg
         cases = [
             (objects(Decimal(1), None), "no value"), (objects(Decimal(1), Decimal("NaN")), "no value"),
@@ -201,7 +203,7 @@ class Refusals(unittest.TestCase):
     def test_keys(self):
         good = store(OK, key=["k"])
         self.refuses("in one frame", lambda: store(frame(k=["a", "a"]), key=["k"]), "KeyOverlap", None, "y")
-        self.refuses("beside a row that is there", lambda: good.load("t", frame(k=["c", "b"])), "KeyOverlap", None, "y")
+        self.refuses("with a stored row", lambda: good.load("t", frame(k=["c", "b"])), "KeyOverlap", None, "y")
         self.refuses("by an update", lambda: good.update("t", "2024-01-01", None, {"k": "a"}), "KeyOverlap", None, None)
         self.refuses("of no column", lambda: store(OK, key=["z"]), "NoColumn", "z", None)
 

@@ -1,4 +1,4 @@
-"""at and during beside the rows by days, and of points in a time zone."""
+"""at and during, compared with the rows of each day; and points in a time zone."""
 import datetime
 import importlib.util
 import os

@@ -3,12 +3,13 @@ import importlib.util
 import os
 import unittest
 from fractions import Fraction
+from math import floor
 
 import numpy as np
 
+from ruzgalt import periods as pieces
+from ruzgalt.convert.arrays import narrowed, of_objects
 from ruzgalt.frames import amounts as shares
-from ruzgalt.frames.arrays import narrowed, of_objects
-from ruzgalt.periods import pieces, rounding
 
 if not importlib.util.find_spec("hypothesis"):
     raise unittest.SkipTest("hypothesis isn't here: apt-get install python3-hypothesis")
@@ -18,7 +19,7 @@ EXAMPLES = int(os.environ.get("FRAMES_HOSTILE", "50"))
 MANY = settings(max_examples=4 * EXAMPLES, deadline=None, database=None, derandomize=not os.environ.get("FRAMES_LONG"))
 # Seconds from the year 1 on: of the first day, of days in our time, and of the last year that there is.
 FIRSTS = [0, 738_000 * pieces.DAY, 3_651_000 * pieces.DAY]
-# Where 64 bits end: of a number, of what a month, a year of seconds, or many pieces, come to.
+# Numbers at the limits of 64 bits: as they are, or in the sum of a month, of a year of seconds, or of many pieces.
 LIMITS = [2**63 // part for part in (1, 2, 31, 366, 31 * pieces.DAY, 366 * pieces.DAY)]
 NUMBERS = [0, 1, 2**70, *LIMITS, *(limit - 1 for limit in LIMITS), *(limit + 1 for limit in LIMITS)]
 VALUES = st.integers(-3, 3) | st.sampled_from([sign * number for number in NUMBERS for sign in (1, -1)])
@@ -57,8 +58,11 @@ def by_loop(rows, each, per, is_total):
             whole[key] = whole.get(key, 0) + until[1] - until[0]
     for group in {group for group, _, _ in exact} if not is_total else ():
         keys = sorted(key for key in exact if key[0] == group)
-        parts = rounding.parted([(exact[key].numerator, exact[key].denominator) for key in keys])
-        whole.update(zip(keys, parts))
+        whole.update({key: floor(exact[key]) for key in keys})
+        missing = half_up(sum(exact[key] for key in keys)) - sum(whole[key] for key in keys)
+        # The largest remainders count one more, of equal ones the first.
+        for key in sorted(keys, key=lambda key: floor(exact[key]) - exact[key])[:missing]:
+            whole[key] += 1
     return [(*key[1:], key[0], exact[key], whole[key]) for key in sorted(exact)]
 
 

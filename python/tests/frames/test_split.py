@@ -14,7 +14,7 @@ DAY = np.timedelta64(1, "D")
 
 
 def frame(count, seed, values=1, longest=10, days=None):
-    """Rows of up to so many days, over as many days as there are rows, or over so many."""
+    """Random rows of at most `longest` days that start within `days`, by default within `count` days."""
     random = np.random.default_rng(seed)
     start = np.datetime64("2000-01-01") + random.integers(0, days or count, count) * DAY
     end = start + random.integers(1, longest + 1, count) * DAY
@@ -27,7 +27,7 @@ def days_of(first, last, count):
 
 
 def counted():
-    """The library's calls, as a context."""
+    """Records the library's calls, in a `with` block."""
     return mock.patch.object(library, "call", side_effect=library.call)
 
 

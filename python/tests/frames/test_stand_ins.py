@@ -1,4 +1,4 @@
-"""Missing cells in a store, for which a value stands that no cell has; or they are refused with both remedies."""
+"""Missing cells in a store. A stand-in, which no other cell has, is stored; or the refusal names both remedies."""
 import decimal
 import pickle
 import unittest
@@ -9,7 +9,7 @@ import pandas as pd
 import ruzgalt
 
 DAYS = pd.to_datetime
-# Of each kind cells of which some are missing, what stands for these, and a value that none has and one that some has.
+# For each kind: a column with missing cells, and the stand-in for these.
 COLUMNS = {
     "whole": (pd.array([7, None, -1], "Int64"), -9),
     "small": (pd.array([None, 2, 3], "UInt8"), 0),
@@ -53,7 +53,7 @@ class StandIns(unittest.TestCase):
                 wanted = frame()[list(kept)]
                 pd.testing.assert_frame_equal(kept, wanted, check_column_type=False)
 
-    def test_the_script_has_what_stands_for_them(self):
+    def test_the_script_has_the_stand_ins(self):
         script = made().script()
         self.assertIn(b"row,2024-01-02,2024-02-02,2,-9,2,2,?,b,z,-10,-100,0\n", script)
         options = {"t": {"missing": {"note": "?", "whole": -9}}}
@@ -91,7 +91,7 @@ class StandIns(unittest.TestCase):
         got = made().agg("t", "count", by="note")
         self.assertEqual(got["note"].isna().tolist(), [False, True, False])
 
-    def test_what_would_be_done_with_what_stands_for_them_is_refused(self):
+    def test_calls_that_would_use_the_stand_ins_are_refused(self):
         store = made()
         for call in (
             lambda: store.join("t", "t", on="whole"), lambda: store.anti("t", "t", left_on="whole", right_on="k"),

@@ -21,7 +21,7 @@ SECONDS = pd.PeriodDtype(pd.offsets.Second())
 
 
 def frame(**cells):
-    """Two rows, x and y, of which these columns are others."""
+    """Two rows with the labels x and y; `cells` replaces or adds columns."""
     usual = {"from": DAYS(["2024-01-01", "2024-01-02"]), "to": DAYS(["2024-02-01", "2024-02-02"]), "k": ["a", "b"]}
     return pd.DataFrame({**usual, **cells}, index=["x", "y"])
 
@@ -33,7 +33,7 @@ def store(table, name="t", **words):
 
 
 def quietly(call):
-    """The call's answer, and what it doubts."""
+    """The call's answer, and the texts of its doubts."""
     with warnings.catch_warnings(record=True) as caught:
         warnings.simplefilter("always", ruzgalt.Doubt)
         answer = call()
@@ -347,7 +347,7 @@ class Changes(Case):
         self.assertEqual([Path(one.filename).name for one in caught], [Path(__file__).name] * 2)
 
     def test_objects_without_rows_are_taken_in_any_column(self):
-        """They are what pandas.DataFrame(columns=..) has, and a CSV file of a header alone."""
+        """pandas.DataFrame(columns=..) has such columns, and so has a CSV file with only a header."""
         cells = {"n": [1, 2], "yes": [True, False], "hours": [1.25, 0.5], "note": pd.array([1, None], "Int64")}
         rows = frame(**cells)
         made = store(rows, key="k", decimals={"hours": 2}, missing={"note": -1})
@@ -385,10 +385,17 @@ class Changes(Case):
             made.update("t", "2024-01-10", "2024-01-11", {"price": value}, {"k": "a"})
             self.assertEqual(made.at("t", "2024-01-10")["price"].tolist()[-1], 3.25)
 
+    def test_a_table_that_exists_and_one_that_does_not_are_named(self):
+        made = store(frame())
+        self.refuses(lambda: made.table("t", frame()), "TableExists", "table t", "load()")
+        self.assertEqual(len(made.rows("t")), 2)
+        self.refuses(lambda: made.picture("rows,none"), "NoTable", "none", "the tables are t")
+        self.refuses(lambda: made.picture("agg,t,sum,euros"), "NoColumn", "euros", "k")
+
     def test_a_word_of_the_language_is_no_name_of_a_table(self):
         self.refuses(lambda: store(frame(), name="on"), "BadName", "'on'", "a word of the language")
 
-    def test_what_is_no_name_is_named_by_its_type(self):
+    def test_a_wrong_name_is_refused_with_its_type(self):
         made = store(frame())
         self.refuses(lambda: made.load(frame(), "t"), "NoTable", "<DataFrame>")
         said = self.refuses(lambda: made.delete("t", "2024-01-10", None, frame()["k"] == "a"), "BadCommand", "<Series>")
@@ -401,7 +408,7 @@ class Changes(Case):
             value = {name: 2**63 if name == "n" else 10**400}
             self.refuses(lambda: made.update("t", "2024-01-10", None, value), "BadNumber", str(2**63 - 1), repr(name))
 
-    def test_columns_of_units_beside_whole_numbers(self):
+    def test_columns_of_units_and_whole_numbers(self):
         made = store(frame(n=[1, 2], price=[1.5, 2.5]), decimals={"price": 2})
         asked = lambda: made.join("t", "t", left_on="price", right_on="n")  # noqa: E731
         self.refuses(asked, "WrongKind", "'price'", "has 2 decimals, but 'n' of the right frame has no")
@@ -416,7 +423,7 @@ class Changes(Case):
         made.load("t", found[["n", "to", "k", "from"]])
         self.assertEqual(made.rows("t")["n"].tolist(), [1, 2, 3, 4])
 
-    def test_what_is_no_frame_is_refused_in_words(self):
+    def test_other_things_than_frames_are_refused_in_words(self):
         made = store(frame(n=[1, 2]), key=["k"])
         for given in (frame()["k"], [1], {"a": 1}, "pay.csv", None, Path("pay.csv"), b"x", 5):
             for call in (lambda: made.load("t", given), lambda: made.update_rows("t", given),
@@ -567,7 +574,7 @@ class Copies(Case):
     def test_copies_are_stores_of_their_own(self):
         made = store(frame(), key=["k"])
         for other in (copy.copy(made), copy.deepcopy(made), pickle.loads(pickle.dumps(made))):
-            self.assertIsNot(other.lock, made.lock)
+            self.assertIsNot(other.state.lock, made.state.lock)
             self.assertEqual(other.script(), made.script())
             other.load("t", frame(k=["c", "d"]))
             self.assertEqual((len(other.rows("t")), len(made.rows("t"))), (4, 2))
@@ -667,6 +674,31 @@ class Scripts(Case):
         rows = b"load,t\nrow,2024-01-01,2024-02-01\n"
         for end in (rows, b'rows,"t\n', b"together\nrows,t\n", b"together\n" + rows + b"end\n"):
             self.refuses(lambda: ruzgalt.Store.from_script(b"table,t\n" + end), "Unended", "line 2", "end")
+
+    def test_scripts_of_any_form_have_the_same_commands(self):
+        """Plain scripts are cut without reading their rows; a script with a byte order mark isn't plain."""
+        begin = b"table,t,k,text,n,int\nload,t\n"
+        for rows, count in (
+            (b"row,2024-01-01,2024-02-01,a,1\nend\n", 1), (b'row,2024-01-01,2024-02-01,"a\nend\n",1\nend\n', 1),
+            (b'row,2024-01-01,2024-02-01,"""",1\nend\nrows,t\n\n\n', 1), (b'row,2024-01-01,2024-02-01,"",1\nend', 1),
+            (b'row,2024-01-01,2024-02-01,a"b,1\nrow,2024-01-01,2024-02-01,c"\nd,1\nend\n', None),
+            (b'row,2024-01-01,2024-02-01,5",1\nrow,2024-01-01,2024-02-01,6",2\nend\n', 2),
+            (b'row,2024-01-01,2024-02-01,a,1\n"end"\nload,t\nrow,2024-01-02,2024-02-01,a,1\nend\n', 2),
+            (b"end\ncheck,t,0,-\nend\ntogether\nload,t\nrow,2024-01-02,2024-02-01,a,1\nend\nend\n", 1),
+            (b'row,2024-01-01,2024-02-01,a,1\nend\ndelete,t,2024-01-05,2024-01-06,where,k,"a,""b"\nlog\n', 1),
+        ):
+            with self.subTest(rows):
+                stores = [quietly(lambda: ruzgalt.Store.from_script(mark + begin + rows))[0]
+                          for mark in (b"", b"\xef\xbb\xbf")]
+                self.assertEqual(*(bytes(one.script()) for one in stores))
+                if count is not None:
+                    self.assertEqual([len(one.rows("t")) for one in stores], [count] * 2)
+
+    def test_a_text_that_is_no_script_is_doubted(self):
+        for given in (b"person,from,to\nAda,2024-01-01,2024-02-01\n", "table,t,k,text\n".encode("utf-16"), b"PK\3\4\0"):
+            made, doubts = quietly(lambda: ruzgalt.Store.from_script(given))
+            self.assertEqual((len(made.log()), len(doubts)), (0, 1))
+            self.assertIn("field 1", doubts[0])
 
     def test_an_empty_script_is_an_empty_store(self):
         for given in (b"", b"\n", b"rows,pay\n"):

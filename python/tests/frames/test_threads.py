@@ -1,4 +1,4 @@
-"""Calls on several threads: their answers are those of one call, and each lot has whole classes."""
+"""Calls on several threads: they give the answers of one call, and each lot has whole classes."""
 import unittest
 from concurrent.futures import ThreadPoolExecutor
 from unittest import mock

@@ -1,4 +1,4 @@
-"""Whether mypy finds the types of frames right, strictly, and those of a program that calls them."""
+"""mypy --strict accepts the types of frames, and checks a program that calls them."""
 import importlib.util
 import os
 import subprocess
@@ -15,7 +15,7 @@ STUBS = {
     "dask/dataframe.pyi": "class DataFrame: ...\n",
     "numpy.pyi": "from typing import Any\ndef __getattr__(name: str) -> Any: ...\n",
 }
-# mypy is to refuse the lines that say so, and no others.
+# mypy must refuse the lines whose comments say so, and no others.
 PROGRAM = """
 from typing import Optional, Union
 import dask.dataframe as dd
@@ -69,7 +69,8 @@ class Types(unittest.TestCase):
 
     @unittest.skipUnless(os.environ.get("FRAMES_LONG"), "only in the long form, since it reads all of numpy")
     def test_types_are_right(self):
-        printed = mypy(["-p", "ruzgalt.frames", "-p", "ruzgalt.store"], [TOP / "python"], self.folder)
+        packages = [word for name in ("convert", "frames", "store") for word in ("-p", f"ruzgalt.{name}")]
+        printed = mypy(packages, [TOP / "python"], self.folder)
         self.assertTrue(printed.startswith("Success"), printed)
 
     def test_a_program_is_refused_where_it_is_wrong(self):

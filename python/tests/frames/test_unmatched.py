@@ -35,7 +35,7 @@ def frame(cells):
 
 
 def merged(left, right, how, **words):
-    """By pandas, in the order of places, of which none is last."""
+    """The join by pandas.merge, sorted by the rows' indices; missing indices are last."""
     own = [one.drop(columns=["from", "to"]).assign(**{f"_{side}": range(3)}) for side, one in zip("lr", (left, right))]
     made = own[0].merge(own[1], how=how, suffixes=("_left", "_right"), **words)
     return made.sort_values(["_l", "_r"]).drop(columns=["_l", "_r"]).reset_index(drop=True)
@@ -54,6 +54,8 @@ class Unmatched(unittest.TestCase):
         self.is_as_merged(left, right, on="k")
         self.is_as_merged(left, right.rename(columns={"k": "w"}), left_on="k", right_on="w")
         self.is_as_merged(left, right.assign(k=[3, 2, 1]), on="k")
+        self.is_as_merged(left, right, left_on="k", right_on="k")
+        self.is_as_merged(left.assign(u=1), right.assign(w=1), left_on=["u", "k"], right_on=["w", "k"])
 
     def test_shared_columns_are_as_of_merge(self):
         """Where each row of the answer has a left one, in the left frame's dtype."""
@@ -66,7 +68,7 @@ class Unmatched(unittest.TestCase):
                     wanted = wanted.astype({"k": one.dtype}) if how == "left" else wanted
                     pd.testing.assert_frame_equal(got.drop(columns=["from", "to"]), wanted)
 
-    def test_true_beside_numbers_stays_true(self):
+    def test_true_among_numbers_stays_true(self):
         bools, numbers = frame({"k": [True, False]}), frame({"k": [1, 2]})
         for left, right, wanted in ((bools, numbers, [True, False, 2]), (numbers, bools, [1, 2, False])):
             with self.subTest(wanted):
@@ -82,23 +84,15 @@ class Unmatched(unittest.TestCase):
                 wanted = pd.Series([True, False], dtype="boolean", name="k")
                 pd.testing.assert_series_equal(got, wanted)
 
-    def test_floats_of_two_dtypes_stay_numbers_of_their_decimals(self):
-        narrow = frame({"k": pd.Series([0.1, 0.2], dtype="float32")})
-        wide = frame({"k": [0.1, 0.3]})
-        for left, right, how, wanted in (
-            (narrow, wide, "right", [0.1, 0.3]), (narrow, wide, "outer", [0.1, 0.2, 0.3]),
-            (wide, narrow, "right", [0.1, 0.2]), (wide, narrow, "outer", [0.1, 0.3, 0.2]),
-        ):
-            with self.subTest(how=how, dtype=left["k"].dtype):
-                got = ruzgalt.join(left, right, on="k", how=how, decimals={"k": 1})
-                self.assertEqual((got["k"].dtype, got["k"].tolist()), ("float64", wanted))
-                counts = ruzgalt.agg(got, "count", by="k", decimals={"k": 1})
-                self.assertEqual(counts["k"].tolist(), sorted(wanted))
-                store = ruzgalt.Store()
-                for name, rows in (("l", left), ("r", right)):
-                    store.table(name, rows, decimals={"k": 1})
-                found = store.join("l", "r", on="k", how=how)["k"]
-                self.assertEqual((found.dtype, found.tolist()), ("float64", wanted))
+    def test_floats_of_two_dtypes_have_no_common_column(self):
+        narrow, wide = frame({"k": pd.Series([0.1, 0.2, 0.4], dtype="float32")}), frame({"k": [0.1, 0.3, 0.4]})
+        words = {"on": "k", "decimals": {"k": 1}}
+        self.assertEqual(ruzgalt.join(narrow, wide, **words)["k"].dtype, "float32")
+        for how in ("right", "outer"):
+            with self.subTest(how), self.assertRaisesRegex(ruzgalt.Refused, r"float32.*float64.*\.round\(1\)"):
+                ruzgalt.join(narrow, wide, how=how, **words)
+        narrow["k"] = narrow["k"].astype("float64").round(1)
+        self.assertEqual(ruzgalt.join(narrow, wide, how="outer", **words)["k"].tolist(), [0.1, 0.2, 0.4, 0.3])
 
     def test_objects_without_rows_meet_nothing_of_any_kind(self):
         """They are what pandas.DataFrame(columns=..) has."""

@@ -1,4 +1,4 @@
-"""Joins of a store's tables with unmatched rows, beside those of frames."""
+"""Joins of a store's tables with unmatched rows, compared with joins of frames."""
 import decimal
 import unittest
 
@@ -31,7 +31,7 @@ def store():
 
 class Joins(unittest.TestCase):
     def is_as_of_frames(self, made, frames, words, **options):
-        """Whether a store's join is that of the frames, whose rows have the ids from 1 on."""
+        """Tests that a store's join equals the join of the frames; the ids of their rows begin at 1."""
         for how in HOWS:
             with self.subTest(how=how, **words):
                 got = made.join("l", "r", how=how, **words)

@@ -1,4 +1,4 @@
-"""What the package does where pandas isn't: the modules of the tools work, and frames say what is to be installed."""
+"""The package without pandas: the modules of the tools work, and frames say which packages to install."""
 import os
 import subprocess
 import sys
@@ -36,7 +36,7 @@ class WithoutPandas(unittest.TestCase):
         lines = "from ruzgalt import answers; from ruzgalt.cli import answers as tool; print('yes')"
         self.assertEqual(self.run_lines(lines), ("yes\n", ""))
 
-    def test_frames_say_what_is_to_be_installed(self):
+    def test_frames_say_which_packages_to_install(self):
         for name in set(ruzgalt.__all__) - {"frames", "__version__"}:
             printed, said = self.run_lines(f"import ruzgalt; print('imported'); ruzgalt.{name}")
             self.assertEqual(printed, "imported\n")
@@ -55,7 +55,7 @@ print(host() == before, "join" in dir(ruzgalt), sorted(one for one in sys.module
 import importlib, pathlib
 from ruzgalt import answers
 for file in sorted(pathlib.Path(answers.__file__).parents[1].rglob("*.py")):
-    if file.parent.name not in ("frames", "kernel", "ruzgalt", "store"):
+    if file.parent.name not in ("convert", "frames", "kernel", "ruzgalt", "store"):
         importlib.import_module(f"ruzgalt.{{file.parent.name}}.{{file.stem}}")
 script = b"table,t,name,text\\nload,t\\nrow,2024-01-01,2024-01-02," + 200_000 * b"x" + b"\\nend\\n"
 [_, load] = answers.of(script, b"ok,1\\nerror,3,TooLong\\n")

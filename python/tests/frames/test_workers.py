@@ -70,8 +70,8 @@ class Workers(unittest.TestCase):
         self.worker("--name", "bare", RUZGALT_LIBRARY="/nowhere/libruzgalt.so")
         with self.assertRaises(ruzgalt.Stopped) as caught:
             self.asked()
-        place = f"; on worker bare at tcp:.* of {socket.gethostname()}"
-        self.assertRegex(str(caught.exception), f"/nowhere/libruzgalt.so is missing.*{place}")
+        where = f"; on worker bare at tcp:.* of {socket.gethostname()}"
+        self.assertRegex(str(caught.exception), f"/nowhere/libruzgalt.so is missing.*{where}")
 
     def test_a_worker_with_too_little_memory_is_named(self):
         (self.folder / "small.py").write_text(SMALL)

@@ -2,6 +2,8 @@
 import copy
 import os
 import pickle
+import subprocess
+import sys
 import tempfile
 import unittest
 from concurrent.futures import ThreadPoolExecutor
@@ -62,6 +64,20 @@ class Written(unittest.TestCase):
         self.store.save(self.folder / "new.csv")
         (self.folder / "plain").touch()
         self.assertEqual((self.folder / "new.csv").stat().st_mode, (self.folder / "plain").stat().st_mode)
+
+    def test_a_link_to_itself_and_the_file_of_standard_output_are_refused(self):
+        loop, printed = self.folder / "loop.csv", self.folder / "printed.txt"
+        loop.symlink_to("loop.csv")
+        for call in (self.store.save, self.store.page):
+            with self.assertRaisesRegex(OSError, "loop.csv"):
+                call(loop)
+        self.assertTrue(loop.is_symlink())
+        lines = "import ruzgalt\nprint('before', flush=True)\n" \
+                "try:\n    ruzgalt.Store().save('/dev/stdout')\nexcept ruzgalt.Refused as refused:\n    print(refused)"
+        with printed.open("wb") as file:
+            subprocess.run([sys.executable, "-c", lines], stdout=file, check=True)
+        self.assertRegex(printed.read_text(), "before\nBadCommand: .*standard output goes to this file")
+        self.assertEqual(sorted(os.listdir(self.folder)), ["loop.csv", "printed.txt"])
 
     def test_a_pipe_and_a_device_are_written_into(self):
         pipe = self.folder / "pipe"
@@ -148,7 +164,7 @@ class Written(unittest.TestCase):
         for one in (file, page):
             self.assertIn("77777", one.read_text())
 
-    def test_what_is_no_picture_is_refused(self):
+    def test_wrong_questions_and_options_of_pictures_are_refused(self):
         for question in (*NO_QUESTIONS, 5):
             with self.subTest(question), self.assertRaises(ruzgalt.Refused):
                 self.store.picture(question)

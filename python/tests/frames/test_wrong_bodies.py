@@ -1,4 +1,4 @@
-"""Wrong bodies of functions, each of which the random tests are to notice; in the long form, since it runs many."""
+"""Wrong bodies of functions. The random tests must notice each; only the long run has them, since it takes long."""
 import os
 import unittest
 from unittest import mock
@@ -8,9 +8,10 @@ import pandas as pd
 
 import test_random_frames
 import test_random_stores
-from ruzgalt.frames import classes, instants, kinds, points, split, values
-from ruzgalt.store import answers
+from ruzgalt.convert import instants, kinds, points, values
+from ruzgalt.frames import sides as rows, split
 from ruzgalt.script import naming
+from ruzgalt.store import live as answers
 
 # So many seeds are tried until a wrong body is noticed.
 SEEDS = 400
@@ -21,8 +22,8 @@ def unglued(before, behind, cut):
 
 
 def unchained(sides, workers):
-    """Each block of right rows leaves of the left ones what it leaves."""
-    parts = [split.ask.anti([left, right], workers) for left in sides[0].blocks(3) for right in sides[1].blocks(3)]
+    """Takes each block of right rows from the left rows by itself, and keeps all results."""
+    parts = [split.rest_of([left, right], workers) for left in sides[0].blocks(3) for right in sides[1].blocks(3)]
     found = split.found_of(split.together(parts) if parts else sides[0])
     order = np.lexsort((found[0], found[2]))
     return tuple(column[order] for column in found)
@@ -70,7 +71,7 @@ def first_alone(one, other, sort):
 
 
 FRAMES, STORES = test_random_frames.RandomFrames, test_random_stores.RandomStores
-# The words for it, what is replaced, by what, and the tests that are to notice.
+# A name, the object and its attribute, the value that replaces it, and the tests that must notice.
 WRONG = [
     ("halves of what goes on over a cut", split, "closed_up", unglued, FRAMES),
     ("rows that aren't clipped at a cut", split.Side, "clipped", unclipped, FRAMES),
@@ -78,10 +79,10 @@ WRONG = [
     ("texts that end at a zero byte", values, "codes_by_dict", factorized, FRAMES),
     ("a missing end as a start", points, "NO_END", points.LAST, FRAMES),
     ("points as the left frame's", kinds, "joint_kind", lambda *kinds: kinds[0], FRAMES),
-    ("last days as the days behind", points.Form, "ends_of", next_days, FRAMES),
-    ("each row in a class of its own", classes, "together", apart, FRAMES),
-    ("texts numbered side by side", classes, "numbered", by_side, FRAMES),
-    ("the first of several columns alone", classes, "crossed", first_alone, FRAMES),
+    ("last days as the days after them", points.Form, "ends_of", next_days, FRAMES),
+    ("each row in a class of its own", rows, "codes_of", apart, FRAMES),
+    ("texts numbered side by side", rows, "numbered", by_side, FRAMES),
+    ("only the first of several columns", rows, "crossed", first_alone, FRAMES),
     ("quotes that stay", answers, "READERS", {**answers.READERS, "t": quoted}, STORES),
     ("names of tables that stay", naming, "apart", list, STORES),
     ("ends of changes as they are given", instants, "portion", unmoved, STORES),

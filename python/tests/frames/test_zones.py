@@ -1,6 +1,6 @@
-"""Points in a time zone: compared in UTC, and given back in their zone. Days there may have 23 or 25 hours, or be none.
+"""Points in a time zone: compared in UTC, and returned in their zone. Days may have 23 or 25 hours, or be skipped.
 
-What is wanted is computed by rows with Python's own datetimes and zoneinfo, or written by hand.
+The wanted answers are computed row by row with Python's datetimes and zoneinfo, or written by hand.
 """
 import datetime
 import importlib.util
@@ -15,17 +15,17 @@ from dateutil import tz
 
 import labels
 import ruzgalt
-from ruzgalt.frames.zones import begins_of, days_before, days_behind, has_time, walls_of
+from ruzgalt.convert.kinds import begins_of, days_before, has_time, next_days, walls_of
 
 BERLIN, UTC = ZoneInfo("Europe/Berlin"), datetime.timezone.utc
 HOUR, DAY = datetime.timedelta(hours=1), datetime.timedelta(days=1)
 HAS_UNITS = pd.Series(np.zeros(1, "M8[s]")).dtype == "M8[s]"
-# Each night in which clocks were put on or back.
+# Nights in which clocks change.
 NIGHTS = [datetime.datetime(2024, 3, 30, 20, tzinfo=UTC), datetime.datetime(2024, 10, 26, 19, tzinfo=UTC)]
 
 
 def zoned(moments, zone="Europe/Berlin", unit="ns"):
-    """Aware datetimes, and None, as a column."""
+    """A column of aware datetimes and None."""
     texts = [None if one is None else one.astimezone(UTC).replace(tzinfo=None) for one in moments]
     return pd.Series(np.array(texts, f"M8[{unit}]")).dt.tz_localize("UTC").dt.tz_convert(zone)
 
@@ -48,7 +48,7 @@ def walls_in(got):
 
 
 def outcome(call, rows, form):
-    """What it answers, or the name of its refusal."""
+    """The call's answer, or the name of its refusal."""
     try:
         return call(rows, **form)
     except ruzgalt.Refused as refused:
@@ -150,10 +150,10 @@ class Zones(unittest.TestCase):
                       for change in (lambda cells: cells.tz_convert("UTC"), lambda cells: cells.tz_localize(None)))
         mixed = one.assign(to=plain["to"])
         cases = [
-            ("two", lambda: ruzgalt.join(one, utc, on="k"), "points in UTC beside points in Europe/Berlin", "from"),
-            ("none", lambda: ruzgalt.anti(one, plain, on="k"), "points in no zone beside points in Europe", "from"),
-            ("none first", lambda: ruzgalt.anti(plain, one, on="k"), "Europe/Berlin beside points in no zone", "from"),
-            ("in a frame", lambda: ruzgalt.agg(mixed, "count"), "points in no zone beside points in Europe", "to"),
+            ("two", lambda: ruzgalt.join(one, utc, on="k"), "points in UTC and points in Europe/Berlin", "from"),
+            ("none", lambda: ruzgalt.anti(one, plain, on="k"), "points in no zone and points in Europe", "from"),
+            ("none first", lambda: ruzgalt.anti(plain, one, on="k"), "Europe/Berlin and points in no zone", "from"),
+            ("in a frame", lambda: ruzgalt.agg(mixed, "count"), "points in no zone and points in Europe", "to"),
         ]
         for case in cases:
             self.refuses(*case)
@@ -219,7 +219,7 @@ class LastDays(unittest.TestCase):
             walls = np.array([round(one.replace(tzinfo=UTC).timestamp()) for one in days], np.int64)
             with self.subTest(zone):
                 self.assertEqual(begins_of(walls + 40_000, zone).tolist(), wanted.tolist())
-                self.assertEqual(days_behind(wanted[:-1], zone).tolist(), wanted[1:].tolist())
+                self.assertEqual(next_days(wanted[:-1], zone).tolist(), wanted[1:].tolist())
                 self.assertEqual(days_before(wanted[1:], zone).tolist(), wanted[:-1].tolist())
                 self.assertFalse(has_time(wanted, zone).any())
 
@@ -235,7 +235,7 @@ class LastDays(unittest.TestCase):
             wanted = np.array(texts, "M8[s]").view("i8")
             with self.subTest(zone):
                 self.assertEqual(begins_of(walls_of(wanted + 3_600, zone), zone).tolist(), wanted.tolist())
-                self.assertEqual(days_behind(wanted[:-1], zone).tolist(), wanted[1:].tolist())
+                self.assertEqual(next_days(wanted[:-1], zone).tolist(), wanted[1:].tolist())
                 self.assertEqual(days_before(wanted[1:], zone).tolist(), wanted[:-1].tolist())
 
     def test_a_last_day_that_was_left_out_has_no_other_day(self):
@@ -279,7 +279,7 @@ class LastDays(unittest.TestCase):
         self.assertEqual((got["to"].tolist(), got["to"].dtype), ([pd.NaT], days["to"].dtype))
 
     def test_far_points_are_taken_as_without_a_zone(self):
-        """Also those that datetime64[ns] can't have; 9999-12-31 is no end in each zone."""
+        """Also points that datetime64[ns] can't have; 9999-12-31 means no end in each zone."""
         starts, ends = map(pd.to_datetime, (["2024-01-05", "2024-03-05"], ["2024-02-07", None]))
         plain = pd.DataFrame({"from": starts, "to": ends})
         both = plain, plain.apply(lambda column: column.dt.tz_localize("Europe/Berlin"))

@@ -1,12 +1,15 @@
-"""Columns of a frame as columns of the store: their kinds, and their fields in a script.
+"""Columns of a frame as numbers and texts, the kinds of a store, and back; rows of a frame, some of them missing.
 
     integers, also Int64 without NA          int
     bool, boolean without NA                 int, 0 and 1
     objects of str, string                   text
     types of pyarrow                         as pandas' own
     category                                 as its categories
-    floats, objects of Decimal               int, of smaller units, where decimals={COLUMN: DIGITS} says how many
-    all else                                 refused
+    floats, objects of Decimal               int, of smaller units, if decimals={COLUMN: DIGITS} says how many
+    all others                               refused
+
+A row of an answer may have no row of a frame, whose index is -1 then. Its cells are missing, and dtypes are widened as
+by pandas.merge: whole numbers become floats, and one that would be rounded is refused.
 """
 from __future__ import annotations
 
@@ -18,24 +21,27 @@ from typing import Any, Dict, List, Optional, Sequence, Tuple
 import numpy as np
 import pandas as pd
 
-from ruzgalt.frames import arrow
-from ruzgalt.frames.arrays import Cells, Ints, Marks, of_objects
-from ruzgalt.frames.errors import Refused, refuse
+from ruzgalt.convert.arrays import Cells, Ints, Marks, of_objects
+from ruzgalt.convert.errors import Refused, label_at, refuse
+from ruzgalt.convert.kinds import ARROW_TEXTS, arrow_type
+from ruzgalt.convert.named import BY_SIDES
 from ruzgalt.script import forms
 
-# A text that has one of these stands in quotes in a script.
+# A text that has one of these is quoted in a script.
 QUOTED = ',"\r\n'
 LEAST, GREATEST = -(2**63), 2**63 - 1
+# The bits of a whole number that a float has.
+BITS = np.uint64(53)
 
 
 def quoted(text: str) -> str:
-    """A field of a script, as records.to_record makes several of them."""
+    """Returns a field of a script, as records.to_record makes them."""
     return '"' + text.replace('"', '""') + '"' if any(mark in text for mark in QUOTED) else text
 
 
 @dataclass(frozen=True, eq=False)
 class Texts:
-    """The texts of a column that differ. What is made of them is made once, whatever parts its rows go in."""
+    """The different texts of a column. Their fields and hashes are made once, even if its rows are split."""
 
     cells: Sequence[str] = ()
 
@@ -52,9 +58,9 @@ class Texts:
 
 @dataclass(frozen=True)
 class Values:
-    """A column: its numbers, or of texts the place of each among those that differ.
+    """A column: its numbers, or the index of each text among the different ones.
 
-    dtype is what it came from; with digits, numbers count units of 10^-digits of it.
+    dtype is the frame's; with digits, numbers count units of 10^-digits.
     """
 
     name: Any
@@ -68,7 +74,7 @@ class Values:
         return replace(self, codes=self.codes[places])
 
     def restored(self, cells: Cells) -> Any:
-        """Numbers of an answer in the dtype that the column came from, or in a wider one that holds all of them."""
+        """Returns numbers of an answer in the column's dtype, or in a wider one that holds all of them."""
         if self.digits is not None:
             return unscaled(cells, self)
         if isinstance(self.dtype, pd.CategoricalDtype):
@@ -87,12 +93,12 @@ def plain(cells: Cells, dtype: Any) -> Any:
 
 
 def is_bool(dtype: Any) -> bool:
-    """Whether it has True and False; a category of them too."""
+    """Returns whether it has True and False; a category of them too."""
     return bool(pd.api.types.is_bool_dtype(dtype))
 
 
 def is_whole(dtype: Any) -> bool:
-    """Whether it has numbers of the store as they are: whole ones, or True and False."""
+    """Returns whether it has whole numbers, or True and False."""
     return bool(pd.api.types.is_integer_dtype(dtype)) or is_bool(dtype)
 
 
@@ -109,7 +115,7 @@ def numpys(dtype: Any) -> Any:
 
 
 def categories_of(cells: Cells, dtype: Any) -> Any:
-    """Of these categories; with more after them, and in no order, where others came in by changes."""
+    """Returns cells as these categories. If a store's changes added other ones, they come last, without an order."""
     known = plain(np.asarray(dtype.categories), dtype.categories.dtype)
     places: Dict[Any, int] = {one: place for place, one in enumerate(known)}
     codes = np.array([places.setdefault(cell, len(places)) for cell in cells.tolist()], np.int64)
@@ -118,12 +124,12 @@ def categories_of(cells: Cells, dtype: Any) -> Any:
     try:
         return pd.Categorical.from_codes(codes, pd.Index(list(places), dtype=dtype.categories.dtype))
     except (ValueError, OverflowError):
-        # Of texts that differ after a zero byte alone pandas takes one for the other.
+        # pandas confuses texts that differ only after a zero byte.
         return plain(cells, dtype.categories.dtype)
 
 
 def values_of(column: Any, digits: Optional[int] = None) -> Values:
-    """A Series as a column. Raises Refused (WrongKind, BadNumber, TooLong, BadUtf8) with column and label."""
+    """Returns a Series as a column. Raises Refused (WrongKind, BadNumber, TooLong, BadUtf8) with column and label."""
     dtype = column.dtype
     if digits is not None:
         return Values(column.name, "int", scaled(column, digits), Texts(), dtype, digits)
@@ -131,28 +137,21 @@ def values_of(column: Any, digits: Optional[int] = None) -> Values:
         return of_categories(column)
     if is_whole(dtype):
         return Values(column.name, "int", ints_of(column), Texts(), dtype)
-    if dtype == object or isinstance(dtype, pd.StringDtype) or arrow.is_text(dtype):
+    if dtype == object or isinstance(dtype, pd.StringDtype) or arrow_type(dtype) in ARROW_TEXTS:
         return texts_of(column)
-    raise Refused("WrongKind", f"{dtype} can't be stored; {remedy_of(column)}", column.name)
+    raise Refused("WrongKind", f"{dtype} isn't whole numbers or texts; {remedy_of(column)}", column.name)
 
 
 def remedy_of(column: Any) -> str:
-    """Of a dtype that has no kind."""
+    """Returns the remedy for a dtype that has no kind."""
     hundredths = f"decimals={{{column.name!r}: 2}} takes numbers of two decimals"
     is_float = getattr(column.dtype, "kind", "") == "f"
     return f".astype('Int64') makes whole numbers, or {hundredths}" if is_float else ".astype(str) makes texts"
 
 
-def number_kind(dtype: Any) -> str:
-    """`int` or `float` of a dtype of numbers, else nothing."""
-    if pd.api.types.is_integer_dtype(dtype):
-        return "int"
-    return "float" if pd.api.types.is_float_dtype(dtype) else ""
-
-
 def no_value(name: Any) -> str:
-    """What is said of a missing cell: in place of it nothing can be put that would match nothing."""
-    return f"no value is given, and rows without one match nothing; .dropna(subset=[{name!r}]) leaves them out"
+    """Returns the reason for refusing a missing cell."""
+    return f"no value is given; .dropna(subset=[{name!r}]) leaves such rows out"
 
 
 def of_categories(column: Any) -> Values:
@@ -176,7 +175,7 @@ def ints_of(column: Any) -> Ints:
 
 
 def texts_of(column: Any) -> Values:
-    """Each text that differs is looked at once."""
+    """Returns a column of texts. Each text is tested once."""
     cells = np.asarray(column, object)
     try:
         whole = "".join(cells)
@@ -199,7 +198,7 @@ def texts_of(column: Any) -> Values:
 
 
 def no_text(cell: Any, name: Any) -> str:
-    """What is said of a cell that is none."""
+    """Returns the reason for refusing a cell that isn't a text."""
     if is_missing(cell):
         return no_value(name)
     hundredths = f"decimals={{{name!r}: 2}} takes Decimals"
@@ -217,14 +216,14 @@ def is_missing(cell: Any) -> bool:
 
 
 def codes_by_dict(cells: Cells) -> Tuple[Ints, List[str]]:
-    """As pandas.factorize, which ends texts at a zero byte, so that it takes "a\\0b" for "a"."""
+    """Does what pandas.factorize does, which ends texts at a zero byte: "a\\0b" is "a" for it."""
     numbers: Dict[str, int] = {}
     codes = [numbers.setdefault(cell, len(numbers)) for cell in map(str.__str__, cells)]
     return np.array(codes, np.int64), list(numbers)
 
 
 def scaled(column: Any, digits: int) -> Ints:
-    """Whole numbers of 10^-digits. A float is taken where it is the nearest of its dtype to such a number."""
+    """Returns whole numbers of 10^-digits. A float must be the nearest of its dtype to such a number."""
     if column.dtype == object:
         return scaled_decimals(column, digits)
     dtype = numpys(column.dtype)
@@ -248,7 +247,7 @@ def scaled(column: Any, digits: int) -> Ints:
 
 
 def are_shared(whole: Cells, digits: int, dtype: Any) -> Marks:
-    """Which whole numbers of 10^-digits are the same float of this dtype as the next one below or above."""
+    """Returns which whole numbers of 10^-digits are the same float of this dtype as a neighbour."""
     below, own, above = (((whole + step) / 10.0**digits).astype(dtype) for step in (-1, 0, 1))
     marked: Marks = (below == own) | (own == above)
     return marked
@@ -259,18 +258,14 @@ def scaled_decimals(column: Any, digits: int) -> Ints:
     wrong = np.fromiter((number is None for number in numbers), bool, len(numbers))
     if wrong.any():
         cell = column.iloc[int(wrong.argmax())]
-        reason = f"{cell!r} isn't a Decimal of {digits} decimals; {no_decimal(cell)} makes it one"
+        remedy = "quantize()" if isinstance(cell, decimal.Decimal) else "decimal.Decimal(str(..))"
+        reason = f"{cell!r} isn't a Decimal of {digits} decimals; {remedy} makes it one"
         refuse(wrong, column, "BadNumber", no_value(column.name) if is_missing(cell) else reason)
     return np.array(numbers, np.int64)
 
 
-def no_decimal(cell: Any) -> str:
-    """What makes a Decimal of so many decimals of a cell."""
-    return "quantize()" if isinstance(cell, decimal.Decimal) else "decimal.Decimal(str(..))"
-
-
 def whole_of(cell: Any, digits: int) -> Optional[int]:
-    """A Decimal in units of 10^-digits, where it is a whole number of them. No product, which would be rounded."""
+    """Returns a Decimal in units of 10^-digits, or None if it isn't a whole number of them, without rounding."""
     if not isinstance(cell, decimal.Decimal) or not cell.is_finite() or abs(cell) >= 10**19:
         return None
     above, below = cell.as_integer_ratio()
@@ -279,7 +274,7 @@ def whole_of(cell: Any, digits: int) -> Optional[int]:
 
 
 def unscaled(cells: Cells, column: Values) -> Any:
-    """Numbers of a column's smaller units, in its dtype. Raises Refused (BadNumber) where this doesn't hold one."""
+    """Returns numbers of smaller units in the column's dtype. Raises Refused (BadNumber) if it doesn't hold one."""
     digits, dtype = column.digits or 0, column.dtype
     if dtype == object:
         return of_objects([decimal.Decimal(f"{int(cell)}E-{digits}") for cell in cells])
@@ -288,7 +283,7 @@ def unscaled(cells: Cells, column: Values) -> Any:
 
 
 def refuse_unheld(cells: Cells, column: Values, what: str) -> None:
-    """Raises Refused (BadNumber) where a column of floats doesn't hold one of these numbers of its smaller units."""
+    """Raises Refused (BadNumber) if a column of floats doesn't hold one of these numbers of its smaller units."""
     if column.digits is None or column.dtype == object:
         return
     own = numpys(column.dtype)
@@ -299,16 +294,16 @@ def refuse_unheld(cells: Cells, column: Values, what: str) -> None:
 
 
 def fields_of(values: Values) -> List[str]:
-    """The column's fields of a script."""
+    """Returns the column's fields in a script."""
     if values.kind == "int":
         return list(map(str, values.codes.tolist()))
     return [values.texts.fields[code] for code in values.codes.tolist()]
 
 
 def hashes(columns: Sequence[Values]) -> Any:
-    """A number for each row, equal for equal values whatever their dtypes are: of int64, and of the UTF-8 of texts.
+    """Returns a number for each row, equal for equal values of different dtypes: by int64, and by the UTF-8 of texts.
 
-    pandas.util.hash_array has a column's; columns are mixed by exclusive or and a product. The same on each machine.
+    Columns are hashed by pandas.util.hash_array, and mixed by exclusive or and a product, alike on each machine.
     """
     mixed = np.full(len(columns[0].codes), 0x345678, np.uint64)
     for column in columns:
@@ -320,3 +315,72 @@ def hash_of(column: Values) -> Any:
     if column.kind == "int":
         return pd.util.hash_array(column.codes)
     return column.texts.hashes[column.codes]
+
+
+# Rows of an answer.
+
+def rows_at(frame: Any, rows: Ints, is_wide: bool = False) -> Any:
+    """Returns the frame's rows at these indices, under labels from 0 on.
+
+    is_wide: dtypes can have missing cells, even if no cell is missing.
+    """
+    numbered = frame.set_axis(pd.RangeIndex(len(frame)))
+    if not is_wide and not (rows < 0).any():
+        made = numbered.take(rows)
+    else:
+        made = numbered.reindex(index=np.append(rows, -1)).iloc[:-1]
+        for place, dtype in enumerate(made.dtypes):
+            refuse_rounded(frame.iloc[:, place], rows[rows >= 0], dtype)
+    made.index = pd.RangeIndex(len(rows))
+    return made
+
+
+def either(one: Any, other: Any, rows: Sequence[Ints], is_wide: bool = False, digits: Optional[int] = None) -> Any:
+    """Returns the first column's cells, and the second one's if the first index is -1, in a dtype for both.
+
+    digits: the columns have numbers of this many decimals. Raises Refused if floats would get another width.
+    """
+    if digits is not None and {one.dtype.kind, other.dtype.kind} == {"f"} and one.dtype != other.dtype:
+        remedy = f".astype('float64').round({digits}) of both makes them equal"
+        raise Refused("WrongKind", f"it is {one.dtype}, but {other.dtype} in the right frame; {remedy}", one.name)
+    is_first = rows[0] >= 0
+    own_rows = [rows[0][is_first], rows[1][~is_first]]
+    parts = [column.take(own) for column, own in zip((one, other), own_rows) if len(own)]
+    made = concatenated(parts or [one.iloc[:0]])
+    dtype = concatenated([one.iloc[:0], other.iloc[:0]]).dtype if is_wide else made.dtype
+    for column, own in zip((one, other), own_rows):
+        refuse_rounded(column, own, dtype)
+    order = np.where(is_first, np.cumsum(is_first), len(own_rows[0]) + np.cumsum(~is_first)) - 1
+    return made.astype(dtype).take(order).reset_index(drop=True)
+
+
+def concatenated(parts: Sequence[Any]) -> Any:
+    """Returns cells one after another. True among numbers stays True, in objects; pandas 1.5 makes 1 of it."""
+    are_bool = [is_bool(part.dtype) for part in parts]
+    kept = parts if all(are_bool) or not any(are_bool) else [part.astype(object) for part in parts]
+    return pd.concat(kept, ignore_index=True)
+
+
+def refuse_rounded(column: Any, rows: Ints, dtype: Any) -> None:
+    """Raises Refused (BadNumber) for a whole number in these rows that a float of this dtype doesn't hold.
+
+    It may be a side of an interval too.
+    """
+    has_sides = isinstance(column.dtype, pd.IntervalDtype)
+    numbers = [column.array.left, column.array.right] if has_sides else [column.array]
+    kinds = [getattr(one, "kind", "") for one in (numbers[0].dtype, dtype.subtype if has_sides else dtype)]
+    if kinds not in (["i", "f"], ["u", "f"]):
+        return
+    is_rounded = np.any([rounded(np.asarray(one)[rows]) for one in numbers], axis=0)
+    if is_rounded.any():
+        remedy = f"{BY_SIDES if has_sides else ''}.astype('Int64') can"
+        reason = f"a missing cell in its column makes floats, whose {BITS} bits can't hold it; {remedy}"
+        raise Refused("BadNumber", reason, column.name, label_at(is_rounded, column.index[rows]))
+
+
+def rounded(numbers: Any) -> Marks:
+    """Returns which of these aren't floats: there are too many bits from their first one to their last one."""
+    sizes = np.where(numbers < 0, -numbers.astype("u8"), numbers.astype("u8"))
+    last_bits = np.maximum(sizes & (~sizes + np.uint64(1)), np.uint64(1))
+    marked: Marks = sizes // last_bits >> BITS > 0
+    return marked

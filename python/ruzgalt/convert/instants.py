@@ -1,29 +1,38 @@
-"""Single points, of questions and of changes: texts as the store reads them, or cells of points."""
+"""Single points of questions and changes: texts as the store reads them, or values of a column of points."""
 from __future__ import annotations
 
 import datetime
-from typing import Any, Tuple
+from typing import Any, Optional, Tuple
 
 import numpy as np
 import pandas as pd
 
-from ruzgalt.frames import checks, points, zones
-from ruzgalt.frames.arrays import Ints
-from ruzgalt.frames.errors import REMEDIES, Refused
-from ruzgalt.frames.points import Form
+from ruzgalt.convert import checks, points
+from ruzgalt.convert.arrays import Ints
+from ruzgalt.convert.errors import REMEDIES, Refused
+from ruzgalt.convert.kinds import DAY, begins_of, has_time, walls_of
+from ruzgalt.convert.points import Form
 from ruzgalt.script import forms
 
 # Units of datetime64 that are longer than a day: a year, a month and a week.
 LONG = ("Y", "M", "W")
+# The first second of a time, and the first one after it.
+Span = Tuple[int, int]
+
+
+def written(point: Any) -> Optional[str]:
+    """Returns a text as the store reads it, or None for no text of a point. str() of a Timestamp has a space for T."""
+    text = point.replace(" ", "T") if isinstance(point, str) else ""
+    return text if text and forms.read_point(text) is not None else None
 
 
 def column_of(point: Any) -> Any:
-    """A Series of the point alone. Raises Refused (BadPoint, WrongKind)."""
+    """Returns a Series of one point. Raises Refused (BadPoint, WrongKind)."""
     if isinstance(point, str):
-        read = forms.read_point(point)
-        if read is None:
+        text = written(point)
+        if text is None:
             raise Refused("BadPoint", f"{point!r}: {REMEDIES['BadPoint']}")
-        return pd.Series([read], dtype=object)
+        return pd.Series([forms.read_point(text)], dtype=object)
     if not pd.api.types.is_scalar(point):
         raise Refused("WrongKind", f"{checks.shown(point)}: {REMEDIES['BadPoint']}")
     if pd.isna(point):
@@ -37,7 +46,7 @@ def column_of(point: Any) -> Any:
 
 
 def datetime_of(point: Any) -> datetime.datetime:
-    """The datetime that a datetime64 is, which pandas takes to nanoseconds, so not all years. Raises Refused."""
+    """Returns a datetime64 as a datetime. pandas takes it to nanoseconds, which not all years have. Raises Refused."""
     if np.datetime_data(point.dtype)[0] in LONG:
         raise Refused("WrongKind", f"{point!r} isn't a date or time: .astype('M8[D]') is its first day")
     cut = point.astype("M8[s]")
@@ -48,9 +57,10 @@ def datetime_of(point: Any) -> datetime.datetime:
 
 
 def second_of(point: Any) -> int:
-    """The point's second. Raises Refused (BadPoint, WrongKind)."""
-    if isinstance(point, str) and forms.read_point(point):
-        return points.FIRST + forms.seconds(point)
+    """Returns the point's second. Raises Refused (BadPoint, WrongKind)."""
+    text = written(point)
+    if text:
+        return points.FIRST + forms.seconds(text)
     column = column_of(point)
     try:
         return int(points.seconds_of(column)[0][0])
@@ -59,9 +69,9 @@ def second_of(point: Any) -> int:
 
 
 def second_in(point: Any, zone: Any) -> int:
-    """The point's second of UTC; of one without a zone that at which clocks show it in the zone, a day its begin.
+    """Returns the point's second of UTC. If it has no zone, clocks in this zone show it, and a day is its begin.
 
-    9999-12-31 is no end in each zone.
+    9999-12-31 means no end in each zone.
     """
     own = getattr(point, "tzinfo", None)
     if own is None:
@@ -72,14 +82,13 @@ def second_in(point: Any, zone: Any) -> int:
     return second_of(in_utc(point))
 
 
-def one_second(point: Any, zone: Any) -> Tuple[int, int]:
-    """Returns the point's second, and the next one."""
+def one_second(point: Any, zone: Any) -> Span:
     second = second_in(point, zone)
     return second, second + 1
 
 
 def in_utc(point: Any) -> Any:
-    """A datetime of a zone as clocks show it in UTC. Raises Refused (BadPoint) outside of their years."""
+    """Returns a datetime of a zone as clocks show it in UTC. Raises Refused (BadPoint) outside of their years."""
     if isinstance(point, pd.Timestamp):
         return point.tz_convert(None)
     if not isinstance(point, datetime.datetime):
@@ -91,60 +100,53 @@ def in_utc(point: Any) -> Any:
 
 
 def second_shown(wall: int, point: Any, zone: Any) -> int:
-    """The second at which clocks in the zone show a wall. Raises Refused (BadPoint) where they never do, or twice."""
-    if wall % zones.DAY == 0:
-        return int(zones.begins_of(np.array([wall], np.int64), zone)[0])
-    near = wall + np.arange(-zones.DAY, zones.DAY + 1, dtype=np.int64)
-    found = near[zones.walls_of(near, zone) == wall]
+    """Returns the second when clocks in the zone show a wall. Raises Refused if they never do, or twice."""
+    if wall % DAY == 0:
+        return int(begins_of(np.array([wall], np.int64), zone)[0])
+    near = wall + np.arange(-DAY, DAY + 1, dtype=np.int64)
+    found = near[walls_of(near, zone) == wall]
     if len(found) != 1:
         times = "never" if not len(found) else "twice"
-        remedy = "give a Timestamp with tz="
-        raise Refused("BadPoint", f"{point!r}: clocks in {zone} show it {times}; {remedy}")
+        raise Refused("BadPoint", f"{point!r}: clocks in {zone} show it {times}; give a Timestamp with tz=")
     return int(found[0])
 
 
-def wall_of(point: Any, zone: Any) -> int:
-    """What clocks in the zone show at the point, as seconds from 1970 on; of one without a zone what it says."""
-    if getattr(point, "tzinfo", None) is None:
-        return second_of(point)
-    return int(zones.walls_of(np.array([second_in(point, zone)], np.int64), zone)[0])
-
-
-def day_behind(point: Any, form: Form, zone: Any) -> int:
-    """The second at which the day after a last day begins. That may be a day which was left out, and has no second."""
+def next_day(point: Any, form: Form, zone: Any) -> int:
+    """Returns the second when the day after a last day begins. The last day may have no second of its own."""
     if zone is None:
-        return behind_of(point, form)
-    wall = wall_of(point, zone)
+        return end_of(point, form)
+    has_zone = getattr(point, "tzinfo", None) is not None
+    wall = int(walls_of(np.array([second_in(point, zone)], np.int64), zone)[0]) if has_zone else second_of(point)
     if wall >= points.LAST_BUT_ONE:
-        return behind_of(points.EPOCH + datetime.timedelta(seconds=wall), form)
-    return int(zones.begins_of(np.array([wall + zones.DAY], np.int64), zone)[0])
+        return end_of(points.EPOCH + datetime.timedelta(seconds=wall), form)
+    return int(begins_of(np.array([wall + DAY], np.int64), zone)[0])
 
 
-def span(start: Any, end: Any, form: Form, zone: Any) -> Tuple[int, int]:
-    """The seconds of a start, and of the first point after an end as the form has it. Raises Refused."""
+def span(start: Any, end: Any, form: Form, zone: Any) -> Span:
+    """Returns the seconds of a start, and of the first point after an end as the form has it. Raises Refused."""
     first = second_in(start, zone)
-    behind = points.NO_END if end is None else second_in(end, zone)
+    after = points.NO_END if end is None else second_in(end, zone)
     if form.has_last_days:
-        seconds = np.array([first, *([] if end is None else [behind])], np.int64)
-        if zones.has_time(seconds[seconds != points.NO_END], zone).any():
+        seconds = np.array([first, *([] if end is None else [after])], np.int64)
+        if has_time(seconds[seconds != points.NO_END], zone).any():
             raise Refused("BadPoint", f"{start!r} to {end!r}: with last_day=True, both must be days, without times")
-        behind = behind if end is None else day_behind(end, form, zone)
-    if first >= behind:
+        after = after if end is None else next_day(end, form, zone)
+    if first >= after:
         last = "the last day" if form.has_last_days else "the first point after it"
         raise Refused("BadPeriod", f"{start!r} to {end!r}: a start must be before its end, which is {last}")
-    return first, behind
+    return first, after
 
 
 def portion(start: Any, end: Any, form: Form) -> Ints:
-    """The seconds of a start, and of the first point after an end as the form has it; None is no end."""
+    """Returns the seconds of a start, and of the first point after an end as the form has it; None means no end."""
     first = second_of(start)
-    if form.has_last_days and first % zones.DAY:
+    if form.has_last_days and first % DAY:
         raise Refused("BadPoint", f"{start!r}: with last_day=True, a start can't have a time")
-    return np.array([first, points.NO_END if end is None else behind_of(end, form)], np.int64)
+    return np.array([first, points.NO_END if end is None else end_of(end, form)], np.int64)
 
 
-def behind_of(end: Any, form: Form) -> int:
-    """The second of the first point after an end without a zone, as the form has it. Raises Refused."""
+def end_of(end: Any, form: Form) -> int:
+    """Returns the second of an end without a zone; after a last day, the next day's first second. Raises Refused."""
     if not form.has_last_days:
         return second_of(end)
     try:
@@ -154,5 +156,5 @@ def behind_of(end: Any, form: Form) -> int:
 
 
 def text_of(point: Any) -> str:
-    """A point of a question as the store reads it."""
-    return point if isinstance(point, str) and forms.read_point(point) else points.text_of(second_of(point))
+    """Returns a point of a question as the store reads it."""
+    return written(point) or points.text_of(second_of(point))

@@ -1,14 +1,45 @@
-"""Words of command lines that several tools take."""
+"""The words of a tool, by tables: each option once, with the commands that take it."""
 import sys
 from argparse import SUPPRESS, Action, ArgumentError, ArgumentParser, ArgumentTypeError, Namespace
-from typing import Any, NoReturn, Optional, Sequence, Tuple
+from typing import Any, Callable, Dict, Iterable, NamedTuple, NoReturn, Optional, Sequence, Tuple
 
 from ruzgalt.cli import streams
 from ruzgalt.report.shown import Amounts, Look
 
-
 # How many options --help lists.
 OPTIONS = 6
+
+
+class Option(NamedTuple):
+    """A word that a tool takes: an option if it begins with hyphens.
+
+    of      the commands that take it; empty for all
+    value   what the help calls its value: a flag has none, and two dots follow it if the option may be repeated
+    """
+
+    word: str
+    of: str
+    value: str
+    help: str
+    type: Callable[[str], Any] = str
+    more: Dict[str, Any] = {}
+
+    def add_to(self, parser: ArgumentParser) -> None:
+        words: Dict[str, Any] = {"help": self.help, **self.more}
+        if not self.value:
+            words["action"] = "store_true"
+        else:
+            words.update(type=self.type, metavar=self.value.rstrip("."))
+            if self.value.endswith(".."):
+                words.update(action="append", default=[])
+        parser.add_argument(self.word, **words)
+
+
+def add_all(parser: ArgumentParser, options: Iterable[Option], command: str = "") -> None:
+    """Adds the options that a command takes."""
+    for one in options:
+        if not one.of or command in one.of.split():
+            one.add_to(parser)
 
 
 class Once(Action):
@@ -50,13 +81,13 @@ class Words(ArgumentParser):
     def print_help(self, file: Any = None) -> None:
         """Prints the example, and the help with the first options."""
         options = [one for one in self._actions if one.option_strings and one.dest != "help"]
+        options = [one for one in options if one.help != SUPPRESS]
         first = [one for one in options if one.dest in self.first] or options[:OPTIONS]
-        others = [one for one in options if one not in first]
-        texts = [one.help for one in others]
-        for one in others:
+        others = [(one, one.help) for one in options if one not in first]
+        for one, _ in others:
             one.help = SUPPRESS
         shown = self.format_help()
-        for one, text in zip(others, texts):
+        for one, text in others:
             one.help = text
         more = f"\n--help-all lists {len(others)} more options.\n" if others else ""
         streams.show_text((f"For example:\n\n    {self.example}\n\n" if self.example else "") + shown + more)
@@ -72,6 +103,13 @@ def filled(word: str) -> str:
     return word
 
 
+def workbook(word: str) -> str:
+    """Returns the name of a workbook. Excel opens no other."""
+    if not word.lower().endswith(".xlsx"):
+        raise ArgumentTypeError(f"{word}: not the name of a workbook, such as pay.xlsx")
+    return word
+
+
 def pair(word: str) -> Tuple[str, str]:
     """Returns the pair of COLUMN=VALUE."""
     name, mark, value = word.partition("=")
@@ -80,16 +118,13 @@ def pair(word: str) -> Tuple[str, str]:
     return name, value
 
 
-def words_of_where(parser: ArgumentParser) -> None:
-    """Adds the option that selects records."""
-    parser.add_argument(
-        "--where", type=pair, action="append", default=[], metavar="COLUMN=VALUE",
-        help="only records with this value; may be repeated",
-    )
+def named(word: str) -> Tuple[str, str]:
+    """Returns a column, and the name that it gets."""
+    return pair(word) if "=" in word else (word, word)
 
 
 def some_commits(word: str) -> Tuple[int, Optional[int]]:
-    """N, or FIRST-LAST of several, or FIRST- of all from there on: the first, and the last where it is given."""
+    """Returns the first and the last commit of N, FIRST-LAST, or FIRST-, which has no last one."""
     first, mark, last = word.partition("-")
     if not (first + last).isdigit() or not first:
         raise ArgumentTypeError(f"{word}: not N, FIRST-LAST or FIRST-, such as 7, 7-9 or 7-")
@@ -104,20 +139,11 @@ def decimals(word: str) -> Tuple[str, int]:
     return name, int(digits)
 
 
-def words_of_looks(parser: ArgumentParser, german: Optional[str] = "decimals are as 1234,50") -> None:
-    """Adds options for amounts and ends as a person reads them; without --german if that has no help."""
-    parser.add_argument(
-        "--decimals", type=decimals, action="append", default=[], metavar="COLUMN=DIGITS",
-        help="numbers as csv-to-load made them whole: with cents=2, 123450 is 1234.50",
-    )
-    if german:
-        parser.add_argument("--german", action="store_true", help=german)
-    else:
-        parser.set_defaults(german=False)
-    parser.add_argument(
-        "--last-day", action="store_true", help="valid_to becomes last_day, the last day on which a record holds",
-    )
+def pixels(word: str) -> int:
+    if not word.isdigit() or not 40 <= int(word) <= 100_000:
+        raise ArgumentTypeError(f"{word}: not a number from 40 to 100000")
+    return int(word)
 
 
 def look_of(options: Namespace) -> Look:
-    return Look(Amounts(options.decimals, options.german), options.last_day)
+    return Look(Amounts(options.decimals, getattr(options, "german", False)), options.last_day)

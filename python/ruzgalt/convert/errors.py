@@ -9,7 +9,7 @@ from pathlib import Path
 from typing import Any, Optional
 
 from ruzgalt import progress
-from ruzgalt.frames.arrays import Marks
+from ruzgalt.convert.arrays import Marks
 from ruzgalt.script import forms
 
 # The package's folder. A caller's file may have a name that begins as its name does.
@@ -33,14 +33,14 @@ class Refused(ValueError):
     Attributes
     ----------
     name : str
-        The refusal's name in the language, as BadPeriod or KeyOverlap, also where the value never came to the program;
-        WrongKind of a dtype that has no kind of the store; of a store's commits NoLabel and NoDay.
+        The refusal's name in the language, such as BadPeriod or KeyOverlap, even if Python refused the value; WrongKind
+        for a dtype that can't be used; NoLabel and NoDay for a store's commits.
     reason : str
-        What is wrong and what to do, in one line.
+        The fault and the remedy, in one line.
     column : name or None
-        The frame's column at fault, where it is one.
+        The frame's column at fault, if there is one.
     label : object or None
-        The index label of the row at fault, where it is one.
+        The index label of the row at fault, if there is one.
 
     Examples
     --------
@@ -60,12 +60,12 @@ class Refused(ValueError):
 
     def __str__(self) -> str:
         named = [("column", self.column), ("row", self.label)]
-        place = ", ".join(f"{word} {value!r}" for word, value in named if value is not None)
-        return f"{self.name}: {place + ': ' if place else ''}{self.reason}"
+        where = ", ".join(f"{word} {value!r}" for word, value in named if value is not None)
+        return f"{self.name}: {where + ': ' if where else ''}{self.reason}"
 
 
 class Doubt(UserWarning):
-    """What was given is taken as it stands, and it may not be what was meant: a warning of Python's `warnings`.
+    """A possible mistake: a warning of Python's `warnings`. The call answers as it was asked.
 
     Examples
     --------
@@ -83,7 +83,7 @@ class Doubt(UserWarning):
 
 
 def doubt(reason: str) -> None:
-    """Warns of the line that called this package. The line of progress is removed before."""
+    """Warns, naming the line that called this package. The line of progress is removed before."""
     progress.take_away()
     level, frame = 1, inspect.currentframe()
     while frame is not None and is_ours(frame.f_code.co_filename):
@@ -97,12 +97,12 @@ def is_ours(file: str) -> bool:
 
 
 def label_at(marked: Marks, index: Any) -> Optional[Any]:
-    """The index label of the first marked row; of numpy's scalars the number or text itself."""
+    """Returns the index label of the first marked row; a number or text of numpy as Python's own."""
     label = index[int(marked.argmax())]
     return label.item() if hasattr(label, "item") else label
 
 
 def refuse(marked: Marks, column: Any, name: str, reason: str) -> None:
-    """Raises Refused for the first marked row of a column (a Series), where one is marked."""
+    """Raises Refused for the first marked row of a column (a Series), if one is marked."""
     if marked.any():
         raise Refused(name, reason, column.name, label_at(marked, column.index))

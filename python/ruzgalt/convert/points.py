@@ -1,4 +1,4 @@
-"""Points of a frame's columns as seconds from 1970 on, and back into the dtype that came in.
+"""Points of a frame's columns as seconds from 1970 on, and back in the dtype of the frame.
 
 Points in a time zone are seconds of UTC.
 """
@@ -12,11 +12,10 @@ from typing import Any, List, Tuple
 import numpy as np
 import pandas as pd
 
-from ruzgalt.frames import arrow, zones
-from ruzgalt.frames.arrays import Cells, Ints, Marks, of_objects
-from ruzgalt.frames.errors import Refused, label_at, refuse
-from ruzgalt.frames.kinds import DAYS, NS, OFFSETS, UNITS, Kind, refuse_mixed
-from ruzgalt.frames.zones import DAY
+from ruzgalt.convert import kinds
+from ruzgalt.convert.arrays import Cells, Ints, Marks, of_objects
+from ruzgalt.convert.errors import Refused, label_at, refuse
+from ruzgalt.convert.kinds import DAY, DAYS, NS, OFFSETS, UNITS, Kind
 from ruzgalt.script import forms
 
 FIRST, LAST, NO_END = -62_135_596_800, 253_402_300_799, 253_402_214_400
@@ -24,17 +23,17 @@ NS_RANGE = (-(2**63) // NS + 1, (2**63 - 1) // NS)
 NAT = np.iinfo(np.int64).min
 EPOCH = datetime.datetime(1970, 1, 1)
 LENGTHS = {"D": DAY, "S": 1}
-# A last day that is the day before the one that stands for no end.
+# The last day before the one that means no end.
 LAST_BUT_ONE = NO_END - DAY
-# The years of points in a time zone, by whether they are of datetime64[ns]: those before and after are there too.
+# The years of points in a time zone, by whether they are of datetime64[ns]. The years before and after exist too.
 ZONED = {False: ("0002", "9998"), True: ("1678", "2261")}
 
 
 @dataclass(frozen=True)
 class Form:
-    """How periods stand in a frame.
+    """How a frame has its periods.
 
-    is_open         a missing end stands for 9999-12-31, and comes back as missing
+    is_open         a missing end means 9999-12-31, and comes back as missing
     has_last_days   an end is the last day of its row, and not the first point after it
     """
 
@@ -42,16 +41,16 @@ class Form:
     has_last_days: bool = False
 
     def starts_of(self, column: Any) -> Tuple[Ints, Kind]:
-        """The starts, and their kind. Raises Refused (BadPoint, WrongKind)."""
+        """Returns the starts, and their kind. Raises Refused (BadPoint, WrongKind)."""
         seconds, kind = seconds_of(column)
         if self.has_last_days:
             refuse_times(seconds, kind, column)
         return seconds, kind
 
     def ends_of(self, column: Any) -> Tuple[Ints, Kind]:
-        """The first points after the rows, and their kind. Raises Refused (BadPoint, WrongKind)."""
+        """Returns the first points after the rows, and their kind. Raises Refused (BadPoint, WrongKind)."""
         if kind_of_period(column.dtype).is_long:
-            return behind_of_long(column, self.is_open)
+            return ends_of_long(column, self.is_open)
         seconds, kind = seconds_of(column, self.is_open)
         if not self.has_last_days:
             return seconds, kind
@@ -59,48 +58,48 @@ class Form:
         refuse_times(seconds, kind, column, known)
         is_last = (seconds == NO_END) & known
         refuse(is_last, column, "BadPoint", "there is no day after it; open_end=True reads it as no known end")
-        reason = "the day after it is 9999-12-31, which stands for no known end: give an earlier day"
+        reason = "the day after it is 9999-12-31, which means no known end: give an earlier day"
         refuse((seconds == LAST_BUT_ONE) & self.is_open, column, "BadPoint", reason)
-        seconds[known] = zones.days_behind(seconds[known], kind.zone)
+        seconds[known] = kinds.next_days(seconds[known], kind.zone)
         return seconds, kind
 
     def restored_ends(self, seconds: Ints, kind: Kind, index: Any = None) -> Any:
-        """A column of ends, as they came in. Raises Refused (BadPoint)."""
+        """Returns a column of ends, or of last days if the form has these. Raises Refused (BadPoint)."""
+        known = ~self.are_open(seconds)
         if kind.is_long:
-            return series_of(np.where(self.are_open(seconds), seconds, seconds - 1), kind, index, self.is_open)
+            return series_of(np.where(known, seconds - 1, seconds), kind, index, self.is_open)
         if not self.has_last_days:
             return series_of(seconds, kind, index, self.is_open)
-        known = ~self.are_open(seconds)
         ends = seconds[known]
-        with_times = ends[zones.has_time(ends, kind.zone)]
+        with_times = ends[kinds.has_time(ends, kind.zone)]
         if len(with_times):
-            reason = f"a row ends at {text_of(zones.walls_of(with_times, kind.zone)[0])}, so it has no last day"
+            reason = f"a row ends at {text_of(kinds.walls_of(with_times, kind.zone)[0])}, so it has no last day"
             raise Refused("BadPoint", f"{reason}; leave out last_day=True")
         lasts = seconds.copy()
-        lasts[known] = zones.days_before(ends, kind.zone)
+        lasts[known] = kinds.days_before(ends, kind.zone)
         return series_of(lasts, kind, index, self.is_open)
 
     def are_open(self, seconds: Ints) -> Marks:
-        """Which of these ends are none."""
+        """Returns which of these ends mean no end."""
         marked: Marks = (seconds == NO_END) & self.is_open
         return marked
 
 
 def refuse_times(seconds: Ints, kind: Kind, column: Any, known: Any = slice(None)) -> None:
-    """Of the known ones; those left out stand for no point."""
+    """Raises Refused for a time of day among the known points."""
     marked = np.zeros(len(seconds), bool)
-    marked[known] = zones.has_time(seconds[known], kind.zone)
+    marked[known] = kinds.has_time(seconds[known], kind.zone)
     reason = "with last_day=True, points must be days, but this has a time; .dt.floor('D') drops it"
     refuse(marked, column, "BadPoint", reason)
 
 
 def seconds_of(column: Any, is_open: bool = False) -> Tuple[Ints, Kind]:
-    """The points of a Series as seconds, and their kind. Raises Refused (BadPoint, WrongKind) with the row's label.
+    """Returns the points of a Series as seconds, and their kind. Raises Refused (BadPoint, WrongKind) with the label.
 
-    is_open: what is missing stands for 9999-12-31.
+    is_open: a missing point means 9999-12-31.
     """
     dtype = column.dtype
-    if arrow.is_point(dtype):
+    if kinds.arrow_type(dtype) in kinds.ARROW_DATES or kinds.arrow_type(dtype).startswith("timestamp["):
         seconds, kind = of_arrow(column)
     elif isinstance(dtype, pd.DatetimeTZDtype):
         seconds, kind = of_zone(column)
@@ -122,19 +121,19 @@ def seconds_of(column: Any, is_open: bool = False) -> Tuple[Ints, Kind]:
 
 
 def kind_of_period(dtype: Any) -> Kind:
-    """Of pandas 2.2 on, seconds are `s`."""
+    """Returns the kind of a dtype of periods; another dtype has none. From pandas 2.2 on seconds are `s`."""
     name = str(dtype)[len("period["):-1] if isinstance(dtype, pd.PeriodDtype) else ""
     return Kind("S" if name == "s" else name)
 
 
 def of_long(column: Any, how: str) -> Tuple[Ints, Kind]:
-    """The first seconds of longer periods, or the last ones."""
+    """Returns the first seconds of longer periods, or the last ones."""
     seconds = of_periods(column.dt.asfreq(OFFSETS["S"].freqstr, how))[0]
     return seconds, kind_of_period(column.dtype)
 
 
-def behind_of_long(column: Any, is_open: bool) -> Tuple[Ints, Kind]:
-    """The first points after longer periods: an end of March is April 1st, whatever ends are otherwise."""
+def ends_of_long(column: Any, is_open: bool) -> Tuple[Ints, Kind]:
+    """Returns the first points after longer periods: an end of March is April 1st, with last_day or without."""
     lasts, kind = of_long(column, "end")
     missing = lasts == NAT
     refuse_missing(missing, is_open, column)
@@ -149,13 +148,14 @@ def refuse_missing(missing: Marks, is_open: bool, column: Any) -> None:
 
 
 def of_arrow(column: Any) -> Tuple[Ints, Kind]:
-    datetimes = arrow.datetimes_of(column)
+    datetimes = kinds.datetimes_of_arrow(column)
     seconds, kind = of_zone(datetimes) if isinstance(datetimes.dtype, pd.DatetimeTZDtype) else of_datetimes(datetimes)
-    return seconds, Kind("date" if arrow.is_date(column.dtype) else kind.name, kind.zone, column.dtype)
+    is_date = kinds.arrow_type(column.dtype) in kinds.ARROW_DATES
+    return seconds, Kind("date" if is_date else kind.name, kind.zone, column.dtype)
 
 
 def of_zone(column: Any) -> Tuple[Ints, Kind]:
-    """Of points in a time zone, the seconds in UTC. Where clocks there may show another year, they are refused."""
+    """Returns points in a time zone as seconds in UTC. Those are refused whose clocks may show another year."""
     seconds, kind = of_datetimes(column.dt.tz_convert(None))
     first, last = ZONED[kind.name == "ns"]
     years = np.where(seconds == NAT, np.int64(0), seconds).view("M8[s]").astype("M8[Y]")
@@ -192,27 +192,23 @@ def refuse_outside(numbers: Ints, first: int, last: int, column: Any) -> None:
 
 
 def of_dates(column: Any) -> Tuple[Ints, Kind]:
-    """Objects: dates or datetimes. Each that differs is looked at once."""
+    """Reads objects: dates or datetimes. Equal ones are tested once."""
     inferred = pd.api.types.infer_dtype(column, skipna=True)
     if inferred not in ("date", "datetime", "empty"):
         reason = f"{inferred} isn't a date: pandas.to_datetime or .astype('period[S]') converts it"
         raise Refused("WrongKind", reason, column.name)
     codes, found = pd.factorize(np.asarray(column, object))
-    kinds = {"datetime" if isinstance(one, datetime.datetime) else "date" for one in found}
-    refuse_mixed(kinds, column.name)
+    names = {"datetime" if isinstance(one, datetime.datetime) else "date" for one in found}
+    if len(names) > 1:
+        reason = "dates and datetimes in one column: pandas.to_datetime makes one kind"
+        raise Refused("WrongKind", reason, column.name)
     for place, one in enumerate(found):
-        if not is_second(one):
+        if isinstance(one, datetime.datetime) and (one.tzinfo or one.microsecond or getattr(one, "nanosecond", 0)):
             label = label_at(codes == place, column.index)
             reason = f"{one} has a zone or a fraction of a second; .replace drops it, pandas.to_datetime takes one zone"
             raise Refused("BadPoint", reason, column.name, label)
     table = np.array([second_of(one) for one in found] + [NAT], np.int64)
-    return table[codes], Kind("".join(kinds))
-
-
-def is_second(point: datetime.date) -> bool:
-    if not isinstance(point, datetime.datetime):
-        return True
-    return point.tzinfo is None and not point.microsecond and not getattr(point, "nanosecond", 0)
+    return table[codes], Kind("".join(names))
 
 
 def second_of(point: datetime.date) -> int:
@@ -223,16 +219,16 @@ def second_of(point: datetime.date) -> int:
 
 
 def has_all(kind: Kind, seconds: Ints) -> bool:
-    """Whether a column of the kind can have each of these points."""
+    """Returns whether a column of the kind can have each of these points."""
     if kind.name in DAYS:
         return not (seconds % DAY).any()
     return kind.name != "ns" or bool(((seconds >= NS_RANGE[0]) & (seconds <= NS_RANGE[1])).all())
 
 
 def series_of(seconds: Ints, kind: Kind, index: Any = None, is_open: bool = False) -> Any:
-    """The points as a Series. Raises Refused (BadPoint) where the kind hasn't one of them.
+    """Returns the points as a Series. Raises Refused (BadPoint) if the kind can't have one of them.
 
-    The dtype is given: of objects pandas makes datetime64[ns], where all of them fit.
+    The dtype is given: of objects pandas makes datetime64[ns] if all of them fit.
     """
     name, missing = kind.name, seconds == NO_END if is_open else np.zeros(len(seconds), bool)
     if name in DAYS and (seconds % DAY).any():
@@ -240,7 +236,7 @@ def series_of(seconds: Ints, kind: Kind, index: Any = None, is_open: bool = Fals
         raise Refused("BadPoint", f"{point} isn't a day: give the points of both frames as period[S] or datetime64")
     if kind.arrow is not None:
         cells = datetimes_of(seconds, missing, name if name in UNITS else "s")
-        return pd.Series(arrow.points_of(cells, missing, kind.arrow), index)
+        return pd.Series(kinds.arrow_of_datetimes(cells, missing, kind.arrow), index)
     if name in UNITS:
         return in_zone(datetimes_of(seconds, missing, name), kind.zone, index)
     if name in OFFSETS:
@@ -256,11 +252,11 @@ def periods_of(seconds: Ints, missing: Marks, name: str, index: Any) -> Any:
 
 
 def in_zone(cells: Cells, zone: Any, index: Any) -> Any:
-    """The datetimes as a Series, in a zone where there is one."""
+    """Returns the datetimes as a Series, in a zone if there is one."""
     try:
         made = pd.Series(cells, index)
     except pd.errors.OutOfBoundsDatetime as error:
-        # pandas 1.5 has no other unit than ns.
+        # pandas 1.5 has only ns.
         raise Refused("BadPoint", f"{error}: period[S] holds it, as .dt.to_period('S') makes it") from None
     return made if zone is None else made.dt.tz_localize("UTC").dt.tz_convert(zone)
 
@@ -283,13 +279,8 @@ def objects_of(seconds: Ints, missing: Marks, kind: str) -> Cells:
     return cells
 
 
-def period_of(seconds: int) -> Any:
-    """The second as a Period; not by its text, of which pandas refuses a time outside of 1677 to 2262."""
-    return pd.Period(ordinal=seconds, freq=OFFSETS["S"])
-
-
 def texts_of(seconds: Ints) -> List[str]:
-    """The points as a script has them."""
+    """Returns the points as a script has them."""
     codes, found = pd.factorize(np.asarray(seconds, np.int64))
     texts = np.datetime_as_string(found.astype("M8[s]")).tolist()
     points: List[str] = of_objects([text.replace("T00:00:00", "") for text in texts])[codes].tolist()
@@ -302,13 +293,13 @@ def text_of(second: int) -> str:
 
 @lru_cache(maxsize=1)
 def first_days() -> Ints:
-    """The number of the first day of each month, from year 0 on."""
+    """Returns the number of the first day of each month, from year 0 on."""
     months = np.arange(-12 * 1970, 12 * (10_000 - 1970)).astype("M8[M]")
     days: Ints = months.astype("M8[D]").astype(np.int64)
     return days
 
 
 def day_of(year: Ints, month: Ints, day: Ints) -> Ints:
-    """The number of a day of the calendar."""
+    """Returns the number of a day of the calendar."""
     days: Ints = first_days()[12 * year + month - 1] + day - 1
     return days

@@ -1,6 +1,6 @@
-"""What is given to a call is looked at once, by its type, and comes back as the type that is worked with.
+"""Tests of arguments by their type. Each returns the argument in the type that the calls work with.
 
-A wrong value is refused as BadCommand, by the option's name, with what was given and what it must be.
+A wrong value is refused as BadCommand, with the option's name, the value, and the types that it may have.
 """
 from __future__ import annotations
 
@@ -10,13 +10,13 @@ from typing import Any, Hashable, Iterable, List, Mapping, Optional, Sequence, T
 import numpy as np
 import pandas as pd
 
-from ruzgalt.frames.errors import Refused
-from ruzgalt.frames.named import same
+from ruzgalt.convert.errors import Refused
+from ruzgalt.convert.named import same
 from ruzgalt.script import naming
 
 Pair = Tuple[Any, Any]
 Suffixes = Tuple[Optional[str], Optional[str]]
-# What is shown as it was given, up to so many characters, in a list too; of all else its type.
+# Values of these types are shown, up to LONGEST characters, in a list too; of others their type.
 SHOWN, LONGEST = (str, bytes, int, float, np.generic, type(None)), 60
 MOST_DIGITS = 18
 
@@ -51,7 +51,7 @@ def is_whole(given: Any) -> bool:
 
 
 def is_number(given: Any) -> bool:
-    """Whether a script has it as a whole number."""
+    """Returns whether a script has it as a whole number."""
     return is_whole(given) or is_flag(given)
 
 
@@ -69,7 +69,7 @@ def one_of(option: str, given: Any, among: Sequence[str]) -> str:
 
 
 def is_name(given: Any) -> bool:
-    """Whether it can be the name of a column: nothing that has others in it, but for a text and a tuple."""
+    """Returns whether it can be the name of a column: a text, a tuple of names, or another value without items."""
     if isinstance(given, tuple):
         return all(map(is_name, given))
     has_others = isinstance(given, Iterable) and not isinstance(given, (str, bytes))
@@ -83,7 +83,7 @@ def name(option: str, given: Any) -> Any:
 
 
 def names(option: str, given: Any) -> Optional[Tuple[Any, ...]]:
-    """A name, or a list or tuple of names, as a tuple; None of None."""
+    """Returns a tuple of a name, or of a list or tuple of names. Returns None for None."""
     if given is None:
         return None
     several = tuple(given) if isinstance(given, (list, tuple)) else (given,)
@@ -93,7 +93,7 @@ def names(option: str, given: Any) -> Optional[Tuple[Any, ...]]:
 
 
 def period(option: str, given: Any) -> Tuple[Any, ...]:
-    """Two different names, or a name by itself."""
+    """Returns two different names, or one name."""
     if is_name(given) and given is not None and not isinstance(given, tuple):
         return (same(given),)
     both = tuple(map(same, given)) if isinstance(given, (list, tuple)) else ()
@@ -116,7 +116,7 @@ def texts(option: str, given: Any) -> List[str]:
 
 
 def span(option: str, given: Any) -> Pair:
-    """A start and an end, whatever points they are."""
+    """Returns a start and an end, which aren't tested yet."""
     if not isinstance(given, (list, tuple)) or len(given) != 2:
         raise wrong(option, given, "must be a start and an end, such as ('2024-01-01', '2025-01-01')")
     return given[0], given[1]
@@ -130,22 +130,22 @@ def suffixes(option: str, given: Any) -> Suffixes:
 
 
 def digits(option: str, given: Any) -> Mapping[Any, int]:
-    """How many decimals columns have."""
+    """Returns the numbers of decimals of columns."""
     if not isinstance(given, Mapping) or not all(map(is_name, given)):
         raise wrong(option, given, "must be a dict of columns with their numbers of decimals, such as {'pay': 2}")
     return {same(one): whole(f"{option}[{one!r}]", count, 0, MOST_DIGITS) for one, count in given.items()}
 
 
 def records(option: str, given: Any) -> List[Tuple[Any, str]]:
-    """Columns with the values that records of a script are to have, as they stand in it: of True and False 1 and 0."""
+    """Returns columns with the values of a script's records: True and False are 1 and 0."""
     if not isinstance(given, Mapping) or not all(isinstance(one, str) or is_number(one) for one in given.values()):
-        wanted = "must be a dict of columns with texts or whole numbers, as the script has them"
+        wanted = "must be a dict of columns with texts or whole numbers like the script's"
         raise wrong(option, given, f"{wanted}, such as {{'person': 'Ada'}}")
     return [(one, str.__str__(value) if isinstance(value, str) else str(int(value))) for one, value in given.items()]
 
 
 def stand_ins(option: str, given: Any) -> Mapping[Any, Any]:
-    """What stands for missing cells of columns; whether a column can have it, its kind says."""
+    """Returns the values for missing cells of columns; whether a column can have its value isn't tested yet."""
     if not isinstance(given, Mapping) or not all(map(is_name, given)) or any(one is None for one in given.values()):
         raise wrong(option, given, "must be a dict of columns with the values for missing cells, such as {'note': '?'}")
     return {same(one): value for one, value in given.items()}
@@ -160,12 +160,12 @@ def frame(option: str, given: Any) -> Any:
 
 
 def refuse_odd(columns: Any) -> None:
-    """Raises Refused if a frame of pandas or Dask has sparse columns, or some that are named NaN."""
+    """Raises Refused if a frame of pandas or Dask has sparse columns, or some that are named NaN or NA."""
     for name, dtype in zip(columns.columns, columns.dtypes):
         if isinstance(dtype, pd.SparseDtype):
             raise Refused("WrongKind", f"it is sparse ({dtype}); .sparse.to_dense() makes a usual column", name)
-        if isinstance(name, float) and name != name:
-            raise Refused("BadName", "a column can't be named NaN; .rename(columns=..) gives it a name", name)
+        if name is pd.NA or isinstance(name, float) and name != name:
+            raise Refused("BadName", "a column can't be named NaN or NA; .rename(columns=..) gives it a name", name)
 
 
 def are_spread(**frames: Any) -> bool:
@@ -178,6 +178,6 @@ def are_spread(**frames: Any) -> bool:
 
 
 def remedy_of(given: Any) -> str:
-    """Frames of Dask have compute, those of other libraries to_pandas, a Series has to_frame."""
+    """Frames of Dask have compute, frames of other libraries to_pandas, a Series has to_frame."""
     methods = [f".{method}()" for method in ("compute", "to_pandas", "to_frame") if hasattr(given, method)]
     return f"{methods[0]} makes one" if methods else "pandas.DataFrame(..) makes one, pandas.read_csv(..) reads one"

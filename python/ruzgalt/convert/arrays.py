@@ -1,4 +1,4 @@
-"""The arrays of numpy that the modules of this folder hand to one another."""
+"""Types of arrays of numpy, and arrays of objects."""
 from __future__ import annotations
 
 from typing import Any, List, Sequence
@@ -10,21 +10,21 @@ Ints = npt.NDArray[np.int64]
 Bytes = npt.NDArray[np.uint8]
 Marks = npt.NDArray[np.bool_]
 Hashes = npt.NDArray[np.uint64]
-# Of any dtype, objects too.
+# Any dtype, objects too.
 Cells = npt.NDArray[Any]
 
 NO_INTS: Ints = np.empty(0, np.int64)
 
 
 def of_objects(cells: Sequence[Any]) -> Cells:
-    """An array of objects, whatever they are: numpy makes a matrix of tuples, and of datetimes what it likes."""
+    """Returns an array of objects. numpy would make a matrix of tuples, and convert datetimes."""
     array = np.empty(len(cells), object)
     array[:] = cells
     return array
 
 
 def equal_to(cells: Cells, value: object) -> Marks:
-    """Which cells are this number or text: of a text itself numpy leaves out zero bytes at its end."""
+    """Returns which cells are this number or text. numpy would drop zero bytes at the end of a text."""
     marked: Marks = np.asarray(cells == (of_objects([value]) if isinstance(value, str) else value), bool)
     return marked
 
@@ -34,7 +34,7 @@ def joined(parts: List[Cells]) -> Cells:
 
 
 def narrowed(numbers: Cells) -> Cells:
-    """Python's numbers as int64, where all of them fit."""
+    """Returns Python's numbers as int64, if all of them fit."""
     if numbers.dtype == object and not np.asarray((numbers < -(2**63)) | (numbers >= 2**63), bool).any():
         return numbers.astype(np.int64)
     return numbers

@@ -1,1 +1,0 @@
-"""Pieces of the calendar in seconds, and fractions as whole numbers."""
