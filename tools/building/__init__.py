@@ -1,8 +1,8 @@
-"""Builds crates by Rattle's compiler itself, for the programs beside this folder. Python 3.9 and its library alone.
+"""Builds crates by Rattle's compiler itself, for the programs of tools/. Needs only Python 3.9.
 
-A module stands on those above it:
+A module uses only the ones above it:
 
-    crates      the crates of a repository, and what each stands on
+    crates      the crates of a repository, and which ones each uses
     copies      private copies of them
     toolchain   the toolchain on the PATH, and the words that its programs are called with
     kept        libraries that were proved before, and are kept

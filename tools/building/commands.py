@@ -9,7 +9,7 @@ from typing import IO, Optional, Sequence, Type
 
 
 class Command:
-    """A command that was begun, and what it says."""
+    """A running command, and its output."""
 
     def __init__(self, words: Sequence[str], folder: Path, group: int) -> None:
         self.words, self.folder = list(words), folder

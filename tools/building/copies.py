@@ -10,7 +10,7 @@ from building.crates import PARTS, Crates
 
 @contextlib.contextmanager
 def copied(top: Path, name: str) -> Iterator[Path]:
-    """A copy of what the toolchain reads of the crate of this name and of those below it, and of the files beside."""
+    """A copy of the files that the toolchain reads for the crate of this name and the crates below it."""
     crates = Crates.read(top).of(name)
     with tempfile.TemporaryDirectory(prefix="dipq-build-") as folder:
         copy = Path(folder)

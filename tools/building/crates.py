@@ -35,7 +35,7 @@ class Crate:
 
 
 class Crates:
-    """Crates by name. A name that is none of them is a library of the toolchain."""
+    """Crates by name. Any other name is a library of the toolchain."""
 
     def __init__(self, crates: Dict[str, Crate]) -> None:
         self.by_name = crates
@@ -47,7 +47,7 @@ class Crates:
         for line in (top / "crates.txt").read_text().splitlines():
             words, _, libraries = line.partition("#")[0].partition(":")
             if words.strip():
-                name = words.split()[0]  # What stands after it, as staticlib, is how the crate is built.
+                name = words.split()[0]  # A word after the name, such as staticlib, says how the crate is built.
                 found[name] = Crate(name, top / "crates" / name, tuple(libraries.split()))
         return cls(found)
 

@@ -1,7 +1,7 @@
-"""Libraries that were proved before. They lie in out/ of their crates, and a later build goes on from them.
+"""Libraries that were proved before. They are in out/ of their crates, and a later build uses them.
 
-A library is kept under a sum of all that its proof read: the toolchain, its files, its line of crates.txt, and each
-library below it as that was made. So none goes stale, and what is found under a sum was proved from the same.
+A library is kept under a checksum of all that its proof read: the toolchain, its files, its line of crates.txt, and
+each library below it. So none becomes stale: the library under a checksum was proved from the same files.
 """
 import contextlib
 import hashlib
@@ -20,7 +20,7 @@ from building.toolchain import Toolchain
 
 
 def sum_of_files(folder: Path, files: List[Path]) -> str:
-    """A sum of the files' places in the folder, and of what they hold."""
+    """Returns a checksum of the files: their paths in the folder, and their bytes."""
     found = hashlib.sha256()
     for file in files:
         held = hashlib.sha256(file.read_bytes()).hexdigest()
@@ -33,7 +33,7 @@ class NothingKept(Exception):
 
 
 class Kept:
-    """The libraries that builds of this repository keep, and where each lies that this build has."""
+    """The libraries that builds of this repository keep, and the path of each one of this build."""
 
     def __init__(self, top: Path, crates: Crates, toolchain: Toolchain) -> None:
         self.top, self.crates, self.toolchain = top, crates, toolchain
@@ -50,7 +50,7 @@ class Kept:
         return hashlib.sha256("\n".join(parts).encode()).hexdigest()
 
     def note(self, crate: Crate, library: Path) -> None:
-        """Notes where the crate's library lies."""
+        """Notes the path of the crate's library."""
         self.at[crate.name] = library
         files = sorted(file for file in library.rglob("*") if file.is_file())
         self.sums[crate.name] = sum_of_files(library, files)
@@ -73,11 +73,11 @@ class Kept:
             self.note(self.crates[name], given[name])
 
     def place(self, crate: Crate) -> Path:
-        """Where a library is to be made that `add` keeps."""
+        """Returns the path for a new library, which `add` keeps."""
         return self.folder(crate) / f"new-{os.getpid()}" / f"{crate.name}.rlib"
 
     def add(self, crate: Crate) -> None:
-        """Keeps the library that was made in its place, and drops those of other sums."""
+        """Keeps the library that was made there, and drops libraries of other checksums."""
         made, at = self.place(crate).parent, self.folder(crate) / self.key(crate)
         with contextlib.suppress(OSError):
             # Another build may have kept the same meanwhile.
@@ -89,7 +89,7 @@ class Kept:
         self.note(crate, at / f"{crate.name}.rlib")
 
     def drop_unmade(self, crate: Crate) -> None:
-        """Drops what a build that was interrupted left in the crate's place."""
+        """Drops files that an interrupted build left for the crate."""
         shutil.rmtree(self.place(crate).parent, ignore_errors=True)
 
 

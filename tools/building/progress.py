@@ -10,7 +10,7 @@ PAUSE = 5
 
 
 class Progress:
-    """On a terminal one line that is written anew, else a line each time that a crate's proof begins."""
+    """Shows one line on a terminal; otherwise a line when the proof of a crate begins."""
 
     def __init__(self, program: str, crates: Crates) -> None:
         self.program, self.crates = program, crates
@@ -19,7 +19,7 @@ class Progress:
         self.on_terminal = sys.stderr.isatty()
 
     def tick(self) -> None:
-        """Shows the minutes, where that is due."""
+        """Shows the minutes, if that is due."""
         if self.on_terminal and time.monotonic() - self.shown > PAUSE:
             self.show()
 

@@ -1,7 +1,7 @@
 """Which crate is proved next, and by how many jobs.
 
-Crates are proved side by side, first those with most work behind them, since the longest chain decides when all is
-done. A job is a process of the compiler's. The crate that heads the longest chain has two of them; processors that no
+Several crates are proved at once. The first ones are at the head of the longest chains of work, which decide the end.
+A job is a process of the compiler. The crate that heads the longest chain has two of them; processors that no
 other crate waits for are shared out, up to four a crate: each job more takes more of processors for the same proof.
 """
 import os
@@ -26,13 +26,13 @@ class Turn(NamedTuple):
 
 
 def free_memory() -> int:
-    """In bytes, as the system reports it."""
+    """Returns bytes, which the system reports."""
     with open("/proc/meminfo", encoding="ascii") as lines:
         return next(1024 * int(line.split()[1]) for line in lines if line.startswith("MemAvailable"))
 
 
 class Schedule:
-    """What is left to prove, and what is being proved."""
+    """The crates that are left, and the crates that are being proved."""
 
     def __init__(self, crates: Crates, processors: int = 0, memory: float = 0) -> None:
         self.crates = crates
@@ -44,7 +44,7 @@ class Schedule:
         self.jobs: Dict[str, int] = {}
 
     def chains(self) -> Mapping[str, int]:
-        """Of each crate the work of the longest chain that it heads, of crates that stand each on the one before."""
+        """Returns for each crate the work of its longest chain: crates that each use the one before."""
         chain: Dict[str, int] = {}
         for crate in reversed(list(self.crates)):
             above = (it.name for it in self.crates if crate.name in it.libraries)
@@ -56,12 +56,12 @@ class Schedule:
         return (BYTES_OF_EMPTY + BYTES_OF_LINE * self.work[name]) * (1 + PART_OF_JOB * (jobs - 1))
 
     def ready(self, done: Set[str]) -> List[str]:
-        """Those whose libraries are all there, first the one with most work behind it."""
+        """Returns the crates whose libraries are all there, with the longest chain of work first."""
         found = (name for name in self.left if done.issuperset(it.name for it in self.crates.own(self.crates[name])))
         return sorted(found, key=lambda name: -self.chain[name])
 
     def jobs_for(self, name: str, others: int) -> int:
-        """The jobs for a crate beside others that are ready, or none where it has to wait."""
+        """Returns the number of jobs for a crate if others are ready too, or 0 if it has to wait."""
         idle = self.processors - sum(self.jobs.values())
         room = self.memory - sum(self.bytes_of(it, jobs) for it, jobs in self.jobs.items())
         if idle <= 0 or self.jobs and self.bytes_of(name, 1) > room:
@@ -72,7 +72,7 @@ class Schedule:
         return next(fitting, 1)
 
     def next_turns(self, done: Set[str]) -> List[Turn]:
-        """What is to begin now."""
+        """Returns the crates that should begin now, with their jobs."""
         turns, ready = [], self.ready(done)
         for at, name in enumerate(ready):
             jobs = self.jobs_for(name, len(ready) - at - 1)

@@ -7,7 +7,7 @@ from typing import Iterable, List, Mapping
 
 from building.crates import Crate, Crates
 
-# The kits by which the repository was proved and built. Their logic is the same.
+# The kits that proved and built the repository. Their logic is the same.
 TRIED = ("rattle-kit-13b", "rattle-kit-13f")
 # C's part of the library, which programs are linked with.
 OF_C = ("libos_c.a", "liblibc_c.a")
@@ -15,7 +15,7 @@ Words = List[str]
 
 
 class NoToolchain(Exception):
-    """No rt is on the PATH, or none that lies in a toolchain."""
+    """No rt of a toolchain is on the PATH."""
 
 
 @dataclass(frozen=True)
@@ -32,14 +32,14 @@ class Toolchain:
             raise NoToolchain("rt isn't on the PATH")
         found = cls(Path(rt).resolve().parent.parent)
         if not Path(found.program("rattle")).is_file():
-            raise NoToolchain("no compiler lies beside the rt on the PATH")
+            raise NoToolchain("the rt on the PATH has no compiler next to it")
         return found
 
     def program(self, name: str) -> str:
         return str(self.folder / "bin" / name)
 
     def identity(self) -> str:
-        """What sets it apart from others, by which what it proved is kept."""
+        """Returns the identity under which its proofs are kept."""
         compiler = (self.folder / "bin" / "rattle").stat()
         named = self.folder / "KIT-ID"
         return f"{named.read_text() if named.is_file() else ''} {compiler.st_size} {compiler.st_mtime_ns}"
@@ -51,7 +51,7 @@ class Toolchain:
         return "" if kit.split(" ")[0] in TRIED else f"this toolchain is {kit}; {' and '.join(TRIED)} were tried\n"
 
     def of_crate(self, crate: Crate, crates: Crates, at: Mapping[str, Path]) -> Words:
-        """The words that name a crate, and the libraries that it is proved over: the repository's as they lie there."""
+        """Returns the words for a crate and its libraries, with their paths in the repository."""
         words = ["--crate-name", crate.name, crate.root]
         for name in ("std", *(it for it in crate.libraries if it not in crates.by_name)):
             words += ["--extern", f"{name}={self.folder}/rlibs/{name}.rlib"]
@@ -102,7 +102,7 @@ class Toolchain:
         return [*words, *self.library_sources(["std", *named])]
 
     def library_sources(self, names: Iterable[str]) -> Words:
-        """The same of libraries of the toolchain, and of those that they use."""
+        """Returns the same for libraries of the toolchain and the libraries that they use."""
         words, found = [], list(dict.fromkeys(names))
         for name in found:
             uses = re.findall(r"^dep (\w+)$", (self.folder / "rlibs" / f"{name}.rlib" / "format").read_text(), re.M)

@@ -1,1 +1,1 @@
-"""Makes the manual pages of what is installed, for the program man-page beside this folder."""
+"""Pages that tools/man-page, tools/make-api and tools/make-definitions print."""

@@ -1,4 +1,4 @@
-"""A docstring by numpydoc, taken apart: what it begins with, and the entries of its sections."""
+"""Takes a docstring by numpydoc apart: its summary, and the entries of its sections."""
 import inspect
 import re
 from dataclasses import dataclass
@@ -9,7 +9,7 @@ RULE = re.compile("-{3,}$")
 
 @dataclass(frozen=True)
 class Entry:
-    """A parameter, an attribute, what is returned or raised: its names where it has some, its type, and its text."""
+    """A parameter, an attribute, a value or an error: its names, if it has some, its type, and its text."""
 
     names: List[str]
     kind: str

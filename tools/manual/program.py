@@ -1,7 +1,7 @@
-"""The pages of dipq and dipq-live: what they print for --help, and in dipq's the language of docs/LANGUAGE.md.
+"""The pages of dipq and dipq-live: their help pages, and in dipq's the language of docs/LANGUAGE.md.
 
-What the help page says goes into the sections that each manual page has. The parts of the language are sections too,
-except its usual mistakes and what it says of ./dipq.
+The help page is divided into the sections that each manual page has. The parts of the language are sections too, except
+its usual mistakes and ./dipq.
 """
 import re
 from pathlib import Path
@@ -42,7 +42,7 @@ def entries(block: str) -> Iterator[str]:
 
 
 def usage(text: str) -> str:
-    """A line of usage: what is typed as it stands is bold, and what another text stands for is italic."""
+    """Returns a line of usage: words to be typed are bold, and words to be replaced are italic."""
     words = re.compile(r"(--[a-z]+|dipq(?:-live)?)|\b([A-Z]+)\b")
     return words.sub(lambda it: rf"\fB{exact(it[1])}\fR" if it[1] else rf"\fI{it[2]}\fR", text)
 

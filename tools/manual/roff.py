@@ -2,7 +2,7 @@
 import re
 from typing import Iterable, Iterator, List, Sequence
 
-from ruzgalt.version import version
+from ruzgalt.which import version
 
 # What stands for itself in roff's input is another character, or none.
 EXACT = {"\\": r"\e", "'": r"\(aq", "`": r"\(ga", "^": r"\(ha", "~": r"\(ti", '"': r"\(dq", "-": r"\-"}
@@ -16,7 +16,7 @@ def exact(text: str) -> str:
 
 
 def prose(text: str) -> str:
-    """The text, with its quotes and hyphens as those of words."""
+    """Returns the text, with the quotes and hyphens of prose."""
     return re.sub(r"(?<=\w)\\-(?=[a-zA-Z])", "-", exact(text).replace(r"\(aq", "'"))
 
 
@@ -28,7 +28,7 @@ def marked(found: "re.Match[str]") -> str:
 
 
 def inline(text: str) -> str:
-    """A text of Markdown: code is bold, what is stressed is italic, and of a link the words stand."""
+    """Returns a text of Markdown: code is bold, stress is italic, and a link becomes its words."""
     parts: List[str] = []
     at = 0
     for found in MARKED.finditer(text):
@@ -38,7 +38,7 @@ def inline(text: str) -> str:
 
 
 def line(text: str) -> str:
-    """A line of input that is no request."""
+    """Returns a line of input that isn't a request."""
     return rf"\&{text}" if text.startswith((".", "'")) else text
 
 
@@ -55,7 +55,7 @@ def verbatim(block: Iterable[str]) -> List[str]:
 
 
 def item(head: str, texts: Iterable[str]) -> List[str]:
-    """A head, and below it what is said of it."""
+    """Yields a head, and its text below it."""
     return [".PP", line(head), *indented([word for text in texts for word in (line(text), ".br")][:-1])]
 
 
@@ -65,7 +65,7 @@ def cells_of(row: str) -> List[str]:
 
 
 def table(rows: Sequence[str]) -> Iterator[str]:
-    """An item for each row. What stands in its third cell and after it is named by the table's head."""
+    """Yields an item for each row. The table's head names its third cell and later ones."""
     cells = [cells_of(row) for row in rows]
     heads = [head.capitalize() for head in cells[0]]
     for first, second, *others in cells[2:]:

@@ -11,9 +11,9 @@ SHARED = ("script", "help", "answers", "ask", "go_on")
 IN_A_REPOSITORY = "In a repository of Ruzgalt, and in its documents, the command is {}."
 SEE_ALSO = (
     r"\fBdipq\fR(1), {}. In the repository of Ruzgalt, and in /usr/share/doc/dipq where its package is installed: "
-    r"docs/RECIPES.md, docs/LOADING.md, docs/COMPUTING.md and docs/PICTURES.md, each command with what it prints."
+    r"docs/RECIPES.md, docs/LOADING.md, docs/COMPUTING.md and docs/PICTURES.md, each command with its output."
 )
-DIPQ = "The program that answers scripts. By default it is the dipq that is installed beside the tool."
+DIPQ = "The program that answers scripts. By default it is the dipq that is installed with the tool."
 ANSWERS_STATUS = [
     ("0", "Nothing was refused."),
     ("1", "Something isn't understood, or a command was refused; with `--go-on` refused commands count only for "
@@ -22,7 +22,7 @@ ANSWERS_STATUS = [
 ]
 LOAD_STATUS = [
     ("0", "The load was printed."),
-    ("1", "Something is wrong; standard error says what. In place of a load the record `csv-to-load failed` is "
+    ("1", "Something is wrong; standard error says what. Instead of a load the record `csv-to-load failed` is "
      "printed, which the store refuses."),
     ("2", "The arguments are wrong; the same record is printed."),
 ]
@@ -51,7 +51,7 @@ LOAD_EXAMPLES = [
 
 def answers() -> Iterator[str]:
     yield from opening("dipq-answers")
-    yield from section("name", [rf"dipq-answers \- {prose('reads a script of dipq beside its answers')}"])
+    yield from section("name", [rf"dipq-answers \- {prose('reads a script of dipq and its answers')}"])
     yield from section("synopsis", [r"\fBdipq-answers\fR \fICOMMAND\fR \fISCRIPT\fR .."])
     about = answers_tool.ABOUT.split("\n\n")
     described = [about[0], about[2], IN_A_REPOSITORY.format("tools/answers")]
@@ -79,7 +79,7 @@ def load() -> Iterator[str]:
 
 
 def synopsis(parser: ArgumentParser) -> List[str]:
-    """The command, and what stands after it without a hyphen."""
+    """Returns the command, and the words after it that have no hyphen."""
     given = [action for action in parser._actions if not action.option_strings]
     names = " ".join(rf"[\fI{one.metavar}\fR ..]" if one.nargs == "*" else rf"\fI{one.metavar}\fR" for one in given)
     return [rf"\fB{prose(parser.prog)}\fR {names} [\fIOPTION\fR ..] < \fIFILE\fR"]
