@@ -16,7 +16,7 @@ use Rattle.row_core.specs.declared.row.Row.{Row}
 use Rattle.row_core.specs.declared.value.Value.{Value}
 use Rattle.row_core.proofs.ValueLemmas.{maybe_decides, value_total}
 use Rattle.agg_core.specs.declared.entries.Entry.{Entry}
-use Rattle.share_core.specs.declared.range.Range.{Range}
+use Rattle.work_core.specs.declared.range.Range.{Range}
 use Rattle.agg_core.specs.Groups.{rows_of_group}
 use Rattle.agg_core.specs.Entries.{AreEntries, AreEntriesSorted, AreInGroups, HaveRows, IsEntry, entry_row, entry_value, no_row, value_at_place}
 use Rattle.agg_core.specs.KeyRanges.{in_range, rows_in_range}

@@ -15,12 +15,12 @@ use Rattle.row_core.proofs.ValueLemmas.{maybe_decides, maybe_total}
 use Rattle.dip_core.specs.declared.item.Item.{Item}
 use Rattle.list_core.proofs.RisingLemmas.{Contains-cons, Contains-head}
 use Rattle.list_core.proofs.WantedLemmas.{IsListOf-append, IsListOf-same}
-use Rattle.share_core.specs.Ranges.{has, has_begun, has_ended, is_from, range}
-use Rattle.share_core.specs.Shares.{Gives, GivesFrom}
-use Rattle.share_core.specs.declared.range.Range.{Range}
-use Rattle.share_core.specs.declared.shares.Cut.{Cut}
-use Rattle.share_core.proofs.RangeLemmas.{high_has, low_has}
-use Rattle.share_core.proofs.ShareLemmas.{all_come}
+use Rattle.work_core.specs.Ranges.{has, has_begun, has_ended, is_from, range}
+use Rattle.work_core.specs.Shares.{Gives, GivesFrom}
+use Rattle.work_core.specs.declared.range.Range.{Range}
+use Rattle.work_core.specs.declared.shares.Cut.{Cut}
+use Rattle.work_core.proofs.RangeLemmas.{high_has, low_has}
+use Rattle.work_core.proofs.ShareLemmas.{all_come}
 use Rattle.merge_core.specs.Gaps.{IsMaximal}
 use Rattle.round_core.specs.declared.measure.Measure.{Measure}
 use Rattle.agg_core.specs.declared.entries.Entry.{Entry}

@@ -1,7 +1,7 @@
 -- Ranges of the values that rows are grouped by, as ranges of their keys.
 use Rattle.std.specs.Prelude.{List, Bool, filter, Option, Some, option_map}
-use Rattle.share_core.specs.Ranges.{has, range}
-use Rattle.share_core.specs.declared.range.Range.{Range}
+use Rattle.work_core.specs.Ranges.{has, range}
+use Rattle.work_core.specs.declared.range.Range.{Range}
 use Rattle.row_core.specs.ValueOrder.{maybe_cmp}
 use Rattle.row_core.specs.declared.row.Row.{Row}
 use Rattle.row_core.specs.declared.value.Value.{Value}

@@ -14,10 +14,9 @@ ghost use Rattle.agg_core.specs.KeyRanges.{rows_in_range};
 use crate::keys::{GroupColumn, has_key};
 use list_core::room_for_half;
 use period_core::NoMemory;
-use share_core::Range;
-use sort_core::sort_by_key;
 use std::alloc::Global;
 use std::thread::Threads;
+use work_core::{Range, sort_by_key};
 
 /// The index of a row, with the sort key of the value by which it is grouped.
 #[derive(Clone, Copy)]

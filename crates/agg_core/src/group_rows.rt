@@ -16,9 +16,8 @@ use crate::groups::group_entries;
 use crate::keys::GroupColumn;
 use crate::rows::{AggRows, AggShare, share_of_groups};
 use period_core::NoMemory;
-use share_core::{Range, Shares, shared_out};
 use std::thread::Threads;
-use work_core::{Crew, Gate};
+use work_core::{Crew, Gate, Range, Shares, shared_out};
 
 /// Returns the answer for the groups whose values are within one range.
 fn share_of_range<R: Threads + Sync, G: Gate, K: Ord + Copy + Send + Sync, S: GroupColumn<K>>(

@@ -11,8 +11,8 @@ ghost use Rattle.agg_core.specs.Entries.{HaveValues, row_at, value_at_place};
 ghost use Rattle.agg_core.specs.KeyRanges.{group_of_key, in_range};
 
 use row_core::ValueRef;
-use share_core::Range;
 use table_core::SharedRows;
+use work_core::Range;
 
 /// Rows, and the column that they are grouped by. A sort compares keys of its values, which contain as little as the
 /// kind needs; no text is copied.

@@ -2,7 +2,7 @@
 
 ghost use Rattle.std.specs.Prelude.{◌≡◌, ◌≤◌, IfOk, None, length, map};
 ghost use Rattle.dip_core.specs.Item.{item_limit};
-ghost use Rattle.share_core.specs.Pieces.{piece};
+ghost use Rattle.work_core.specs.Pieces.{items_within};
 ghost use Rattle.agg_core.specs.Agg.{AreAggRows};
 ghost use Rattle.agg_core.specs.Entries.{amount_at, value_at_place};
 ghost use Rattle.agg_core.specs.Grouping.{amount_item};
@@ -14,11 +14,10 @@ use dip_core::Item;
 use list_core::in_one_list;
 use period_core::NoMemory;
 use round_core::plateaus_of;
-use share_core::{Range, Shares, places_within, shared_out};
 use std::alloc::Global;
 use std::thread::Threads;
 use table_core::SharedRows;
-use work_core::{Crew, Gate};
+use work_core::{Crew, Gate, Range, Shares, places_within, shared_out};
 
 /// Returns the rows at the given indices as items of one class, with their numbers in the column at index `amount`.
 fn items_of_piece(
@@ -28,7 +27,7 @@ fn items_of_piece(
     amount: Option<u32>,
 ) -> Result<Vec<Item>, NoMemory>
     ensures { IfOk result (λ items.
-        items.items ≡ map (amount_item (amount_at amount) 0) (piece places rows.now)) }
+        items.items ≡ map (amount_item (amount_at amount) 0) (items_within places rows.now)) }
 {
     let (start, end) = places_within(places, rows.len());
     let mut items = Vec::with_capacity(alloc, end - start)?;
@@ -56,7 +55,7 @@ fn items_of_rows<R: Threads + Sync, G>(
         &shares,
         &|places: Range<usize>, _workers: u32| -> Result<Vec<Item>, NoMemory>
             ensures { IfOk result (λ items. items.items
-                ≡ map (amount_item (amount_at amount) 0) (piece places rows.entry.now)) }
+                ≡ map (amount_item (amount_at amount) 0) (items_within places rows.entry.now)) }
         { items_of_piece(alloc, rows, places, amount) },
     )?;
     in_one_list(alloc, lists)

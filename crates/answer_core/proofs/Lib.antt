@@ -1,4 +1,5 @@
 pub mod FieldLemmas
+pub mod FoundRows
 pub mod PieceLemmas
 pub mod Printing
 pub mod WritingLemmas

@@ -6,9 +6,9 @@ use Rattle.std.proofs.lemmas.List.Sums.{sum_by-cons}
 use Rattle.std.proofs.lemmas.List.{drop-append-le, length-map}
 use Rattle.std.proofs.lemmas.Option.{get_or_from_slice_get, slice_get-get_or, slice_get-map}
 use Rattle.csv.specs.Writing.{row_text}
-use Rattle.share_core.proofs.PieceLemmas.{piece-between}
-use Rattle.share_core.specs.Pieces.{piece}
-use Rattle.share_core.specs.declared.range.Range.{Range}
+use Rattle.work_core.proofs.PieceLemmas.{piece-between}
+use Rattle.work_core.specs.Pieces.{items_within}
+use Rattle.work_core.specs.declared.range.Range.{Range}
 use Rattle.row_core.specs.declared.row.Row.{Row}
 use Rattle.table_core.proofs.PlaceLemmas.{take-one_more}
 use Rattle.book_core.specs.declared.log.Entry.{Entry}
@@ -120,7 +120,7 @@ pub bytes-piece : (a b : List ℕ) (records : List Record) (places : Range ℕ) 
     → b ≡ a ++ bytes_of (drop start (take end records))
     → end ≡ min (unwrap_or places.before (length records)) (length records)
     → start ≡ min (unwrap_or places.from 0) end
-    → b ≡ a ++ bytes_of (piece places records)
+    → b ≡ a ++ bytes_of (items_within places records)
 bytes-piece a b records places start end all before from =
     all ∙ ap (λ some. a ++ bytes_of some) (sym (piece-between places start end records before from))
 

@@ -1,4 +1,5 @@
 pub mod JoinedRows
+pub mod Places
 pub mod PrintedRecords
 pub mod RecordBytes
 pub mod UnmatchedRows

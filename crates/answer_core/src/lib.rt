@@ -13,6 +13,7 @@ mod print_log;
 mod ranges;
 mod record_text;
 mod row_values;
+mod rows_by_id;
 mod texts;
 mod unmatched;
 mod writer;

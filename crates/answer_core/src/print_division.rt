@@ -12,9 +12,8 @@ use crate::writer::AnswerWriter;
 use cert_core::Verdict;
 use dip_core::{Division, Part};
 use period_core::{NoMemory, Point};
-use share_core::Shares;
 use std::thread::Threads;
-use work_core::Crew;
+use work_core::{Crew, Shares};
 
 /// The records of a division's parts.
 #[derive(Drop)]

@@ -2,7 +2,7 @@
 ghost use Rattle.std.specs.Prelude.{◌≡◌, ◌<◌, ◌++◌, [], List, get_or, length, IfOk, OnOk};
 ghost use Rattle.csv.specs.Writing.{row_text};
 ghost use Rattle.list_core.specs.Chunks.{all_in};
-ghost use Rattle.share_core.specs.Pieces.{piece};
+ghost use Rattle.work_core.specs.Pieces.{items_within};
 ghost use Rattle.command_core.specs.Records.{Record};
 ghost use Rattle.answer_core.specs.RecordBytes.{answer_writer, bytes_of};
 ghost use Rattle.answer_core.specs.Unwritten.{Adds};
@@ -10,10 +10,9 @@ ghost use Rattle.answer_core.specs.Unwritten.{Adds};
 use crate::record_text::RecordText;
 use crate::writer::AnswerWriter;
 use period_core::NoMemory;
-use share_core::{Range, Shares, places_within, shared_out};
 use std::alloc::Global;
 use std::thread::Threads;
-use work_core::Crew;
+use work_core::{Crew, Range, Shares, places_within, shared_out};
 
 /// A list of records, each of which can be printed by itself.
 pub(crate) trait RecordList: Sync {
@@ -38,7 +37,7 @@ fn print_range<L: RecordList>(
     range: Range<usize>,
 ) -> Result<(), NoMemory>
     ensures { OnOk result
-        (text.new ≡ text.old ++ bytes_of (piece range (L.records list.now))) }
+        (text.new ≡ text.old ++ bytes_of (items_within range (L.records list.now))) }
 {
     let (start, end) = places_within(range, list.len());
     for index in start..end {
@@ -49,7 +48,7 @@ fn print_range<L: RecordList>(
 
 /// Returns the text of the records of a range of indices.
 fn text_of<L: RecordList>(alloc: Global, list: &L, range: Range<usize>) -> Result<Vec<u8>, NoMemory>
-    ensures { IfOk result (λ text. text.items ≡ bytes_of (piece range (L.records list.now))) }
+    ensures { IfOk result (λ text. text.items ≡ bytes_of (items_within range (L.records list.now))) }
 {
     let mut text = RecordText::new(alloc);
     print_range(list, &mut text, range)?;
@@ -71,7 +70,7 @@ fn texts_of<R: Threads + Sync, G, L: RecordList>(
         shares,
         &|range: Range<usize>, _workers: u32| -> Result<Vec<u8>, NoMemory>
             ensures { IfOk result (λ text.
-                text.items ≡ bytes_of (piece range (L.records list.entry.now))) }
+                text.items ≡ bytes_of (items_within range (L.records list.entry.now))) }
         { text_of(alloc, list, range) },
     )
 }

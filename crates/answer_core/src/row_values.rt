@@ -5,8 +5,8 @@ ghost use Rattle.row_core.specs.Rows.{RowsRise};
 ghost use Rattle.table_core.specs.Lent.{lent_row};
 ghost use Rattle.answer_core.specs.JoinedRows.{values_with};
 
+use crate::rows_by_id::RowsById;
 use period_core::NoMemory;
-use query_core::RowsById;
 use std::alloc::Global;
 use std::marker::Model;
 use table_core::{RowRef, SharedRows};

@@ -17,13 +17,13 @@ use Rattle.list_core.proofs.WantedLemmas.{IsListOf-append, IsListOf-none, IsList
 use Rattle.merge_core.specs.declared.gap.Gap.{Gap}
 use Rattle.merge_core.specs.Gaps.{IsCovered, IsUncovered, IsGap, GapStartsBefore, ListsGaps}
 use Rattle.merge_core.proofs.SweepLemmas.{IsMaximal-same}
-use Rattle.share_core.specs.Pieces.{piece, piece_before, piece_from}
-use Rattle.share_core.specs.Ranges.{range}
-use Rattle.share_core.specs.Shares.{GivesFrom}
-use Rattle.share_core.specs.declared.range.Range.{Range}
-use Rattle.share_core.specs.declared.shares.Cut.{Cut}
-use Rattle.share_core.proofs.PieceLemmas.{piece_cut}
-use Rattle.share_core.proofs.ShareLemmas.{all_come}
+use Rattle.work_core.specs.Pieces.{items_within, piece_before, piece_from}
+use Rattle.work_core.specs.Ranges.{range}
+use Rattle.work_core.specs.Shares.{GivesFrom}
+use Rattle.work_core.specs.declared.range.Range.{Range}
+use Rattle.work_core.specs.declared.shares.Cut.{Cut}
+use Rattle.work_core.proofs.PieceLemmas.{piece_cut}
+use Rattle.work_core.proofs.ShareLemmas.{all_come}
 use Rattle.anti_core.specs.declared.rows.AntiRow.{AntiRow}
 use Rattle.anti_core.specs.Anti.{AntiRowBefore}
 use Rattle.anti_core.specs.ItemAnti.{row_of_gap, IsItemsAntiRow, AreItemsRows, IsItemsAnti}
@@ -118,24 +118,24 @@ from-distinct None items ids = ids
 from-distinct (Some n) items ids =
     distinct-later (take n items) (drop n items) (subst HasDistinctIds (sym (take-append-drop n items)) ids)
 
-pub piece-distinct : (places : Range ℕ) (items : List Item) → HasDistinctIds items → HasDistinctIds (piece places items)
+pub piece-distinct : (places : Range ℕ) (items : List Item) → HasDistinctIds items → HasDistinctIds (items_within places items)
 piece-distinct places items ids =
     from-distinct places.from (piece_before places.before items) (before-distinct places.before items ids)
 
 -- The result for a partition: the number of workers, the partition's indices, and the rows.
 abbrev GivenRows : List Item → List Item → Range ℕ → Vec AntiRow → Type 0
-GivenRows left right places rows = ℕ × (Range ℕ × AreItemsRows (piece places left) right rows.items)
+GivenRows left right places rows = ℕ × (Range ℕ × AreItemsRows (items_within places left) right rows.items)
 
 -- the rows of all partitions together are the rows of all left items
 pub pieces-rows : (left right : List Item) (cuts : List (Cut ℕ)) (lists : List (Vec AntiRow)) → HasDistinctIds left
     → GivesFrom nat_cmp (GivenRows left right) None cuts lists → AreItemsRows left right (all_in lists)
 pieces-rows left right cuts lists ids given =
     all_come nat_cmp (GivenRows left right)
-    (λ (places : Range ℕ) (ls : List (Vec AntiRow)). AreItemsRows (piece places left) right (all_in ls))
-    (λ places x g. subst (AreItemsRows (piece places left) right) (sym (append-nil x.items)) g.1.1)
+    (λ (places : Range ℕ) (ls : List (Vec AntiRow)). AreItemsRows (items_within places left) right (all_in ls))
+    (λ places x g. subst (AreItemsRows (items_within places left) right) (sym (append-nil x.items)) g.1.1)
     (λ from at x ls begun g rest.
-    (let front = piece (range from (Some at)) left in
-    let back = piece (range (Some at) None) left in
+    (let front = items_within (range from (Some at)) left in
+    let back = items_within (range (Some at) None) left in
     let whole = piece_cut from at left begun in
     subst (λ (xs : List Item). AreItemsRows xs right (x.items ++ all_in ls)) (sym whole)
     (AreItemsRows-both front back right x.items (all_in ls)

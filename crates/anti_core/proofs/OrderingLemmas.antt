@@ -18,13 +18,13 @@ use Rattle.std.proofs.lemmas.List.Kept.{AllPairs-filter}
 use Rattle.std.proofs.lemmas.List.Sorted.{Contains-permutation, IsPermutation-filter_both, IsPermutation-sym}
 use Rattle.list_core.specs.Wanted.{IsListOf}
 use Rattle.list_core.proofs.WantedLemmas.{IsListOf-append, IsListOf-same}
-use Rattle.share_core.specs.Ranges.{has, has_begun, is_from, range}
-use Rattle.share_core.specs.Shares.{GivesFrom}
-use Rattle.share_core.specs.declared.range.Range.{Range}
-use Rattle.share_core.specs.declared.shares.Cut.{Cut}
-use Rattle.share_core.proofs.NumberLemmas.{from_is}
-use Rattle.share_core.proofs.RangeLemmas.{begun_on, low_has}
-use Rattle.share_core.proofs.ShareLemmas.{all_come}
+use Rattle.work_core.specs.Ranges.{has, has_begun, is_from, range}
+use Rattle.work_core.specs.Shares.{GivesFrom}
+use Rattle.work_core.specs.declared.range.Range.{Range}
+use Rattle.work_core.specs.declared.shares.Cut.{Cut}
+use Rattle.work_core.proofs.NumberLemmas.{from_is}
+use Rattle.work_core.proofs.RangeLemmas.{begun_on, low_has}
+use Rattle.work_core.proofs.ShareLemmas.{all_come}
 use Rattle.anti_core.specs.declared.rows.AntiRow.{AntiRow}
 use Rattle.anti_core.specs.Anti.{AntiRowBefore, anti_cmp}
 use Rattle.anti_core.specs.Ordering.{IsRowOf}

@@ -11,13 +11,13 @@ use Rattle.dip_core.specs.declared.item.Item.{Item}
 use Rattle.dip_core.specs.Item.{HasDistinctIds}
 use Rattle.dip_core.proofs.DivisionLemmas.{HasDistinctIds-permutation}
 use Rattle.list_core.specs.Chunks.{all_in}
-use Rattle.share_core.specs.Ranges.{has, has_begun, is_from, range}
-use Rattle.share_core.specs.Shares.{GivesFrom}
-use Rattle.share_core.specs.declared.range.Range.{Range}
-use Rattle.share_core.specs.declared.shares.Cut.{Cut}
-use Rattle.share_core.proofs.NumberLemmas.{from_is}
-use Rattle.share_core.proofs.RangeLemmas.{high_has, low_has}
-use Rattle.share_core.proofs.ShareLemmas.{all_come}
+use Rattle.work_core.specs.Ranges.{has, has_begun, is_from, range}
+use Rattle.work_core.specs.Shares.{GivesFrom}
+use Rattle.work_core.specs.declared.range.Range.{Range}
+use Rattle.work_core.specs.declared.shares.Cut.{Cut}
+use Rattle.work_core.proofs.NumberLemmas.{from_is}
+use Rattle.work_core.proofs.RangeLemmas.{high_has, low_has}
+use Rattle.work_core.proofs.ShareLemmas.{all_come}
 use Rattle.grid_core.specs.Bundles.{ArePartedAt, items_in}
 use Rattle.grid_core.proofs.RangeItems.{filter_all, filter_both, in-below, in-distinct, in-from}
 use Rattle.anti_core.specs.declared.rows.AntiRow.{AntiRow}

@@ -1,8 +1,8 @@
 -- The rows of an anti-join by the ids of their left rows.
 use Rattle.std.specs.Prelude.{◌≡◌, ℕ, true, List, Contains}
 use Rattle.std.specs.Ordering.{nat_cmp}
-use Rattle.share_core.specs.Ranges.{has}
-use Rattle.share_core.specs.declared.range.Range.{Range}
+use Rattle.work_core.specs.Ranges.{has}
+use Rattle.work_core.specs.declared.range.Range.{Range}
 use Rattle.anti_core.specs.declared.rows.AntiRow.{AntiRow}
 
 -- One of the rows, with an id within the range.

@@ -15,12 +15,9 @@ use dip_core::Item;
 use grid_core::{class_shares, items_from, items_in, last_class, parted_behind};
 use list_core::in_one_list;
 use period_core::NoMemory;
-use share_core::{Range, shared_out};
 use std::thread::Threads;
-use work_core::{Crew, Gate};
-
-/// With fewer items, one thread is done before another has started.
-const ITEMS_FOR_THREADS: usize = 16_384;
+use work_core::tuning::ITEMS_FOR_THREADS;
+use work_core::{Crew, Gate, Range, shared_out};
 
 /// Returns the rows of all left items. If there are many, of several classes, the workers partition them by ranges of
 /// classes.

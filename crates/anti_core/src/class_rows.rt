@@ -15,9 +15,8 @@ use crate::ordering::ordered;
 use crate::rows::{AntiRow, AntiRows};
 use crate::side_items::items_of_sides;
 use period_core::NoMemory;
-use share_core::{Range, Shares, shared_out};
 use std::thread::Threads;
-use work_core::{Crew, Gate};
+use work_core::{Crew, Gate, Range, Shares, shared_out};
 
 /// Returns the anti-join of two sides, whose rows match if their classes are equal. The right items are coalesced
 /// before they are divided. So at any instant each class has at most one of them, however many rows hold.

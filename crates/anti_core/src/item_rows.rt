@@ -8,7 +8,7 @@ ghost use Rattle.dip_core.specs.Division.{all_of, part_at};
 ghost use Rattle.merge_core.specs.declared.gap.Gap.{Gap};
 ghost use Rattle.merge_core.specs.Gaps.{ListsGaps};
 ghost use Rattle.merge_core.specs.Meets.{IdsTell};
-ghost use Rattle.share_core.specs.Pieces.{piece};
+ghost use Rattle.work_core.specs.Pieces.{items_within};
 ghost use Rattle.work_core.specs.Limits.{worker_limit};
 ghost use Rattle.anti_core.specs.ItemAnti.{AreItemsRows, row_of_gap};
 ghost use Rattle.anti_core.specs.PairGaps.{AreGapsFrom};
@@ -21,9 +21,8 @@ use dip_core::{Division, Item};
 use grid_core::divided;
 use list_core::in_one_list;
 use period_core::NoMemory;
-use share_core::{Range, Shares, piece, shared_out};
 use std::thread::Threads;
-use work_core::{Crew, Gate};
+use work_core::{Crew, Gate, Range, Shares, items_within, shared_out};
 
 /// Adds the rows of the left part with that number.
 fn add_rows_of_part<R: Threads + Sync, G: Gate>(
@@ -92,10 +91,10 @@ fn rows_of_lefts<R: Threads + Sync, G: Gate>(
             requires { IsSync R.row × IsSync G.row × (0 < workers) × (workers ≤ worker_limit)
                 × (length left.now ≤ item_limit) × HasDistinctIds left.now }
             ensures { IfOk result (λ rows.
-                AreItemsRows (piece places left.entry.now) (all_of rights.entry.now) rows.items) }
+                AreItemsRows (items_within places left.entry.now) (all_of rights.entry.now) rows.items) }
         {
             let crew = Crew::new(rt, alloc, workers, gate);
-            rows_of_piece(&crew, piece(places, left), rights)
+            rows_of_piece(&crew, items_within(places, left), rights)
         },
     )?;
     in_one_list(alloc, lists)

@@ -4,18 +4,17 @@ ghost use Rattle.std.specs.Prelude.{◌≡◌, ◌≢◌, ◌++◌, AllPairs, Co
 ghost use Rattle.std.specs.Ordering.{nat_cmp};
 ghost use Rattle.list_core.specs.Chunks.{all_in};
 ghost use Rattle.list_core.specs.Wanted.{IsListOf};
-ghost use Rattle.share_core.specs.Ranges.{has};
+ghost use Rattle.work_core.specs.Ranges.{has};
 ghost use Rattle.anti_core.specs.Anti.{AntiRowBefore};
 ghost use Rattle.anti_core.specs.Ordering.{IsRowOf};
 
 use crate::rows::{AntiRow, AntiRows};
 use list_core::in_one_list;
 use period_core::NoMemory;
-use share_core::{Range, Shares, shared_out};
 use std::alloc::Global;
 use std::thread::Threads;
 use table_core::SharedRows;
-use work_core::Crew;
+use work_core::{Crew, Range, Shares, shared_out};
 
 /// Returns the rows of some lists, in order. The left rows determine at which ids the work is split.
 pub(crate) fn ordered<R: Threads + Sync, G>(

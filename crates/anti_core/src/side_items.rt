@@ -13,14 +13,11 @@ use dip_core::Item;
 use grid_core::order_by_class;
 use match_core::items_in_range;
 use period_core::NoMemory;
-use share_core::Range;
 use std::alloc::Global;
 use std::thread::{Threads, join};
 use table_core::SharedRows;
-use work_core::Crew;
-
-/// With fewer rows, one side's items would be complete before the other side's thread has started.
-const ROWS_FOR_THREAD: usize = 4_096;
+use work_core::tuning::ROWS_FOR_THREAD;
+use work_core::{Crew, Range};
 
 /// Returns the left items by class, and the right items coalesced. With many rows, one worker makes the left items,
 /// and all others the right items, which take longer.

@@ -3,7 +3,7 @@
 ghost use Rattle.std.specs.Prelude.{◌<◌, ◌≤◌, length, IfOk, MatchOption};
 ghost use Rattle.list_core.specs.Chunks.{all_in};
 ghost use Rattle.match_core.specs.Items.{items_in_range};
-ghost use Rattle.share_core.specs.Pieces.{piece};
+ghost use Rattle.work_core.specs.Pieces.{items_within};
 ghost use Rattle.anti_core.specs.United.{RunsInto, IsMerged, IsPlain, IsUnion, StandByClass};
 
 use crate::classed_rows::ClassedRows;
@@ -11,10 +11,10 @@ use dip_core::Item;
 use list_core::in_one_list;
 use match_core::{items_in_piece, items_in_range};
 use period_core::{NoMemory, Period};
-use share_core::{Range, Shares, shared_out};
 use std::alloc::Global;
 use std::thread::Threads;
 use table_core::SharedRows;
+use work_core::{Range, Shares, shared_out};
 
 /// Returns the maximal periods in which some row of each class within a range holds, as items of that class, by class
 /// and start. They have id 0 and amount 0. With many rows, each worker coalesces a part of the rows, and the results
@@ -42,7 +42,7 @@ pub(crate) fn united_rows<R: Threads + Sync>(
         &|places: Range<usize>, _workers: u32| -> Result<Vec<Item>, NoMemory>
             requires { length rows.now ≤ length classes.now }
             ensures { IfOk result (λ united. IsUnion (items_in_range range
-                (piece places rows.entry.now) (piece places classes.entry.now)) united.items) }
+                (items_within places rows.entry.now) (items_within places classes.entry.now)) united.items) }
         { united_piece(alloc, rows, classes, range, places) },
     )?;
     united_again(alloc, unions)
@@ -58,7 +58,7 @@ fn united_piece(
 ) -> Result<Vec<Item>, NoMemory>
     requires { length rows.now ≤ length classes.now }
     ensures { IfOk result (λ united. IsUnion (items_in_range range
-        (piece places rows.now) (piece places classes.now)) united.items) }
+        (items_within places rows.now) (items_within places classes.now)) united.items) }
 {
     let items = items_in_piece(alloc, rows, classes, range, places)?;
     Ok(united_items(items))

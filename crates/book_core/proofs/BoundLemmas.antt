@@ -14,10 +14,10 @@ use Rattle.row_core.specs.declared.draft.Draft.{Draft}
 use Rattle.row_core.specs.declared.row.Row.{Row}
 use Rattle.row_core.specs.declared.schema.Column.{Column}
 use Rattle.row_core.specs.declared.value.Value.{Value}
-use Rattle.portion_core.proofs.WantedLemmas.{set-more, wanted-again, wanted-otherwise}
-use Rattle.portion_core.specs.Portion.{inside, part, parts_of as parts_by_place, takes_out}
-use Rattle.portion_core.specs.Wanted.{are_wanted, with_set}
-use Rattle.portion_core.specs.declared.portion_change.PortionChange.{PortionChange}
+use Rattle.version_core.proofs.WantedLemmas.{set-more, wanted-again, wanted-otherwise}
+use Rattle.version_core.specs.Portion.{inside, part, parts_of as parts_by_place, takes_out}
+use Rattle.version_core.specs.Wanted.{are_wanted, with_set}
+use Rattle.version_core.specs.declared.portion_change.PortionChange.{PortionChange}
 use Rattle.book_core.specs.Bound.{Does, IsOfRows, portion_parts, rows_changed}
 use Rattle.book_core.specs.Rows.{Pair, inside_set, is_equal_at, is_touched, parts_within, set_at}
 use Rattle.book_core.specs.State.{table_named}

@@ -7,9 +7,9 @@ use Rattle.std.proofs.lemmas.List.Elements.{All-from_recursion}
 use Rattle.period_core.specs.declared.period.Period.{Period}
 use Rattle.row_core.specs.Schema.{key_of}
 use Rattle.row_core.specs.declared.draft.Draft.{Draft}
-use Rattle.key_core.specs.Keys.{have_collision}
-use Rattle.key_core.proofs.Meaning.{without_overlaps}
-use Rattle.key_core.proofs.Replaced.{append-all}
+use Rattle.version_core.specs.Collisions.{have_collision}
+use Rattle.version_core.proofs.CollisionMeaning.{without_overlaps}
+use Rattle.version_core.proofs.ReplacedRows.{append-all}
 use Rattle.table_core.specs.Numbered.{numbered, unnumbered}
 use Rattle.row_core.specs.declared.row.Row.{Row}
 use Rattle.row_core.specs.declared.schema.Column.{Column}

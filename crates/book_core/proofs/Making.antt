@@ -19,7 +19,7 @@ use Rattle.version_core.specs.declared.keys.KeyOverlap.{KeyOverlap}
 use Rattle.version_core.specs.declared.version.Version.{Version}
 use Rattle.version_core.specs.declared.versions.VersionCounts.{VersionCounts}
 use Rattle.book_core.specs.Bound.{DoesTheSame, IsBound, IsMade, IsOfRows}
-use Rattle.portion_core.specs.declared.portion_change.PortionChange.{PortionChange}
+use Rattle.version_core.specs.declared.portion_change.PortionChange.{PortionChange}
 use Rattle.book_core.specs.History.{History, state_after}
 use Rattle.book_core.specs.State.{Table, changed, table_named, table_of}
 use Rattle.book_core.specs.StoredTables.{AreKept, HasRoom, HasRoomIn, IsUnbroken, IsWellKept, StoredTable, added_in, at_kept, closed_in, kept_table, kept_table_after, overlap_in, table_at}

@@ -7,7 +7,7 @@ use Rattle.std.proofs.lemmas.List.{append-nil, length-map, map-append}
 use Rattle.std.proofs.lemmas.List.Elements.{filter_map-append}
 use Rattle.row_core.specs.declared.row.Row.{Row}
 use Rattle.row_core.specs.declared.schema.Column.{Column}
-use Rattle.key_core.proofs.Replaced.{append-all}
+use Rattle.version_core.proofs.ReplacedRows.{append-all}
 use Rattle.table_core.specs.Numbered.{numbered}
 use Rattle.book_core.specs.Rows.{drafts_of, removes}
 use Rattle.version_core.specs.OpenVersions.{closed, current, is_open}

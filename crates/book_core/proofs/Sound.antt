@@ -16,11 +16,11 @@ use Rattle.row_core.specs.declared.draft.Draft.{Draft}
 use Rattle.row_core.specs.declared.row.Row.{Row}
 use Rattle.row_core.specs.declared.schema.Column.{Column}
 use Rattle.row_core.specs.declared.value.Value.{Value}
-use Rattle.key_core.proofs.Replaced.{append-all, append-parts}
+use Rattle.version_core.proofs.ReplacedRows.{append-all, append-parts}
 use Rattle.version_core.specs.Limits.{version_limit}
 use Rattle.book_core.specs.Limits.{commit_limit}
 use Rattle.table_core.specs.Numbered.{numbered}
-use Rattle.portion_core.specs.Portion.{part}
+use Rattle.version_core.specs.Portion.{part}
 use Rattle.book_core.specs.Rows.{Pair, drafts_of, is_touched, parts_of, removes, set_at}
 use Rattle.version_core.specs.OpenVersions.{closed}
 use Rattle.version_core.specs.Made.{made}

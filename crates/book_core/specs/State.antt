@@ -9,7 +9,7 @@ use Rattle.row_core.specs.declared.failure.Failure.{Failure}
 use Rattle.row_core.specs.declared.failure.Failure.TheVariants.{Refused, NoMemory}
 use Rattle.row_core.specs.declared.row.Row.{Row}
 use Rattle.row_core.specs.declared.schema.Column.{Column}
-use Rattle.key_core.specs.Keys.{AreWithoutOverlaps}
+use Rattle.version_core.specs.Collisions.{AreWithoutOverlaps}
 use Rattle.version_core.specs.Limits.{version_limit}
 use Rattle.book_core.specs.Limits.{commit_limit, table_limit}
 use Rattle.table_core.specs.Numbered.{numbered, unnumbered}

@@ -11,8 +11,8 @@ ghost use Rattle.row_core.specs.Refusals.{first_of};
 ghost use Rattle.row_core.specs.Schema.{column_of};
 ghost use Rattle.row_core.specs.ValueOrder.{same_value};
 ghost use Rattle.row_core.specs.declared.value.Value.{Value as AnyValue};
-ghost use Rattle.portion_core.specs.Portion.{inside};
-ghost use Rattle.portion_core.specs.Wanted.{are_wanted, with_set};
+ghost use Rattle.version_core.specs.Portion.{inside};
+ghost use Rattle.version_core.specs.Wanted.{are_wanted, with_set};
 ghost use Rattle.book_core.specs.Rows.{inside_set, is_equal_at, set_at};
 ghost use Rattle.book_core.specs.State.{pair_tests};
 

@@ -8,11 +8,11 @@ use crate::piece::{PieceRecords, read_piece};
 use crate::records::Records;
 use crate::seams::{are_seams, end_in_fields, last_cut, pieces_of};
 use period_core::NoMemory;
-use share_core::all_found;
 use std::alloc::Global;
 use std::marker::Model;
 use std::thread;
 use std::thread::Threads;
+use work_core::all_found;
 
 /// Reads the records of a script as `csv` reads them, without a header and of any length. Contracts see the list of the
 /// records already read, each a list of its fields' bytes.

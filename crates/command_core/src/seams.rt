@@ -27,7 +27,7 @@ pub(crate) fn pieces_of<'a>(
     ensures whole { IfOk result (λ pieces.
         joined (map (λ p. p.now) pieces.items) ≡ script.entry.now) }
     ensures few { IfOk result (λ pieces.
-        length pieces.items ≤ max 1 (min (length script.entry.now / 1_048_576) workers)) }
+        length pieces.items ≤ max 1 (min (length script.entry.now / BYTES_OF_PIECE) workers)) }
 {
     let count = (script.len() / BYTES_OF_PIECE).min(workers as usize);
     let mut pieces = Vec::new(alloc);

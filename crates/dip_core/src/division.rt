@@ -10,13 +10,11 @@ use crate::numbers::{numbers_of, parts_by_two, parts_from};
 use crate::part_items::PartItems;
 use crate::{Item, NoMemory, Part};
 use period_core::Point;
-use sort_core::sort_unstable;
 use std::alloc::Global;
 use std::marker::Model;
 use std::thread::Threads;
-
-/// With fewer items, one thread would have made all parts before another had started.
-const ITEMS_FOR_THREADS: usize = 16_384;
+use work_core::sort_unstable;
+use work_core::tuning::ITEMS_FOR_THREADS;
 
 /// A division of at most 1,000,000 items into the least number of parts without overlaps. Contracts see it as the list
 /// of its parts.

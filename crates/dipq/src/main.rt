@@ -1,7 +1,7 @@
 //! Does what the program's words ask for: answers the script on standard input, or prints the help page.
 #![tactic(auto)]
 
-ghost use Rattle.words_core.specs.Words.{IsWorkers};
+ghost use Rattle.program_core.specs.Words.{IsWorkers};
 
 mod help;
 

@@ -2,7 +2,7 @@
 //! record was read, or prints the help page.
 #![tactic(auto)]
 
-ghost use Rattle.words_core.specs.Words.{IsWorkers};
+ghost use Rattle.program_core.specs.Words.{IsWorkers};
 
 mod help;
 mod prompted;

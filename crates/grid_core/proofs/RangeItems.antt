@@ -11,10 +11,10 @@ use Rattle.std.proofs.lemmas.List.Kept.{IsNonDecreasingBy-filter}
 use Rattle.std.proofs.lemmas.List.Sums.{count_by-le-length, length-filter}
 use Rattle.dip_core.specs.declared.item.Item.{Item}
 use Rattle.dip_core.specs.Item.{HasDistinctIds}
-use Rattle.share_core.specs.Ranges.{has, has_begun, has_ended, is_from, range}
-use Rattle.share_core.specs.declared.range.Range.{Range}
-use Rattle.share_core.proofs.NumberLemmas.{from_is}
-use Rattle.share_core.proofs.RangeLemmas.{filter_parted, high_has, low_has}
+use Rattle.work_core.specs.Ranges.{has, has_begun, has_ended, is_from, range}
+use Rattle.work_core.specs.declared.range.Range.{Range}
+use Rattle.work_core.proofs.NumberLemmas.{from_is}
+use Rattle.work_core.proofs.RangeLemmas.{filter_parted, high_has, low_has}
 use Rattle.grid_core.specs.Bundles.{AreFromClass, ArePartedAt, ClassesRise, items_in}
 
 -- a test that all elements pass keeps all

@@ -3,8 +3,8 @@ use Rattle.std.specs.Prelude.{◌≡◌, ◌<◌, ◌≤◌, ◌++◌, ℕ, List
 use Rattle.std.specs.Ordering.{nat_cmp}
 use Rattle.std.specs.List.Sorted.{IsNonDecreasingBy}
 use Rattle.dip_core.specs.declared.item.Item.{Item}
-use Rattle.share_core.specs.Ranges.{has}
-use Rattle.share_core.specs.declared.range.Range.{Range}
+use Rattle.work_core.specs.Ranges.{has}
+use Rattle.work_core.specs.declared.range.Range.{Range}
 
 -- No item has a higher class than a later one.
 abbrev pub ClassesRise : List Item → Type 0

@@ -6,20 +6,15 @@ ghost use Rattle.std.specs.Prelude.{◌≡◌, ◌+◌, ◌<◌, ◌≤◌, not,
 ghost use Rattle.std.specs.Ordering.{nat_cmp};
 ghost use Rattle.dip_core.specs.Item.{item_limit};
 ghost use Rattle.dip_core.specs.Division.{IsLeastDivision};
-ghost use Rattle.share_core.specs.Ranges.{has_begun, has_ended};
+ghost use Rattle.work_core.specs.Ranges.{has_begun, has_ended};
 ghost use Rattle.grid_core.specs.Bundles.{AreFromClass, ArePartedAt, ClassesRise, items_in};
 
 use dip_core::{Division, Item, create_dip};
 use period_core::NoMemory;
-use share_core::{Range, Shares};
-use sort_core::sort_unstable_by_key;
 use std::alloc::Global;
 use std::thread::Threads;
-use work_core::Crew;
-
-/// The most items per side in a bundle of several classes. Smaller bundles would take longer to set up than to answer;
-/// in larger ones many pairs of parts would share no class.
-const BUNDLE_ITEMS: usize = 16;
+use work_core::tuning::BUNDLE_ITEMS;
+use work_core::{Crew, Range, Shares, sort_unstable_by_key};
 
 /// Sorts the items by class, on several threads if there are many items and several workers.
 pub fn order_by_class<R: Threads + Sync>(rt: &R, items: &mut Vec<Item>, workers: u32)

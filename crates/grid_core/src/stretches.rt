@@ -5,11 +5,7 @@ ghost use Rattle.dip_core.specs.Item.{item_limit};
 
 use crate::parts::name_in;
 use dip_core::Division;
-use work_core::STRETCH_PAIRS;
-
-/// The most items in the parts of a stretch's pairs, without the last pair. A pair has at most as many hits as its
-/// parts have items, and at most as many gaps. So this bounds the results that are held at once.
-const STRETCH_ITEMS: u64 = 1_000_000;
+use work_core::tuning::{STRETCH_ITEMS, STRETCH_PAIRS};
 
 /// Returns the length of the stretch of pairs from number `first` on: at least one pair, and none past the last.
 pub fn stretch_len(left: &Division, right: &Division, first: u64) -> u64

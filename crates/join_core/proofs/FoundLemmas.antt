@@ -16,11 +16,11 @@ use Rattle.dip_core.proofs.DipExistence.{some_instant}
 use Rattle.dip_core.proofs.PartedLemmas.{all_of-append, distinct-earlier, distinct-later}
 use Rattle.list_core.proofs.RisingLemmas.{Contains-none}
 use Rattle.std.specs.Ordering.{nat_cmp}
-use Rattle.share_core.specs.Ranges.{has_begun, range}
-use Rattle.share_core.specs.Shares.{GivesFrom}
-use Rattle.share_core.specs.declared.range.Range.{Range}
-use Rattle.share_core.specs.declared.shares.Cut.{Cut}
-use Rattle.share_core.proofs.ShareLemmas.{all_come}
+use Rattle.work_core.specs.Ranges.{has_begun, range}
+use Rattle.work_core.specs.Shares.{GivesFrom}
+use Rattle.work_core.specs.declared.range.Range.{Range}
+use Rattle.work_core.specs.declared.shares.Cut.{Cut}
+use Rattle.work_core.proofs.ShareLemmas.{all_come}
 use Rattle.grid_core.specs.Bundles.{ArePartedAt, ClassesRise, items_in}
 use Rattle.grid_core.proofs.RangeItems.{filter_all, in-distinct, in-parted}
 use Rattle.grid_core.proofs.BundleLemmas.{high-rise}

@@ -18,19 +18,16 @@ use crate::tiles::{Tile, tiles_of};
 use dip_core::Item;
 use grid_core::{class_shares, divided, items_in, last_class, parted_behind};
 use period_core::NoMemory;
-use share_core::{Range, shared_out};
 use std::thread::Threads;
-use work_core::{Crew, Gate};
-
-/// With fewer pairs of a left and a right item, one worker has compared them before another has started.
-const ITEM_PAIRS_FOR_WORKERS: usize = 16_384;
+use work_core::tuning::ITEMS_FOR_THREADS;
+use work_core::{Crew, Gate, Range, shared_out};
 
 /// Returns how many workers join some items: one if there are few items.
 fn workers_for(left: &[Item], right: &[Item], workers: u32) -> u32
     requires { 0 < workers }
     ensures { (0 < result) × (result ≤ workers) }
 {
-    if left.len().saturating_mul(right.len()) < ITEM_PAIRS_FOR_WORKERS {
+    if left.len().saturating_mul(right.len()) < ITEMS_FOR_THREADS {
         1
     } else {
         workers

@@ -9,10 +9,9 @@ ghost use Rattle.join_core.specs.Crowds.{AreOrdered, IsMostAtOnce, ends_of, star
 
 use dip_core::Item;
 use period_core::{NoMemory, Point};
-use sort_core::sort_unstable;
 use std::alloc::Global;
 use std::thread::Threads;
-use work_core::Crew;
+use work_core::{Crew, sort_unstable};
 
 /// Returns the starts of the items.
 fn starts_of(alloc: Global, items: &[Item]) -> Result<Vec<Point>, NoMemory>

@@ -21,10 +21,9 @@ use dip_core::Item;
 use match_core::{QueryRefused, Side, classes_of, items_of_sides, refusal_of_pairs};
 use period_core::NoMemory;
 use row_core::{Failure, Name};
-use sort_core::sort_unstable;
 use std::alloc::Global;
 use std::thread::Threads;
-use work_core::{Crew, Gate};
+use work_core::{Crew, Gate, sort_unstable};
 
 /// The answer of a join.
 #[derive(Debug, Drop)]

@@ -8,10 +8,10 @@ ghost use Rattle.join_core.specs.Tiles.{AddsTiles, AreCutAt, AreTiles, IsDivisib
 
 use dip_core::Item;
 use period_core::{NoMemory, Point};
-use sort_core::sort_unstable;
 use std::alloc::Global;
 use std::thread::Threads;
-use work_core::Crew;
+use work_core::tuning::{MORE_PASSED, READS};
+use work_core::{Crew, sort_unstable};
 
 /// Left and right items that are compared with each other.
 #[derive(Drop)]
@@ -30,13 +30,6 @@ struct Between<'a> {
     /// The items that start from the first cut on, before the second.
     started: &'a [Item],
 }
-
-/// Items are cut by time if the average item would otherwise be read at least this often.
-const READS: u64 = 256;
-
-/// At a cut, at least this many fewer items hold than have started since the previous cut, or than half of the most
-/// that held at once since then.
-const MORE_PASSED: usize = 16;
 
 /// Adds the starts and the ends of some items.
 fn add_ends(

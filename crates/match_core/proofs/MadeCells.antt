@@ -12,14 +12,14 @@ use Rattle.std.specs.Global.{Vec}
 use Rattle.std.specs.declared.alloc.AllocError.{AllocError}
 use Rattle.list_core.specs.Chunks.{all_in}
 use Rattle.list_core.proofs.RisingLemmas.{Contains-cons, Contains-head}
-use Rattle.share_core.specs.Pieces.{piece}
-use Rattle.share_core.specs.Ranges.{has, has_begun, is_from, range}
-use Rattle.share_core.specs.Shares.{Gives, GivesFrom}
-use Rattle.share_core.specs.declared.range.Range.{Range}
-use Rattle.share_core.specs.declared.shares.Cut.{Cut}
-use Rattle.share_core.proofs.PieceLemmas.{piece_cut}
-use Rattle.share_core.proofs.RangeLemmas.{high_has, low_has}
-use Rattle.share_core.proofs.ShareLemmas.{all_come}
+use Rattle.work_core.specs.Pieces.{items_within}
+use Rattle.work_core.specs.Ranges.{has, has_begun, is_from, range}
+use Rattle.work_core.specs.Shares.{Gives, GivesFrom}
+use Rattle.work_core.specs.declared.range.Range.{Range}
+use Rattle.work_core.specs.declared.shares.Cut.{Cut}
+use Rattle.work_core.proofs.PieceLemmas.{piece_cut}
+use Rattle.work_core.proofs.RangeLemmas.{high_has, low_has}
+use Rattle.work_core.proofs.ShareLemmas.{all_come}
 use Rattle.row_core.specs.declared.value.Value.{Value}
 use Rattle.match_core.specs.declared.cells.Cell.{Cell}
 use Rattle.match_core.specs.declared.row_items.ClassedPlace.{ClassedPlace}
@@ -91,19 +91,19 @@ module _ {V : Type 0} (IsOf : Value → V → Type 0) (classes : List ℕ) (colu
   pub pieces_made : (post : Range ℕ → ℕ → Result (Vec (Cell V)) AllocError → Type 0) (cuts : List (Cut ℕ))
       (lists : List (Vec (Cell V)))
       → ((places : Range ℕ) (n : ℕ) (cells : Vec (Cell V)) → post places n (Ok cells)
-      → AreCellsAt IsOf classes column (piece places (placed_from 0 classes)) cells.items)
+      → AreCellsAt IsOf classes column (items_within places (placed_from 0 classes)) cells.items)
       → GivesFrom nat_cmp (Gives post) None cuts lists
       → AreCellsAt IsOf classes column (placed_from 0 classes) (all_in lists)
   pieces_made post cuts lists known given =
       let all = placed_from 0 classes in
       all_come nat_cmp (Gives post)
-      (λ (places : Range ℕ) (some : List (Vec (Cell V))). AreCellsAt IsOf classes column (piece places all) (all_in some))
+      (λ (places : Range ℕ) (some : List (Vec (Cell V))). AreCellsAt IsOf classes column (items_within places all) (all_in some))
       (λ places cells own.
-      subst (AreCellsAt IsOf classes column (piece places all)) (sym (append-nil cells.items))
+      subst (AreCellsAt IsOf classes column (items_within places all)) (sym (append-nil cells.items))
       (known places own.0 cells own.1))
       (λ from at cells more begun one others.
       subst (λ l. AreCellsAt IsOf classes column l (cells.items ++ all_in more)) (sym (piece_cut from at all begun))
-      (cells-append (piece (range from (Some at)) all) (piece (range (Some at) None) all) cells.items (all_in more)
+      (cells-append (items_within (range from (Some at)) all) (items_within (range (Some at) None) all) cells.items (all_in more)
       (known (range from (Some at)) one.0 cells one.1) others))
       None cuts lists given
 

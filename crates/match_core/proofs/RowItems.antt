@@ -11,9 +11,9 @@ use Rattle.list_core.proofs.RisingLemmas.{AllPairs-head, Contains-cons, Contains
 use Rattle.list_core.proofs.WantedLemmas.{AllPairs-before}
 use Rattle.match_core.specs.Items.{item_with, items_of, items_with}
 use Rattle.match_core.proofs.PartLemmas.{one_more}
-use Rattle.share_core.specs.Pieces.{piece, piece_before, piece_from}
-use Rattle.share_core.specs.Ranges.{has}
-use Rattle.share_core.specs.declared.range.Range.{Range}
+use Rattle.work_core.specs.Pieces.{items_within, piece_before, piece_from}
+use Rattle.work_core.specs.Ranges.{has}
+use Rattle.work_core.specs.declared.range.Range.{Range}
 
 -- A row and its item at one index.
 pub record IsItemAt (rows : List Row) (classes : List ℕ) (r : Row) (x : Item) : Type 0 where
@@ -135,7 +135,7 @@ items_with-from (Some (suc n)) (r ∷ rows) [] = items_with-unclassed (drop n ro
 items_with-from (Some (suc n)) (r ∷ rows) (c ∷ classes) = items_with-from (Some n) rows classes
 
 pub items_with-piece : (places : Range ℕ) (rows : List Row) (classes : List ℕ)
-    → items_with (piece places rows) (piece places classes) ≡ piece places (items_with rows classes)
+    → items_with (items_within places rows) (items_within places classes) ≡ items_within places (items_with rows classes)
 items_with-piece places rows classes =
     items_with-from places.from (piece_before places.before rows) (piece_before places.before classes)
     ∙ ap (piece_from places.from) (items_with-before places.before rows classes)

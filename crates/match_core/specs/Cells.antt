@@ -13,8 +13,8 @@ use Rattle.match_core.specs.ClassedPlaces.{placed_from}
 use Rattle.match_core.specs.declared.row_items.ClassedPlace.{ClassedPlace}
 use Rattle.match_core.specs.declared.side_column.SideColumn.{SideColumn}
 use Rattle.list_core.specs.Chunks.{all_in}
-use Rattle.share_core.specs.Ranges.{has}
-use Rattle.share_core.specs.declared.range.Range.{Range}
+use Rattle.work_core.specs.Ranges.{has}
+use Rattle.work_core.specs.declared.range.Range.{Range}
 
 -- The rows' values in the column at index `place`.
 abbrev pub column_at : ℕ → List Row → List (Option Value)

@@ -4,8 +4,8 @@ use Rattle.std.specs.List.Sorted.{IsNonDecreasingBy}
 use Rattle.std.specs.Ordering.{nat_cmp}
 use Rattle.row_core.specs.declared.row.Row.{Row}
 use Rattle.dip_core.specs.declared.item.Item.{Item}
-use Rattle.share_core.specs.Ranges.{has}
-use Rattle.share_core.specs.declared.range.Range.{Range}
+use Rattle.work_core.specs.Ranges.{has}
+use Rattle.work_core.specs.declared.range.Range.{Range}
 
 -- A row as an item of a division. All rows are in one class.
 abbrev pub item_of : Row → Item

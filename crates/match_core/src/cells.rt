@@ -3,8 +3,8 @@
 ghost use Rattle.std.specs.Prelude.{◌≡◌, ◌<◌, ◌++◌, IfOk, OnOk, length};
 ghost use Rattle.std.specs.Thread.{IsSync};
 ghost use Rattle.list_core.specs.Chunks.{all_in};
-ghost use Rattle.share_core.specs.Pieces.{piece};
-ghost use Rattle.share_core.specs.Ranges.{has};
+ghost use Rattle.work_core.specs.Pieces.{items_within};
+ghost use Rattle.work_core.specs.Ranges.{has};
 ghost use Rattle.match_core.specs.ClassedPlaces.{placed_from};
 ghost use Rattle.match_core.specs.Cells.{
   AreCellsAt,
@@ -18,10 +18,9 @@ ghost use Rattle.match_core.specs.Cells.{
 use crate::NoMemory;
 use crate::comparable::Comparable;
 use list_core::in_one_list;
-use share_core::{Range, Shares, places_within, shared_out};
-use sort_core::sort_unstable;
 use std::alloc::Global;
 use std::thread::Threads;
+use work_core::{Range, Shares, places_within, shared_out, sort_unstable};
 
 /// A row's sort key: its current class, and a value made from its value in the column. So sorting looks up and copies
 /// no values. The row's index isn't compared, because equal keys need no order.
@@ -81,7 +80,7 @@ fn made_cells<R: Threads + Sync, V: Ord + Copy + Send + Sync, S: Comparable<V>>(
         &shares,
         &|places: Range<usize>, _workers: u32| -> Result<Vec<Cell<V>>, NoMemory>
             ensures { IfOk result (λ cells. AreCellsAt S.IsOf (S.classes side) (S.column side)
-                (piece places (placed_from 0 (S.classes side))) cells.items) }
+                (items_within places (placed_from 0 (S.classes side))) cells.items) }
         { cells_of(alloc, side, places) },
     )
 }
@@ -93,7 +92,7 @@ fn cells_of<V: Ord + Copy, S: Comparable<V>>(
     places: Range<usize>,
 ) -> Result<Vec<Cell<V>>, NoMemory>
     ensures { IfOk result (λ cells. AreCellsAt S.IsOf (S.classes side) (S.column side)
-        (piece places (placed_from 0 (S.classes side))) cells.items) }
+        (items_within places (placed_from 0 (S.classes side))) cells.items) }
 {
     let (start, end) = places_within(places, side.len());
     let mut cells = Vec::with_capacity(alloc, end - start)?;

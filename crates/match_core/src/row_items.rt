@@ -5,21 +5,17 @@ ghost use Rattle.std.specs.List.Sorted.{IsNonDecreasingBy};
 ghost use Rattle.match_core.specs.declared.row_items.ClassedPlace.{ClassedPlace};
 ghost use Rattle.match_core.specs.ClassedPlaces.{AreByClass, item_placed, placed_from};
 ghost use Rattle.match_core.specs.Items.{AreItemsByClass, item_with, items_in_range, items_of};
-ghost use Rattle.share_core.specs.Pieces.{piece};
+ghost use Rattle.work_core.specs.Pieces.{items_within};
 ghost use Rattle.table_core.specs.Lent.{lent_row};
 
 use crate::NoMemory;
 use crate::classes::Classes;
 use dip_core::Item;
-use share_core::{Range, piece, places_within};
-use sort_core::sort_unstable_by_key;
 use std::alloc::Global;
 use std::thread::{Threads, join};
 use table_core::{RowRef, SharedRows};
-use work_core::Crew;
-
-/// With fewer rows, one side's items would be complete before the other side's thread has started.
-const ROWS_FOR_THREAD: usize = 4_096;
+use work_core::tuning::ROWS_FOR_THREAD;
+use work_core::{Crew, Range, items_within, places_within, sort_unstable_by_key};
 
 /// A row's index and its class. Sorting moves these instead of the row's item, which is more than twice as large.
 #[derive(Clone, Copy, Debug)]
@@ -193,10 +189,10 @@ pub fn items_in_piece(
 ) -> Result<Vec<Item>, NoMemory>
     requires { length rows.now ≤ length classes.now }
     ensures { IfOk result (λ items. items.items
-        ≡ items_in_range range (piece places rows.now) (piece places classes.now)) }
+        ≡ items_in_range range (items_within places rows.now) (items_within places classes.now)) }
 {
     let (start, end) = places_within(places, rows.len());
-    let mut items = Vec::with_capacity(alloc, count_in(range, piece(places, classes)))?;
+    let mut items = Vec::with_capacity(alloc, count_in(range, items_within(places, classes)))?;
     for i in start..end {
         let class = classes[i];
         if range.has(&class) {

@@ -17,9 +17,7 @@ use crate::ranks::{Ranked, rank_side};
 use crate::row_items::by_class;
 use std::alloc::Global;
 use std::thread::{Threads, join_mut};
-
-/// With fewer rows, one side's keys would be sorted before the other side's thread has started.
-const ROWS_FOR_THREAD: usize = 4_096;
+use work_core::tuning::ROWS_FOR_THREAD;
 
 /// Splits the current classes of the rows. Two rows, of the same side or not, get the same class exactly if they had
 /// the same class, and their values in their side's column are equal. Both columns must be of the kind that `S`

@@ -1,13 +1,14 @@
 //! What the words of the command line ask for.
 ghost use Rattle.std.specs.Prelude.{IfOk};
-ghost use Rattle.words_core.specs.Words.{IsRunnable};
+ghost use Rattle.program_core.specs.Words.{IsRunnable};
 
 use crate::ending::Ending;
+use crate::refused::WordsRefused;
+use crate::words::{Words, read_words};
 use script_core::RunFault;
 use std::alloc::Global;
 use std::env::{self, Env};
 use std::io::{ErrorKind, Print};
-use words_core::{Words, WordsRefused, read_words};
 
 /// Returns what the program's words ask for. A word that isn't UTF-8 is never accepted.
 pub fn asked(rt: &(impl Env + Alloc<A = Global>)) -> Result<Words, WordsRefused>

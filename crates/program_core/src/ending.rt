@@ -2,10 +2,10 @@
 ghost use Rattle.std.specs.Prelude.{◌≡◌};
 ghost use Rattle.program_core.specs.Ending.{ending_of, status_of};
 
+use crate::refused::WordsRefused;
 use script_core::{Outcome, RunFault};
 use std::io::Eprint;
 use std::process::ExitCode;
-use words_core::WordsRefused;
 
 /// How a program ends.
 #[derive(Clone, Copy, Debug, PartialEq, Eq)]

@@ -1,2 +1,1 @@
-pub mod FoundRows
 pub mod OuterLemmas

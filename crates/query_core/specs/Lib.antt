@@ -1,2 +1,1 @@
 pub mod Outer
-pub mod Places

@@ -142,7 +142,7 @@ fn check_month(rt: &impl Abort, row: &JoinRow) {
     assert!(rt; row.period == january(rt, from, to));
 }
 
-// Each side has 801 rows in as many parts. Hardly any of their pairs are run: rows of one day are merged only with the
+// Each side has 801 rows in 801 parts. Hardly any of their pairs are run: rows of one day are merged only with the
 // row of the month.
 #[test]
 fn joins_a_value_of_different_days(rt: HostRuntime) {

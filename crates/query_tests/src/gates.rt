@@ -197,7 +197,7 @@ fn aggregates_while_a_pair_is_held(rt: HostRuntime) {
     }
 }
 
-// Returns `count` periods of ten days, each of which starts a day after the previous one.
+// Returns `count` periods of ten days. Each starts a day after the previous one.
 fn ten_days(rt: &(impl Abort + Alloc<A = Global>), days: &[Point], count: usize) -> Vec<Period> {
     let mut periods = Vec::new(rt.alloc());
     for i in 0..count {

@@ -219,7 +219,7 @@ fn names(rt: &(impl Abort + Alloc<A = Global>), on: &[Field]) -> Vec<(Name, Name
     names
 }
 
-/// The rows of two tables, the columns by which they are compared, and the tables.
+/// The rows of two tables, the compared columns, and the tables.
 #[derive(Drop)]
 pub struct Pair {
     pub lefts: Vec<PlainRow>,

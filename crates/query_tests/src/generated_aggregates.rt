@@ -232,7 +232,7 @@ fn three_days(rt: &(impl Abort + Alloc<A = Global>), count: usize) -> Table {
     table_of(rt, &rows)
 }
 
-// There are so many rows that several workers each take a span of time. A value continues across the end of a span.
+// There are enough rows for several workers, and each takes a span of time. A value continues across the end of a span.
 #[test]
 fn a_value_goes_on_from_span_to_span(rt: HostRuntime) {
     let table = three_days(&rt, 700);

@@ -116,8 +116,8 @@ fn left_of_threes(rt: &(impl Abort + Alloc<A = Global>), rows: u64) -> Vec<AntiR
     left
 }
 
-// Three rows for each of six thousand values. These are more values than are processed at a time, and so many rows that
-// several workers sort them. Every other value has a right row, which holds on the second of the two days.
+// Three rows for each of six thousand values. These are more values than are processed at a time, and enough rows for
+// several workers to sort. Every other value has a right row, which holds on the second of the two days.
 #[test]
 fn leaves_rows_of_many_values(rt: HostRuntime) {
     let lefts = in_threes(&rt, 6_000);

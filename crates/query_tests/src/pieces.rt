@@ -64,7 +64,7 @@ fn lack<'j, W: PairWork>(
 }
 
 // Collects the pieces of a job in this order, then a last one. Each is accepted once. A piece of another job counts as
-// the same if its inputs are equal, as for the pair `equal`; for the pair `last` they differ.
+// the same if its inputs are equal. They are for the pair `equal`, and differ for the pair `last`.
 fn collect<'j, W: PairWork>(
     rt: &(impl Abort + Alloc<A = Global>),
     job: &'j W,
@@ -127,7 +127,7 @@ fn divide_all(rt: &(impl Abort + Alloc<A = Global> + Threads + Sync)) -> Divided
     }
 }
 
-// The order in which the pieces of two times two parts are collected, without the last one.
+// The order that the pieces of two times two parts are collected in, without the last one.
 const ORDER: &[(u32, u32)] = &[(1, 1), (0, 0), (1, 0)];
 
 // Checks the hits of one pair of parts.

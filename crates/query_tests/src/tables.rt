@@ -20,7 +20,7 @@ pub struct Table {
     pub rows: SharedRows,
 }
 
-/// Two tables, and the pairs of columns by which their rows are compared.
+/// Two tables, and the pairs of columns that are compared.
 #[derive(Drop)]
 pub struct TablePair {
     pub left: Table,
@@ -151,7 +151,7 @@ pub fn numbers_of(rt: &(impl Abort + Alloc<A = Global>), rows: &[(Period, i64)])
     number_table(rt, list)
 }
 
-/// Returns two tables, each with a column `c` of numbers, by which their rows are compared.
+/// Returns two tables that are compared by a column `c` of numbers.
 pub fn compared(rt: &(impl Abort + Alloc<A = Global>), left: Table, right: Table) -> TablePair {
     let name = Name::parse(b"c").expect(rt, "a name");
     let on = Vec::from_slice(rt.alloc(), &[(name, name)]).expect(rt, "memory");

@@ -7,11 +7,11 @@ use Rattle.std.proofs.lemmas.Bool.{cases_lt, ne_eqb}
 use Rattle.std.proofs.lemmas.List.Elements.{All-head, All-tail, filter-append}
 use Rattle.dip_core.specs.declared.item.Item.{Item}
 use Rattle.list_core.proofs.WantedLemmas.{IsListOf-append}
-use Rattle.share_core.specs.Ranges.{has, range}
-use Rattle.share_core.specs.Shares.{Gives, GivesFrom}
-use Rattle.share_core.specs.declared.range.Range.{Range}
-use Rattle.share_core.specs.declared.shares.Cut.{Cut}
-use Rattle.share_core.proofs.ShareLemmas.{all_come}
+use Rattle.work_core.specs.Ranges.{has, range}
+use Rattle.work_core.specs.Shares.{Gives, GivesFrom}
+use Rattle.work_core.specs.declared.range.Range.{Range}
+use Rattle.work_core.specs.declared.shares.Cut.{Cut}
+use Rattle.work_core.proofs.ShareLemmas.{all_come}
 use Rattle.grid_core.specs.Bundles.{ArePartedAt, ClassesRise, items_in}
 use Rattle.grid_core.proofs.RangeItems.{filter_all, in-parted}
 use Rattle.merge_core.specs.Gaps.{IsMaximal}

@@ -9,7 +9,7 @@ use Rattle.dip_core.proofs.CrowdLemmas.{Holds-from_test, test-from_holds}
 use Rattle.list_core.proofs.RisingLemmas.{Contains-head, Contains-cons_cases, Contains-none}
 use Rattle.merge_core.specs.Tallies.{amounts, holding}
 use Rattle.round_core.specs.ClassLists.{HasItem}
-use Rattle.share_core.specs.declared.range.Range.{Range}
+use Rattle.work_core.specs.declared.range.Range.{Range}
 use Rattle.round_core.specs.Spans.{AreWithin, IsWithin, Misses}
 
 -- ---- one item at an instant

@@ -21,7 +21,7 @@ use Rattle.merge_core.proofs.SharedLemmas.{by_order, first_held}
 use Rattle.round_core.specs.declared.measure.Measure.{Measure}
 use Rattle.round_core.specs.declared.plateau.Plateau.{Plateau}
 use Rattle.round_core.specs.Plateaus.{of_class, HasValue, IsPlateau, PlateauBefore, ArePlateaus}
-use Rattle.share_core.specs.Ranges.{range}
+use Rattle.work_core.specs.Ranges.{range}
 use Rattle.round_core.specs.ClassLists.{HasItem}
 use Rattle.round_core.specs.Closing.{Continues, IsJoined}
 use Rattle.round_core.specs.Spans.{AreJoined, AreApartAt, AreWithin, AreOfOneClass, AreSpliced, HaveNoJoint, IsJoint}

@@ -11,13 +11,13 @@ use Rattle.list_core.specs.Chunks.{all_in}
 use Rattle.list_core.proofs.RisingLemmas.{AllPairs-head, AllPairs-tail, Contains-cons_cases, Contains-none}
 use Rattle.list_core.proofs.WantedLemmas.{AllPairs-before}
 use Rattle.round_core.specs.declared.class_steps.ClassSteps.{ClassSteps}
-use Rattle.share_core.specs.Pieces.{piece, piece_before, piece_from}
-use Rattle.share_core.specs.Ranges.{range}
-use Rattle.share_core.specs.Shares.{Gives, GivesFrom}
-use Rattle.share_core.specs.declared.range.Range.{Range}
-use Rattle.share_core.specs.declared.shares.Cut.{Cut}
-use Rattle.share_core.proofs.PieceLemmas.{piece_cut}
-use Rattle.share_core.proofs.ShareLemmas.{all_come}
+use Rattle.work_core.specs.Pieces.{items_within, piece_before, piece_from}
+use Rattle.work_core.specs.Ranges.{range}
+use Rattle.work_core.specs.Shares.{Gives, GivesFrom}
+use Rattle.work_core.specs.declared.range.Range.{Range}
+use Rattle.work_core.specs.declared.shares.Cut.{Cut}
+use Rattle.work_core.proofs.PieceLemmas.{piece_cut}
+use Rattle.work_core.proofs.ShareLemmas.{all_come}
 use Rattle.round_core.specs.ClassLists.{AreOfItems, AreStepLists, RisesFrom}
 use Rattle.round_core.proofs.RunLemmas.{AllPairs-behind, stand_more, of_items_more}
 
@@ -67,7 +67,7 @@ rise_behind least xs ys (l ∷ ls) ms above below a b r s = (
 -- ---- partitions of the items by index
 
 -- a partition of items in ascending order of class is in that order
-pub piece_rises : (places : Range ℕ) (items : List Item) → Rise items → Rise (piece places items)
+pub piece_rises : (places : Range ℕ) (items : List Item) → Rise items → Rise (items_within places items)
 piece_rises places items rise = behind places.from (piece_before places.before items) (front places.before items rise)
   where
     front : (end : Option ℕ) (xs : List Item) → Rise xs → Rise (piece_before end xs)
@@ -92,15 +92,15 @@ lists_more xs ys ls ms grouped one other = record {
 pub shares-lists : (items : List Item) (post : Range ℕ → ℕ → Result (Vec ClassSteps) AllocError → Type 0)
     (cuts : List (Cut ℕ)) (shares : List (Vec ClassSteps)) → Rise items
     → ((places : Range ℕ) (n : ℕ) (lists : Vec ClassSteps) → post places n (Ok lists)
-    → AreStepLists (piece places items) lists.items) → GivesFrom nat_cmp (Gives post) None cuts shares
+    → AreStepLists (items_within places items) lists.items) → GivesFrom nat_cmp (Gives post) None cuts shares
     → AreStepLists items (all_in shares)
 shares-lists items post cuts shares rise known given =
     all_come nat_cmp (Gives post)
-    (λ (places : Range ℕ) (some : List (Vec ClassSteps)). AreStepLists (piece places items) (all_in some))
-    (λ places lists own. subst (AreStepLists (piece places items)) (sym (append-nil lists.items)) (known places own.0 lists own.1))
+    (λ (places : Range ℕ) (some : List (Vec ClassSteps)). AreStepLists (items_within places items) (all_in some))
+    (λ places lists own. subst (AreStepLists (items_within places items)) (sym (append-nil lists.items)) (known places own.0 lists own.1))
     (λ from at lists more begun one others.
     let whole = piece_cut from at items begun in
     subst (λ (xs : List Item). AreStepLists xs (lists.items ++ all_in more)) (sym whole)
-    (lists_more (piece (range from (Some at)) items) (piece (range (Some at) None) items) lists.items (all_in more)
+    (lists_more (items_within (range from (Some at)) items) (items_within (range (Some at) None) items) lists.items (all_in more)
     (subst Rise whole (piece_rises (range from None) items rise)) (known (range from (Some at)) one.0 lists one.1) others))
     None cuts shares given

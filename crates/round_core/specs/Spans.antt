@@ -3,7 +3,7 @@ use Rattle.std.specs.Prelude.{◌≡◌, ◌⊎◌, ◌↔◌, ◌≤◌, ℕ, L
 use Rattle.period_core.specs.Period.{Holds}
 use Rattle.period_core.specs.declared.period.Period.{Period}
 use Rattle.dip_core.specs.declared.item.Item.{Item}
-use Rattle.share_core.specs.declared.range.Range.{Range}
+use Rattle.work_core.specs.declared.range.Range.{Range}
 use Rattle.merge_core.specs.Tallies.{amounts, holding}
 use Rattle.round_core.specs.ClassLists.{HasItem}
 use Rattle.round_core.specs.Closing.{Continues, IsJoined}

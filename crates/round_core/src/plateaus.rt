@@ -11,15 +11,15 @@ use crate::closing::plateaus_in;
 use crate::measure::Measure;
 use crate::plateau::Plateaus;
 use crate::rounds::combine_all;
-use crate::spans::{CUTS, plateaus_of_spans};
+use crate::spans::plateaus_of_spans;
 use crate::step_lists::shared_lists;
 use dip_core::Item;
 use grid_core::{class_shares, items_in};
 use period_core::NoMemory;
-use share_core::{Range, shared_out};
 use std::collections::VecDeque;
 use std::thread::Threads;
-use work_core::{Crew, Gate};
+use work_core::tuning::CUTS;
+use work_core::{Crew, Gate, Range, shared_out};
 
 /// Returns the constant intervals of all classes, whose lists go through the rounds together.
 pub(crate) fn plateaus_by_rounds<R: Threads + Sync, G: Gate>(

@@ -5,7 +5,7 @@ ghost use Rattle.std.specs.Prelude.{◌<◌, ◌≤◌, IfOk, IfSome, None, Some
 ghost use Rattle.std.specs.Thread.{IsSync};
 ghost use Rattle.dip_core.specs.Item.{item_limit};
 ghost use Rattle.grid_core.specs.Bundles.{ClassesRise};
-ghost use Rattle.share_core.specs.Ranges.{range};
+ghost use Rattle.work_core.specs.Ranges.{range};
 ghost use Rattle.work_core.specs.Limits.{worker_limit};
 ghost use Rattle.round_core.specs.Plateaus.{ArePlateaus};
 ghost use Rattle.round_core.specs.Spans.{AreOfOneClass, ArePlateausWithin};
@@ -18,30 +18,17 @@ use crate::splicing::both_spliced;
 use crate::within::items_within;
 use dip_core::Item;
 use period_core::{NoMemory, Period, Point};
-use share_core::Range;
 use std::alloc::Global;
 use std::thread::{Threads, join};
-use work_core::{Crew, Gate};
-
-/// With fewer items, one side would be complete before the other side's thread has started.
-const ITEMS_FOR_SPANS: usize = 16_384;
-
-/// A single worker cuts only at least this many items. Then the steps of a span are still in the processor's cache
-/// when they are added, and the next span reuses its memory.
-const ITEMS_OF_SPAN: usize = 65_536;
-
-/// The greatest depth of cuts. It makes at most 64 spans, one for each of at most 64 workers.
-pub(crate) const CUTS: u32 = 6;
-
-/// The number of items in the sample for a median instant.
-const SAMPLE: usize = 1_023;
+use work_core::tuning::{ITEMS_FOR_THREADS, ITEMS_OF_SPAN, SAMPLE};
+use work_core::{Crew, Gate, Range};
 
 /// Returns the least number of items that are cut.
 fn least_to_cut(workers: u32) -> usize {
     if workers < 2 {
         ITEMS_OF_SPAN
     } else {
-        ITEMS_FOR_SPANS
+        ITEMS_FOR_THREADS
     }
 }
 

@@ -2,7 +2,7 @@
 
 ghost use Rattle.std.specs.Prelude.{ℤ, IfOk, List, MatchOption, None, Some};
 ghost use Rattle.dip_core.specs.declared.item.Item.{Item as AnyItem};
-ghost use Rattle.share_core.specs.Ranges.{range};
+ghost use Rattle.work_core.specs.Ranges.{range};
 ghost use Rattle.round_core.specs.Plateaus.{ArePlateaus};
 ghost use Rattle.round_core.specs.declared.measure.Measure.{Measure as AnyMeasure};
 ghost use Rattle.round_core.specs.Spans.{AreOfOneClass, ArePlateausWithin, AreSpliced, HaveNoJoint, IsJoint};

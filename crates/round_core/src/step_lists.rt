@@ -4,7 +4,7 @@ ghost use Rattle.std.specs.Prelude.{◌≡◌, ◌<◌, ◌≤◌, length, take,
 ghost use Rattle.std.specs.Thread.{IsSync};
 ghost use Rattle.dip_core.specs.Item.{item_limit};
 ghost use Rattle.dip_core.specs.Division.{all_of};
-ghost use Rattle.share_core.specs.Pieces.{piece};
+ghost use Rattle.work_core.specs.Pieces.{items_within};
 ghost use Rattle.work_core.specs.Limits.{worker_limit};
 ghost use Rattle.round_core.specs.ClassLists.{AddsSteps, AreStepLists};
 
@@ -14,10 +14,9 @@ use grid_core::divided;
 use list_core::in_one_list;
 use merge_core::Steps;
 use period_core::NoMemory;
-use share_core::{Range, Shares, piece, shared_out};
 use std::alloc::Global;
 use std::thread::Threads;
-use work_core::{Crew, Gate};
+use work_core::{Crew, Gate, Range, Shares, items_within, shared_out};
 
 /// Adds the steps of a part.
 fn push_part(
@@ -126,8 +125,13 @@ pub(crate) fn shared_lists<R: Threads + Sync, G: Gate>(
                 × (length items.now ≤ item_limit)
                 × AllPairs (λ a b. a.class ≤ b.class) items.now }
             ensures { IfOk result (λ lists.
-                AreStepLists (piece range items.entry.now) lists.items) }
-        { class_lists(&Crew::new(rt, alloc, workers, gate), piece(range, items)) },
+                AreStepLists (items_within range items.entry.now) lists.items) }
+        {
+            class_lists(
+                &Crew::new(rt, alloc, workers, gate),
+                items_within(range, items),
+            )
+        },
     )?;
     in_one_list(alloc, lists)
 }

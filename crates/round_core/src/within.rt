@@ -6,8 +6,8 @@ ghost use Rattle.round_core.specs.Spans.{AreWithin, IsBefore, IsFrom, IsPartWith
 use dip_core::Item;
 use list_core::room_for_half;
 use period_core::{NoMemory, Period, Point};
-use share_core::Range;
 use std::alloc::Global;
+use work_core::Range;
 
 /// Returns the start of a period clipped to a span.
 fn start_within(period: &Period, span: &Range<Point>) -> Point

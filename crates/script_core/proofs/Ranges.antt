@@ -5,13 +5,13 @@ use Rattle.std.specs.List.{enumerate_from}
 use Rattle.std.specs.Ordering.{nat_cmp}
 use Rattle.std.specs.declared.alloc.AllocError.{AllocError}
 use Rattle.std.proofs.lemmas.List.FromFn.{length-enumerate_from}
-use Rattle.share_core.specs.Pieces.{piece}
-use Rattle.share_core.specs.Ranges.{range}
-use Rattle.share_core.specs.Shares.{Gives, GivesFrom}
-use Rattle.share_core.specs.declared.range.Range.{Range}
-use Rattle.share_core.specs.declared.shares.Cut.{Cut}
-use Rattle.share_core.proofs.PieceLemmas.{piece-part, piece_cut}
-use Rattle.share_core.proofs.ShareLemmas.{all_come}
+use Rattle.work_core.specs.Pieces.{items_within}
+use Rattle.work_core.specs.Ranges.{range}
+use Rattle.work_core.specs.Shares.{Gives, GivesFrom}
+use Rattle.work_core.specs.declared.range.Range.{Range}
+use Rattle.work_core.specs.declared.shares.Cut.{Cut}
+use Rattle.work_core.proofs.PieceLemmas.{piece-part, piece_cut}
+use Rattle.work_core.proofs.ShareLemmas.{all_come}
 use Rattle.row_core.specs.Refusals.{and_then, map_err, map_ok, read_each}
 use Rattle.row_core.specs.declared.draft.Draft.{Draft}
 use Rattle.command_core.specs.Records.{Record}
@@ -43,7 +43,7 @@ take-enumerate_from (suc k) n (x ∷ xs) = ap (λ l. (n, x) ∷ l) (take-enumera
 pub reported-part : {T : Type 0} (read : Record → Result T Refusal) (places : Range ℕ) (number from to n : ℕ)
     (lines part : List Record) → n ≡ length lines → to ≡ min (unwrap_or places.before n) n
     → from ≡ min (unwrap_or places.from 0) to → part ≡ take (to - from) (drop from lines)
-    → each_or_fault read (piece places (enumerate_from number lines)) ≡ all_or_fault read (number + from) part
+    → each_or_fault read (items_within places (enumerate_from number lines)) ≡ all_or_fault read (number + from) part
 reported-part read places number from to n lines part size end start is =
     let numbered = enumerate_from number lines in
     let count : n ≡ length numbered = size ∙ sym (length-enumerate_from number lines) in
@@ -108,16 +108,16 @@ pub ranges-all : (read : Record → Result Draft Refusal) (numbered : List (ℕ 
     (post : Range ℕ → ℕ → Result (Result (List Draft) Fault) AllocError → Type 0)
     (cuts : List (Cut ℕ)) (ranges : List (Result (List Draft) Fault))
     → ((places : Range ℕ) (n : ℕ) (own : Result (List Draft) Fault) → post places n (Ok own)
-    → each_or_fault read (piece places numbered) ≡ own)
+    → each_or_fault read (items_within places numbered) ≡ own)
     → GivesFrom nat_cmp (Gives post) None cuts ranges → all_drafts ranges ≡ each_or_fault read numbered
 ranges-all read numbered post cuts ranges reported given =
     all_come nat_cmp (Gives post)
     (λ (places : Range ℕ) (all : List (Result (List Draft) Fault)).
-    all_drafts all ≡ each_or_fault read (piece places numbered))
+    all_drafts all ≡ each_or_fault read (items_within places numbered))
     (λ places own gave. all_drafts-one own ∙ sym (reported places gave.0 own gave.1))
     (λ from at own more begun one others.
-    let near = piece (range from (Some at)) numbered in
-    let far = piece (range (Some at) None) numbered in
+    let near = items_within (range from (Some at)) numbered in
+    let far = items_within (range (Some at) None) numbered in
     all_drafts-range own more
     ∙ ap (λ r. then_rest r (all_drafts more)) (sym (reported (range from (Some at)) one.0 own one.1))
     ∙ ap (then_rest (each_or_fault read near)) others

@@ -30,6 +30,7 @@ use row_core::{Name, Schema};
 use std::alloc::Global;
 use std::thread::Threads;
 use store_core::Snapshot;
+use work_core::tuning::ITEMS_FOR_THREADS;
 use work_core::{Crew, OpenGate};
 
 /// A table as a snapshot shows it: its columns and its rows.
@@ -84,14 +85,11 @@ fn both_tables(
     })
 }
 
-/// With fewer rows than these, in both tables together, starting threads takes longer than it saves.
-const ROWS_FOR_WORKERS: usize = 16_384;
-
 /// Returns the workers for a query that reads `rows` rows: one worker for few rows, otherwise all.
 fn crew_for<'a, T>(crew: &Crew<'a, T, OpenGate>, rows: usize) -> Crew<'a, T, OpenGate>
-    ensures { result.workers ≡ (if nat_lt rows 16_384 then 1 else crew.now.workers) }
+    ensures { result.workers ≡ (if nat_lt rows ITEMS_FOR_THREADS then 1 else crew.now.workers) }
 {
-    let workers = if rows < ROWS_FOR_WORKERS {
+    let workers = if rows < ITEMS_FOR_THREADS {
         1
     } else {
         crew.workers

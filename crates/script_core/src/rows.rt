@@ -1,7 +1,7 @@
 //! Reads the rows of a load.
 ghost use Rattle.std.specs.Prelude.{◌≡◌, ◌+◌, ◌-◌, ◌==◌, ◌<◌, ◌≤◌, ◌^◌, ◌++◌, ◌∷◌, [], IfOk, Ok, MatchResult, if◌then◌else◌, length};
 ghost use Rattle.std.specs.List.{enumerate_from};
-ghost use Rattle.share_core.specs.Pieces.{piece};
+ghost use Rattle.work_core.specs.Pieces.{items_within};
 ghost use Rattle.row_core.specs.declared.draft.Draft.{Draft as AnyDraft};
 ghost use Rattle.script_core.specs.Failure.{IsFailureOf, IsRecordFailure};
 ghost use Rattle.command_core.specs.Lines.{fields_in, lines_in};
@@ -13,10 +13,9 @@ use command_core::{Fault, Line, Lines, Refusal, begins};
 use draft_core::{Drafts, RowReader};
 use period_core::NoMemory;
 use row_core::Schema;
-use share_core::{Range, Shares, places_within, shared_out};
 use std::alloc::{AllocError, Global};
 use std::thread::Threads;
-use work_core::{Crew, OpenGate};
+use work_core::{Crew, OpenGate, Range, Shares, places_within, shared_out};
 
 /// Reads the row of one more record of a load, without copying its fields. `number` is the record's number.
 fn read_next<'s>(
@@ -72,7 +71,7 @@ fn rows_in_range(
 ) -> Result<Result<Drafts, Fault>, NoMemory>
     requires { number + length (lines_in lines) < 2 ^ 64 }
     ensures { IfOk result (λ read. drafts_or_fault schema.now
-        (piece places (enumerate_from number (lines_in lines.entry))) ≡ read) }
+        (items_within places (enumerate_from number (lines_in lines.entry))) ≡ read) }
 {
     let count = lines.len();
     let (from, to) = places_within(places, count);
@@ -141,7 +140,7 @@ pub(crate) fn loaded_rows<T: Threads + Sync>(
         &|places: Range<usize>, _workers: u32| -> Result<Result<Drafts, Fault>, NoMemory>
             requires { number + length (lines_in lines) < 2 ^ 64 }
             ensures { IfOk result (λ read. drafts_or_fault schema.entry.now
-                (piece places (enumerate_from number (lines_in lines.entry))) ≡ read) }
+                (items_within places (enumerate_from number (lines_in lines.entry))) ≡ read) }
         { rows_in_range(alloc, schema, lines, number, places) },
     )?;
     in_one_list(alloc, ranges)

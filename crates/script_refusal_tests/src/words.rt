@@ -1,8 +1,8 @@
 //! Tests of reading the program's words.
 
+use program_core::{Words, WordsRefused, read_words};
 use refusal_core::{Ended, Fault, holds, try_each};
 use std::alloc::Global;
-use words_core::{Words, WordsRefused, read_words};
 
 // Reads the words, and checks the result.
 fn read(alloc: Global, words: &[&str], want: Result<Words, WordsRefused>) -> Result<(), Ended> {

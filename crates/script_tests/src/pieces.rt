@@ -2,7 +2,7 @@
 //! them at once, wherever the pieces end. Consuming records leaves the other records unchanged.
 
 ghost use Rattle.std.specs.Prelude.{◌<◌, ◌^◌, length};
-ghost use Rattle.words_core.specs.Words.{IsWorkers};
+ghost use Rattle.program_core.specs.Words.{IsWorkers};
 
 use command_core::{Line, Records, ScriptReader};
 use rand::RngExt;

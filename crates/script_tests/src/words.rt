@@ -1,8 +1,8 @@
 //! Tests of reading the program's words.
 
+use program_core::{Words, WordsRefused, read_words};
 use std::alloc::Global;
 use std::process::Abort;
-use words_core::{Words, WordsRefused, read_words};
 
 fn check(rt: &(impl Abort + Alloc<A = Global>), words: &[&str], want: Result<Words, WordsRefused>) {
     assert_eq!(rt; read_words(rt.alloc(), words), want);

@@ -9,15 +9,15 @@ use Rattle.std.proofs.lemmas.Option.{slice_get-map}
 use Rattle.std.proofs.Math.Bool.{and-true, and_self}
 use Rattle.std.proofs.lemmas.Bool.{and_parts, or_parts}
 use Rattle.list_core.proofs.PlaceLemmas.{slice_get-before, slice_get-seam}
-use Rattle.key_core.proofs.Replaced.{append-parts}
+use Rattle.version_core.proofs.ReplacedRows.{append-parts}
 use Rattle.row_core.specs.declared.row.Row.{Row}
 use Rattle.draft_core.specs.Reached.{is_reached}
 use Rattle.version_core.specs.Finding.{AreCandidates, ListsOpen, any_row, passes}
 use Rattle.version_core.specs.OpenVersions.{closed, current, is_open, is_taken, places_from, versions_after}
 use Rattle.version_core.specs.Made.{made}
 use Rattle.table_core.specs.Numbered.{numbered, row_of}
-use Rattle.portion_core.specs.Wanted.{are_wanted}
-use Rattle.portion_core.specs.declared.portion_change.PortionChange.{PortionChange}
+use Rattle.version_core.specs.Wanted.{are_wanted}
+use Rattle.version_core.specs.declared.portion_change.PortionChange.{PortionChange}
 use Rattle.version_core.specs.Rows.{drafts_of, parts_of_all, removes}
 use Rattle.version_core.specs.Stored.{SystemPeriod, version_of, versions_of}
 use Rattle.version_core.specs.declared.change.RowsChange.TheVariants.{Portion}

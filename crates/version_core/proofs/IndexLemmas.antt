@@ -17,8 +17,8 @@ use Rattle.row_core.specs.declared.value.Value.TheVariants.{Int, Text}
 use Rattle.row_core.proofs.ValueLemmas.{same_value_is}
 use Rattle.version_core.specs.Finding.{AreCandidates, AreFound, AreNoMore, IsIndex, IsLookupOf, ListsOpen, any_row, bucket_at, bucket_in, bucket_of, bucket_of_bytes, falls_into, led_to, lookup_at, lookup_in, passes}
 use Rattle.version_core.specs.OpenVersions.{closed, is_open}
-use Rattle.portion_core.proofs.WantedLemmas.{each-wanted}
-use Rattle.portion_core.specs.Wanted.{are_wanted}
+use Rattle.version_core.proofs.WantedLemmas.{each-wanted}
+use Rattle.version_core.specs.Wanted.{are_wanted}
 use Rattle.version_core.specs.Limits.{bucket_count}
 use Rattle.version_core.specs.declared.change.RowsChange.{RowsChange}
 use Rattle.version_core.specs.declared.index.Index.{Index}

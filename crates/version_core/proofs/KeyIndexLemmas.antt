@@ -26,9 +26,9 @@ use Rattle.row_core.specs.declared.row.Row.{Row}
 use Rattle.row_core.specs.declared.value.Value.{Value}
 use Rattle.row_core.specs.declared.value.Value.TheVariants.{Int, Text}
 use Rattle.row_core.proofs.ValueLemmas.{maybe_decides}
-use Rattle.key_core.specs.Keys.{collide, have_collision, have_pair, same_key}
-use Rattle.key_core.proofs.Replaced.{append-parts}
-use Rattle.key_core.proofs.Collisions.{collide-flips, meet-between, shared}
+use Rattle.version_core.specs.Collisions.{collide, have_collision, have_pair, same_key}
+use Rattle.version_core.proofs.ReplacedRows.{append-parts}
+use Rattle.version_core.proofs.CollisionLemmas.{collide-flips, meet-between, shared}
 use Rattle.version_core.specs.Finding.{passes}
 use Rattle.version_core.specs.KeyIndex.{HasOnlyOpen, IsEntryOf, IsKeyIndex, IsLastNear, entry_cmp, entry_of, key_number, mixed, number_in, number_of, number_of_bytes}
 use Rattle.version_core.specs.Keys.{collides_left, is_left}

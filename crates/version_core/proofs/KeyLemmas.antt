@@ -10,9 +10,9 @@ use Rattle.draft_core.specs.Lent.{lent_draft}
 use Rattle.row_core.specs.declared.draft.Draft.{Draft}
 use Rattle.draft_core.specs.declared.draft_ref.DraftRef.{DraftRef}
 use Rattle.row_core.specs.declared.row.Row.{Row}
-use Rattle.key_core.specs.Keys.{collide, have_collision}
-use Rattle.key_core.proofs.Added.{pairs-filtered}
-use Rattle.key_core.proofs.Pairs.{have_pair-map}
+use Rattle.version_core.specs.Collisions.{collide, have_collision}
+use Rattle.version_core.proofs.AddedRows.{pairs-filtered}
+use Rattle.version_core.proofs.PairLemmas.{have_pair-map}
 use Rattle.version_core.specs.Keys.{collides_left, is_left, rows_left, break_key}
 use Rattle.version_core.specs.Finding.{ListsOpen, any_row, passes}
 use Rattle.version_core.specs.Made.{draft_of}

@@ -7,3 +7,11 @@ pub mod OpenLemmas
 pub mod Seen
 pub mod StoredLemmas
 pub mod Unbroken
+pub mod PairLemmas
+pub mod KeyOrderLemmas
+pub mod CollisionLemmas
+pub mod ReplacedRows
+pub mod AddedRows
+pub mod CollisionMeaning
+pub mod PartLemmas
+pub mod WantedLemmas

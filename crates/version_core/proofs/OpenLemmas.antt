@@ -14,7 +14,7 @@ use Rattle.list_core.proofs.MadeLemmas.{count-cons}
 use Rattle.row_core.specs.declared.row.Row.{Row}
 use Rattle.row_core.specs.declared.draft.Draft.{Draft}
 use Rattle.table_core.specs.Numbered.{numbered}
-use Rattle.portion_core.proofs.PartLemmas.{parts_of-few}
+use Rattle.version_core.proofs.PartLemmas.{parts_of-few}
 use Rattle.version_core.specs.Rows.{drafts_of, parts_of_all, parts_of, removes, with_parts}
 use Rattle.version_core.specs.Finding.{passes}
 use Rattle.version_core.specs.OpenVersions.{closed, closed_at, current, is_open, is_taken, places_from, versions_after}

@@ -12,13 +12,13 @@ use Rattle.row_core.specs.ValueOrder.{same_maybe}
 use Rattle.row_core.specs.declared.draft.Draft.{Draft}
 use Rattle.row_core.specs.declared.row.Row.{Row}
 use Rattle.row_core.specs.declared.value.Value.{Value}
-use Rattle.key_core.specs.Keys.{collide, have_collision, same_key}
-use Rattle.key_core.proofs.Collisions.{collide-flips, shared, shares}
-use Rattle.key_core.proofs.Replaced.{AreApart, IsPartOf, Misses, append-all, apart-from_none, apart-replaced, none-from_apart}
+use Rattle.version_core.specs.Collisions.{collide, have_collision, same_key}
+use Rattle.version_core.proofs.CollisionLemmas.{collide-flips, shared, shares}
+use Rattle.version_core.proofs.ReplacedRows.{AreApart, IsPartOf, Misses, append-all, apart-from_none, apart-replaced, none-from_apart}
 use Rattle.version_core.specs.Keys.{is_set, rows_left, break_key}
-use Rattle.portion_core.specs.Portion.{part}
-use Rattle.portion_core.specs.Wanted.{with_set}
-use Rattle.portion_core.specs.declared.portion_change.PortionChange.{PortionChange}
+use Rattle.version_core.specs.Portion.{part}
+use Rattle.version_core.specs.Wanted.{with_set}
+use Rattle.version_core.specs.declared.portion_change.PortionChange.{PortionChange}
 use Rattle.version_core.specs.Rows.{drafts_of, parts_of, removes}
 use Rattle.table_core.specs.Numbered.{unnumbered}
 use Rattle.version_core.specs.declared.change.RowsChange.TheVariants.{Portion}

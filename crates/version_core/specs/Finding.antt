@@ -1,6 +1,6 @@
 -- Lists of positions, used by a change to find the versions that it closes.
 use Rattle.std.specs.Prelude.{◌≡◌, ℕ, ◌+◌, ◌<◌, List, [], length, filter, find, Bool, ◌&&◌, if◌then◌else◌, option_and_then, option_map, slice_get, unwrap_or, Option, ◌*◌, ◌%◌, ◌≤◌, get_or, fold, All, true, false, Some, None, ◌==◌, unsigned_abs, IfSome}
-use Rattle.portion_core.specs.declared.portion_change.PortionChange.{PortionChange}
+use Rattle.version_core.specs.declared.portion_change.PortionChange.{PortionChange}
 use Rattle.row_core.specs.declared.row.Row.{Row}
 use Rattle.row_core.specs.declared.value.Value.{Value}
 use Rattle.row_core.specs.declared.value.Value.TheVariants.{Int, Text}

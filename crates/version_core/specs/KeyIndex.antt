@@ -8,7 +8,7 @@ use Rattle.std.specs.BTreeSet.{contains}
 use Rattle.row_core.specs.declared.draft.Draft.{Draft}
 use Rattle.row_core.specs.declared.value.Value.{Value}
 use Rattle.row_core.specs.declared.value.Value.TheVariants.{Int, Text}
-use Rattle.key_core.specs.Keys.{collide}
+use Rattle.version_core.specs.Collisions.{collide}
 use Rattle.version_core.specs.Made.{draft_of}
 use Rattle.version_core.specs.OpenVersions.{is_open}
 use Rattle.version_core.specs.declared.key_index.Entry.{Entry}

@@ -3,7 +3,7 @@ use Rattle.std.specs.Prelude.{ℕ, List, [], ◌∷◌, ◌++◌, map, filter, B
 use Rattle.row_core.specs.declared.draft.Draft.{Draft}
 use Rattle.row_core.specs.declared.row.Row.{Row}
 use Rattle.row_core.specs.declared.value.Value.{Value}
-use Rattle.key_core.specs.Keys.{have_collision, collide}
+use Rattle.version_core.specs.Collisions.{have_collision, collide}
 use Rattle.version_core.specs.Rows.{removes, drafts_of}
 use Rattle.table_core.specs.Numbered.{unnumbered}
 use Rattle.version_core.specs.OpenVersions.{current, is_open}

@@ -1,11 +1,15 @@
+pub mod Collisions
 pub mod Finding
 pub mod KeyIndex
+pub mod KeyOrder
 pub mod Keys
 pub mod Lent
 pub mod Limits
 pub mod Made
 pub mod OpenVersions
 pub mod Plans
+pub mod Portion
 pub mod Rows
 pub mod Shown
 pub mod Stored
+pub mod Wanted

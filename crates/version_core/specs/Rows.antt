@@ -1,6 +1,6 @@
 -- Which rows a change of a table removes, and what replaces them.
 use Rattle.std.specs.Prelude.{List, [], filter, Bool, false, flat_map}
-use Rattle.portion_core.specs.Portion.{parts_of as parts_by_place, takes_out}
+use Rattle.version_core.specs.Portion.{parts_of as parts_by_place, takes_out}
 use Rattle.row_core.specs.declared.draft.Draft.{Draft}
 use Rattle.row_core.specs.declared.row.Row.{Row}
 use Rattle.version_core.specs.declared.change.RowsChange.{RowsChange}

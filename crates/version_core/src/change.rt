@@ -11,10 +11,10 @@ ghost use Rattle.version_core.specs.Rows.{removes, with_parts};
 ghost use Rattle.version_core.specs.Stored.{version_of};
 ghost use Rattle.version_core.specs.declared.change.RowsChange.TheVariants.{Portion};
 
+use crate::portion_change::PortionChange;
 use crate::system_period::SystemPeriod;
 use crate::version_ref::VersionRef;
 use draft_core::Drafts;
-use portion_core::PortionChange;
 use std::alloc::Global;
 use std::mem;
 use table_core::RowRef;

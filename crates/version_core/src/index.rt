@@ -9,13 +9,14 @@ ghost use Rattle.version_core.specs.Finding.{AreNoMore, IsIndex, IsLookupOf, buc
 ghost use Rattle.version_core.specs.Limits.{bucket_count, version_limit};
 ghost use Rattle.version_core.specs.OpenVersions.{is_open};
 ghost use Rattle.version_core.specs.declared.change.RowsChange.TheVariants.{Portion};
-ghost use Rattle.portion_core.specs.Wanted.{are_wanted};
+ghost use Rattle.version_core.specs.Wanted.{are_wanted};
 ghost use Rattle.version_core.specs.Stored.{version_of};
 
+use crate::by_column::ByColumn;
 use crate::places::Places;
+use crate::portion_change::PortionChange;
 use crate::stored::StoredVersions;
 use crate::system_period::SystemPeriod;
-use portion_core::{ByColumn, PortionChange};
 use row_core::{NoMemory, ValueRef};
 use std::alloc::Global;
 use table_core::RowRef;

@@ -2,7 +2,7 @@
 
 ghost use Rattle.std.specs.Prelude.{◌≡◌, ◌≢◌, ◌↔◌, ℕ, ◌+◌, ◌≤◌, ◌<◌, ◌≤ℤ◌, List, [], ◌∷◌, true, false, Some, length, map, take, IfOk, IfSome, IsTrue, MatchOption, OnOk};
 ghost use Rattle.std.specs.List.{list_any};
-ghost use Rattle.key_core.specs.Keys.{collide, have_collision, same_key};
+ghost use Rattle.version_core.specs.Collisions.{collide, have_collision, same_key};
 ghost use Rattle.draft_core.specs.Lent.{lent_draft};
 ghost use Rattle.row_core.specs.Lent.{lent_value};
 ghost use Rattle.table_core.specs.Lent.{lent_row};
@@ -14,11 +14,11 @@ ghost use Rattle.version_core.specs.Lent.{lent_version};
 ghost use Rattle.version_core.specs.declared.version.Version.{Version};
 
 use crate::change::RowsChange;
+use crate::collisions::same_key;
 use crate::keys::collides_at;
 use crate::stored::StoredVersions;
 use crate::version_ref::VersionRef;
 use draft_core::DraftRef;
-use key_core::same_key;
 use period_core::Point;
 use row_core::{NoMemory, ValueRef};
 use std::alloc::{AllocError, Global};

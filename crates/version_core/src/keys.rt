@@ -2,7 +2,7 @@
 
 ghost use Rattle.std.specs.Prelude.{◌≡◌, ◌≢◌, ◌++◌, List, [], true, false, map, IfOk, IfSome, None, OnOk};
 ghost use Rattle.std.specs.List.{list_any};
-ghost use Rattle.key_core.specs.Keys.{collide, have_collision};
+ghost use Rattle.version_core.specs.Collisions.{collide, have_collision};
 ghost use Rattle.draft_core.specs.Lent.{lent_draft};
 ghost use Rattle.version_core.specs.Finding.{ListsOpen, any_row, passes, portion_of};
 ghost use Rattle.version_core.specs.Keys.{collides_left, is_set, overlap_after, rows_left, break_key};
@@ -11,12 +11,12 @@ ghost use Rattle.table_core.specs.Numbered.{unnumbered};
 ghost use Rattle.version_core.specs.Lent.{lent_version};
 ghost use Rattle.version_core.specs.declared.version.Version.{Version};
 
+use crate::by_column::ByColumn;
 use crate::change::RowsChange;
+use crate::collisions::{collide, have_collision};
 use crate::stored::StoredVersions;
 use crate::version_ref::VersionRef;
 use draft_core::{DraftRef, Drafts};
-use key_core::{collide, have_collision};
-use portion_core::ByColumn;
 use row_core::NoMemory;
 use std::alloc::{AllocError, Global};
 use thiserror::Error;

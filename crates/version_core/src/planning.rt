@@ -9,9 +9,9 @@ ghost use Rattle.version_core.specs.Rows.{parts_of_all};
 ghost use Rattle.version_core.specs.declared.change.RowsChange.TheVariants.{Portion};
 
 use crate::change::{RowsChange, takes};
+use crate::portion_change::PortionChange;
 use crate::stored::StoredVersions;
 use draft_core::Drafts;
-use portion_core::PortionChange;
 use row_core::NoMemory;
 use std::alloc::Global;
 use table_core::RowRef;

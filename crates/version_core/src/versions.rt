@@ -2,7 +2,7 @@
 
 ghost use Rattle.std.specs.Prelude.{◌≡◌, ◌≢◌, ℕ, ◌+◌, ◌≤◌, ◌<◌, ◌++◌, List, [], true, false, length, map, filter, fold, take, count_by, All, IfOk, IfErr, IfSome, OnErr, OnOk, slice_get};
 ghost use Rattle.std.specs.List.{list_any, range_with_len};
-ghost use Rattle.key_core.specs.Keys.{collide, have_collision};
+ghost use Rattle.version_core.specs.Collisions.{collide, have_collision};
 ghost use Rattle.period_core.specs.Period.{holds_at};
 ghost use Rattle.row_core.specs.declared.failure.Failure.TheVariants.{NoMemory};
 ghost use Rattle.row_core.specs.declared.row.Row.{Row as AnyRow};
@@ -17,7 +17,7 @@ ghost use Rattle.version_core.specs.Plans.{IsPlanOf};
 ghost use Rattle.version_core.specs.Rows.{drafts_of, parts_of_all, removes};
 ghost use Rattle.version_core.specs.Shown.{shown, versions_as_of};
 ghost use Rattle.version_core.specs.declared.change.RowsChange.TheVariants.{Portion};
-ghost use Rattle.portion_core.specs.declared.portion_change.PortionChange.{PortionChange as AnyPortionChange};
+ghost use Rattle.version_core.specs.declared.portion_change.PortionChange.{PortionChange as AnyPortionChange};
 
 use crate::change::RowsChange;
 use crate::commit_number::CommitNumber;
@@ -29,13 +29,13 @@ use crate::key_index::{KeyIndex, index_by};
 use crate::keys::{KeyOverlap, collide_among, may_overlap, rows_left};
 use crate::places::Places;
 use crate::planning::{Plan, count_parts, is_small, plan_change};
+use crate::portion_change::PortionChange;
 use crate::shared_versions::SharedVersions;
 use crate::stored::StoredVersions;
 use crate::version::{rows_holding, rows_shown, versions_seen};
 use draft_core::Drafts;
 use list_core::DeepCopy;
 use period_core::Point;
-use portion_core::PortionChange;
 use row_core::{Failure, NoMemory};
 use std::alloc::Global;
 use std::marker::Model;

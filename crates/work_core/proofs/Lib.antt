@@ -5,3 +5,8 @@ pub mod Rule
 pub mod Team
 pub mod PresentValues
 pub mod ViewSums
+pub mod CutLemmas
+pub mod NumberLemmas
+pub mod PieceLemmas
+pub mod RangeLemmas
+pub mod ShareLemmas

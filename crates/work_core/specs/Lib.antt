@@ -3,5 +3,8 @@ pub mod Collected
 pub mod Counting
 pub mod Jobs
 pub mod Limits
+pub mod Pieces
+pub mod Ranges
+pub mod Shares
 pub mod Stretches
 pub mod Workers

@@ -10,12 +10,9 @@ use crate::job::PairWork;
 use crate::name::PairName;
 use crate::outs::Outs;
 use crate::run::run_pairs;
+use crate::tuning::STRETCH_PAIRS;
 use std::alloc::{AllocError, Global};
 use std::thread::Threads;
-
-/// The most pairs that a query runs before it processes their values, which limits how many values are in memory at
-/// once.
-pub const STRETCH_PAIRS: u64 = 65_536;
 
 /// The `count` pairs of a job from number `first` on, as a job. Its pair with number `i` is the job's pair with number
 /// `first + i`, with the same name, inputs and value.

@@ -10,7 +10,7 @@ use std::test::Fail;
 use std::thread::Threads;
 use work_core::{Gate, OpenGate, PairName, run_pairs};
 
-// Seven numbers, each of which makes a pair with the number 10.
+// Seven numbers. Each makes a pair with the number 10.
 pub(crate) const SEVEN: &[u32] = &[1, 2, 3, 4, 5, 6, 7];
 
 pub(crate) const TEN: &[u32] = &[10];
@@ -120,7 +120,7 @@ fn numbers_pairs_row_by_row(rt: HostRuntime) -> Result<(), Fail> {
     Ok(())
 }
 
-// Checks the values of a job on two workers, one of which is delayed at a pair until all others have left.
+// Checks the values of a job on two workers. One is delayed at a pair until all others have left.
 fn check_held(
     rt: &(impl Abort + Alloc<A = Global> + Threads + Sync),
     job: &Sums<'_>,
@@ -159,7 +159,7 @@ fn any_pair_may_wait_for_the_others(rt: HostRuntime) -> Result<(), Fail> {
     Ok(())
 }
 
-// With as many workers as pairs, each of two pairs is run while the other is delayed.
+// With one worker for each pair, each of two pairs is run while the other is delayed.
 #[test]
 fn of_two_pairs_either_may_wait_for_the_other(rt: HostRuntime) -> Result<(), Fail> {
     let job = Sums {

@@ -1,7 +1,7 @@
 use Rattle.std.proofs.Common.{IfOk, Result, Some, subst, sym, ℕ}
 use Rattle.std.specs.declared.alloc.AllocError.{AllocError}
 use Rattle.std.proofs.lemmas.Result.{IfOk-weaker}
-use Rattle.share_core.specs.declared.range.Range.{Range}
+use Rattle.work_core.specs.declared.range.Range.{Range}
 use Rattle.agg_core.specs.Agg.{AreAggRows}
 use Rattle.agg_core.specs.Entries.{amount_at, value_at_place}
 use Rattle.agg_core.specs.KeyRanges.{rows_in_range}

@@ -2,7 +2,7 @@ use Rattle.std.proofs.Common.{◌≡◌, ◌≤◌, List, ◌++◌, ◌∷◌, [
 use Rattle.std.proofs.lemmas.List.{map-append}
 use Rattle.table_core.specs.Lent.{lent_row}
 use Rattle.dip_core.specs.declared.item.Item.{Item}
-use Rattle.share_core.proofs.PieceLemmas.{piece-between}
+use Rattle.work_core.proofs.PieceLemmas.{piece-between}
 use Rattle.match_core.proofs.PartLemmas.{one_more}
 use Rattle.agg_core.specs.Entries.{amount_at}
 use Rattle.agg_core.specs.Grouping.{amount_item}

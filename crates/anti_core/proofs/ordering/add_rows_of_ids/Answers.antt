@@ -1,7 +1,7 @@
 use Rattle.std.proofs.Common.{◌++◌, List, filter, sym, ap, ◌∙◌, append-nil}
 use Rattle.std.specs.Ordering.{nat_cmp}
 use Rattle.std.proofs.lemmas.List.{take_all}
-use Rattle.share_core.specs.Ranges.{has}
+use Rattle.work_core.specs.Ranges.{has}
 use Rattle.anti_core.specs.declared.rows.AntiRow.{AntiRow}
 use Rattle.anti_core.proofs.OrderingLemmas.{kept-more, kept-same}
 use Rattle.anti_core.proofs.ordering.add_rows_of_ids.Goals.{then-has+in_ok-push, else-has}

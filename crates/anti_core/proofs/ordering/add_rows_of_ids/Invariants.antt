@@ -1,5 +1,5 @@
 use Rattle.std.proofs.Common.{◌≡◌, ◌++◌, filter, take}
-use Rattle.share_core.specs.Ranges.{has}
+use Rattle.work_core.specs.Ranges.{has}
 use Rattle.std.specs.Ordering.{nat_cmp}
 use Rattle.anti_core.proofs.ordering.add_rows_of_ids.Given as goal
 

@@ -3,7 +3,7 @@ use Rattle.std.specs.Ordering.{nat_cmp}
 use Rattle.std.specs.Global.{Vec}
 use Rattle.std.proofs.lemmas.List.{take_all}
 use Rattle.list_core.specs.Chunks.{all_in}
-use Rattle.share_core.specs.Ranges.{has}
+use Rattle.work_core.specs.Ranges.{has}
 use Rattle.anti_core.specs.declared.rows.AntiRow.{AntiRow}
 use Rattle.anti_core.proofs.OrderingLemmas.{kept_in-more}
 use Rattle.anti_core.proofs.ordering.rows_of_ids.Goals as goal

@@ -1,6 +1,6 @@
 use Rattle.std.proofs.Common.{◌≡◌, filter, take}
 use Rattle.list_core.specs.Chunks.{all_in}
-use Rattle.share_core.specs.Ranges.{has}
+use Rattle.work_core.specs.Ranges.{has}
 use Rattle.std.specs.Ordering.{nat_cmp}
 use Rattle.anti_core.proofs.ordering.rows_of_ids.Given as goal
 

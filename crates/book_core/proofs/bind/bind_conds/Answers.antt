@@ -1,6 +1,6 @@
 use Rattle.std.proofs.Common.{◌≡◌, ◌&&◌, ◌∙◌, None, ap, arith, length, refl, sym}
-use Rattle.portion_core.proofs.WantedLemmas.{none-wanted}
-use Rattle.portion_core.specs.Wanted.{are_wanted}
+use Rattle.version_core.proofs.WantedLemmas.{none-wanted}
+use Rattle.version_core.specs.Wanted.{are_wanted}
 use Rattle.row_core.proofs.RefusalLemmas.{allowed_here}
 use Rattle.book_core.specs.State.{pair_tests}
 use Rattle.book_core.proofs.BoundLemmas.{conds-more}

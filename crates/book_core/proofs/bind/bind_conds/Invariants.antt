@@ -4,7 +4,7 @@ use Rattle.std.specs.List.{list_all}
 use Rattle.row_core.specs.Limits.{column_limit}
 use Rattle.row_core.specs.Refusals.{first_of}
 use Rattle.row_core.specs.declared.value.Value.{Value}
-use Rattle.portion_core.specs.Wanted.{are_wanted}
+use Rattle.version_core.specs.Wanted.{are_wanted}
 use Rattle.book_core.specs.Rows.{is_equal_at}
 use Rattle.book_core.specs.State.{pair_tests}
 use Rattle.book_core.proofs.bind.bind_conds.Given as goal

@@ -1,7 +1,7 @@
 use Rattle.std.proofs.Common.{◌∙◌, None, Some, ap, arith, length, refl}
 use Rattle.std.proofs.lemmas.List.{length-set}
-use Rattle.portion_core.proofs.WantedLemmas.{none-set}
-use Rattle.portion_core.specs.Wanted.{with_set}
+use Rattle.version_core.proofs.WantedLemmas.{none-set}
+use Rattle.version_core.specs.Wanted.{with_set}
 use Rattle.row_core.proofs.RefusalLemmas.{allowed_here}
 use Rattle.book_core.specs.State.{pair_tests}
 use Rattle.book_core.proofs.BoundLemmas.{settings-more}

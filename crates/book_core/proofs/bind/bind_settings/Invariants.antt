@@ -3,7 +3,7 @@ use Rattle.std.specs.Prelude.{flat_map, fold}
 use Rattle.row_core.specs.Limits.{column_limit}
 use Rattle.row_core.specs.Refusals.{first_of}
 use Rattle.row_core.specs.declared.value.Value.{Value}
-use Rattle.portion_core.specs.Wanted.{with_set}
+use Rattle.version_core.specs.Wanted.{with_set}
 use Rattle.book_core.specs.Rows.{set_at}
 use Rattle.book_core.specs.State.{pair_tests}
 use Rattle.book_core.proofs.bind.bind_settings.Given as goal

@@ -1,8 +1,8 @@
 use Rattle.std.proofs.Common.{◌∙◌, ap, sym}
 use Rattle.std.specs.Option.{option_copied}
 use Rattle.row_core.specs.ValueOrder.{same_value}
-use Rattle.portion_core.proofs.WantedLemmas.{wanted-set}
-use Rattle.portion_core.specs.Wanted.{are_wanted}
+use Rattle.version_core.proofs.WantedLemmas.{wanted-set}
+use Rattle.version_core.specs.Wanted.{are_wanted}
 use Rattle.book_core.proofs.BoundLemmas.{want-again}
 use Rattle.book_core.proofs.bind.want.Goals as goal
 

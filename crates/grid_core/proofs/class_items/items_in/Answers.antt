@@ -2,7 +2,7 @@ use Rattle.std.proofs.Common.{◌∙◌, Bool, not, ap, sym, subst, filter, List
 use Rattle.std.specs.Ordering.{nat_cmp}
 use Rattle.std.proofs.lemmas.List.Kept.{IsNonDecreasingBy-filter}
 use Rattle.dip_core.specs.declared.item.Item.{Item}
-use Rattle.share_core.specs.Ranges.{has_begun, has_ended}
+use Rattle.work_core.specs.Ranges.{has_begun, has_ended}
 use Rattle.grid_core.specs.Bundles.{ClassesRise}
 use Rattle.grid_core.proofs.RangeItems.{filter_both}
 use Rattle.grid_core.proofs.class_items.items_in.Goals as goal

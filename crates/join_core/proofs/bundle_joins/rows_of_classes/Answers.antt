@@ -1,8 +1,8 @@
 use Rattle.std.proofs.Common.{ℕ, IfOk, Result}
 use Rattle.std.specs.declared.alloc.AllocError.{AllocError}
 use Rattle.std.proofs.lemmas.Result.{IfOk-weaker}
-use Rattle.share_core.specs.Shares.{Gives}
-use Rattle.share_core.specs.declared.range.Range.{Range}
+use Rattle.work_core.specs.Shares.{Gives}
+use Rattle.work_core.specs.declared.range.Range.{Range}
 use Rattle.grid_core.specs.Bundles.{items_in}
 use Rattle.join_core.specs.declared.found.FoundRows.{FoundRows}
 use Rattle.join_core.specs.Found.{IsFound}

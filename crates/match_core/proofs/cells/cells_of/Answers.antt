@@ -1,5 +1,5 @@
 use Rattle.std.proofs.Common.{◌≡◌, ◌∙◌, ◌<◌, ◌≤◌, List, length, min, unwrap_or, drop, take, arith, ap, subst, sym}
-use Rattle.share_core.proofs.PieceLemmas.{piece-between}
+use Rattle.work_core.proofs.PieceLemmas.{piece-between}
 use Rattle.match_core.specs.declared.row_items.ClassedPlace.{ClassedPlace}
 use Rattle.match_core.specs.Cells.{AreCellsAt}
 use Rattle.match_core.specs.ClassedPlaces.{placed_from}

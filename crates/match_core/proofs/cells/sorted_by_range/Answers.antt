@@ -3,7 +3,7 @@ use Rattle.std.specs.Global.{Vec}
 use Rattle.std.specs.declared.alloc.AllocError.{AllocError}
 use Rattle.std.proofs.lemmas.Result.{IfOk-weaker}
 use Rattle.list_core.specs.Chunks.{all_in}
-use Rattle.share_core.specs.declared.range.Range.{Range}
+use Rattle.work_core.specs.declared.range.Range.{Range}
 use Rattle.match_core.specs.declared.cells.Cell.{Cell}
 use Rattle.match_core.specs.Cells.{AreInOrder, cells_in}
 use Rattle.match_core.proofs.MadeCells.{ranges_in_order}

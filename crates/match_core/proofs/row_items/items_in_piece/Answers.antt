@@ -1,8 +1,8 @@
 use Rattle.std.proofs.Common.{◌≡◌, ◌∙◌, ◌<◌, ◌≤◌, ◌++◌, Global, List, [], ◌∷◌, Vec, length, filter, min, unwrap_or, sym, ap, arith}
 use Rattle.std.specs.Ordering.{nat_cmp}
 use Rattle.dip_core.specs.declared.item.Item.{Item}
-use Rattle.share_core.specs.Ranges.{has}
-use Rattle.share_core.proofs.PieceLemmas.{piece-between}
+use Rattle.work_core.specs.Ranges.{has}
+use Rattle.work_core.proofs.PieceLemmas.{piece-between}
 use Rattle.table_core.specs.Lent.{lent_row}
 use Rattle.match_core.specs.Items.{items_with}
 use Rattle.match_core.proofs.RowItems.{items_from, items_from-more, items_from-same, items_with-piece, length-items_with}

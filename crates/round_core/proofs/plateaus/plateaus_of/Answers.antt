@@ -1,7 +1,7 @@
 use Rattle.std.proofs.Common.{IfOk, List, Result, subst, sym, ℕ}
 use Rattle.std.specs.declared.alloc.AllocError.{AllocError}
 use Rattle.std.proofs.lemmas.Result.{IfOk-weaker}
-use Rattle.share_core.specs.declared.range.Range.{Range}
+use Rattle.work_core.specs.declared.range.Range.{Range}
 use Rattle.grid_core.specs.Bundles.{items_in}
 use Rattle.round_core.specs.Plateaus.{ArePlateaus}
 use Rattle.round_core.specs.declared.plateau.Plateau.{Plateau}

@@ -1,6 +1,6 @@
 use Rattle.std.proofs.Common.{None, Some}
 use Rattle.std.proofs.lemmas.Result.{IfOk-at_ok, IfOk-weaker}
-use Rattle.share_core.specs.Ranges.{range}
+use Rattle.work_core.specs.Ranges.{range}
 use Rattle.round_core.specs.Spans.{ArePlateausWithin}
 use Rattle.round_core.proofs.SpanLemmas.{ArePlateaus-spliced}
 use Rattle.round_core.proofs.splicing.both_spliced.Goals as goal

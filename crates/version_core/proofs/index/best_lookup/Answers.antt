@@ -1,6 +1,6 @@
 use Rattle.std.proofs.Common.{◌≡◌, ◌<◌, ◌∙◌, ap, arith, subst, sym, true}
 use Rattle.std.specs.Prelude.{IfSome, IsSome, is_some}
-use Rattle.portion_core.specs.Wanted.{are_wanted}
+use Rattle.version_core.specs.Wanted.{are_wanted}
 use Rattle.row_core.specs.declared.row.Row.{Row}
 use Rattle.version_core.specs.Finding.{AreNoMore, falls_into, led_to, lookup_at}
 use Rattle.version_core.specs.Limits.{bucket_count}

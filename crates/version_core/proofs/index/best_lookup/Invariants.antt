@@ -1,6 +1,6 @@
 use Rattle.std.proofs.Common.{◌≡◌, ◌<◌, ℕ, true}
 use Rattle.std.specs.Prelude.{IfSome, IsSome}
-use Rattle.portion_core.specs.Wanted.{are_wanted}
+use Rattle.version_core.specs.Wanted.{are_wanted}
 use Rattle.row_core.specs.declared.row.Row.{Row}
 use Rattle.version_core.specs.Finding.{AreNoMore, bucket_at, falls_into, led_to, lookup_at}
 use Rattle.version_core.specs.Limits.{bucket_count}

@@ -4,7 +4,7 @@ use Rattle.std.proofs.lemmas.List.Folds.{list_any_at, list_any_more}
 use Rattle.std.proofs.lemmas.Option.{get_or_from_slice_get}
 use Rattle.draft_core.specs.Lent.{lent_draft}
 use Rattle.row_core.specs.declared.draft.Draft.{Draft}
-use Rattle.key_core.specs.Keys.{collide}
+use Rattle.version_core.specs.Collisions.{collide}
 use Rattle.version_core.specs.Keys.{rows_left}
 use Rattle.version_core.specs.OpenVersions.{current}
 use Rattle.version_core.proofs.versions.Versions.any_meets.Goals as goal

@@ -1,6 +1,6 @@
 use Rattle.std.proofs.Common.{◌≡◌, false, take}
 use Rattle.std.specs.List.{list_any}
-use Rattle.key_core.specs.Keys.{collide}
+use Rattle.version_core.specs.Collisions.{collide}
 use Rattle.version_core.specs.Keys.{rows_left}
 use Rattle.version_core.specs.OpenVersions.{current}
 use Rattle.version_core.proofs.versions.Versions.any_meets.Given as goal

@@ -1,8 +1,8 @@
 use Rattle.std.proofs.Common.{◌∙◌, ◌||◌, ◌++◌, ap, map, sym}
 use Rattle.std.proofs.lemmas.Result.{IfOk-weaker}
 use Rattle.draft_core.specs.Lent.{lent_draft}
-use Rattle.key_core.specs.Keys.{collide, have_collision}
-use Rattle.key_core.proofs.Added.{have_meeting, pairs-added}
+use Rattle.version_core.specs.Collisions.{collide, have_collision}
+use Rattle.version_core.proofs.AddedRows.{have_meeting, pairs-added}
 use Rattle.version_core.specs.Keys.{rows_left}
 use Rattle.version_core.specs.OpenVersions.{current}
 use Rattle.version_core.proofs.KeyLemmas.{left-apart}

@@ -1,2 +1,0 @@
-pub mod Portion
-pub mod Wanted

@@ -1,6 +1,0 @@
-use Rattle.std.proofs.Common.{◌-◌}
-use Rattle.share_core.specs.Shares.{IsCutUpto}
-use Rattle.share_core.proofs.shares.cut_at.Given as goal
-
-abbrev pub invariant-loop-part : goal.invariant-loop-part
-invariant-loop-part g l = IsCutUpto g.T.Ord.cmp l.workers (l.parts - l.part) l.cuts.items l.last l.some l.left

@@ -1,5 +1,0 @@
-use Rattle.words_core.proofs.ReadingLemmas.{AsksFor-unique}
-use Rattle.words_core.proofs.laws.words_ask_for_one_thing.Goals as goal
-
-pub returns : goal.returns
-returns c = AsksFor-unique
