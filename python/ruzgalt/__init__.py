@@ -12,7 +12,7 @@ Each folder is about one subject, and its modules import only from folders and m
 
     errors              the exceptions with which tools and calls end early
     which               which program and which library answer, and which version this is
-    kernel              the library over arrays of numpy
+    kernel              the library over arrays of numpy, and the program that a store keeps
     files, progress     files that are written whole; a line that shows how far a call is
     periods             pieces of the calendar, and rules of rounding
     script              a script and its answers: records, commands, tables, refusals, versions and changes

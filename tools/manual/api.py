@@ -2,38 +2,50 @@
 import doctest
 import inspect
 import re
-import textwrap
 from collections import defaultdict
 from typing import Any, Dict, Iterator, List, Mapping, Tuple
 
 import ruzgalt
 from manual.numpydoc import Docstring, Entry
 
-WIDTH = 110
 NO_CALLS = ("frames", "__version__")
 # A line of most examples, which the page's first lines name.
 DAY = "day = pd.to_datetime"
-# Sections whose equal entries are shown once for all calls of a kind.
-SHARED = ("Parameters", "Raises", "Warns")
+# Texts that the page's first lines have too.
+SAID = ("The table.", "The file.")
+# Types of parameters that the page's first lines name.
+KINDS = {
+    "int, str, date, datetime, Timestamp or Period": "commit", "str, date, datetime, Timestamp or Period": "point",
+    "name or list of names": "names",
+}
+# Sections whose equal entries, if at least this number of calls has them, are shown once, or by the classes that they
+# name.
+SHARED = {"Parameters": 2, "Returns": 3, "Raises": 2, "Warns": 2}
 HEAD = [
     "# API", "",
-    "For people who call `ruzgalt` from Python: its calls, one by one. Read [FRAMES](FRAMES.md) first: what the calls "
-    "are for, which columns there are, and refusals. `tools/make-api` makes this page of the docstrings. Tests run the "
-    f"examples, after `import pandas as pd`, `import ruzgalt` and `{DAY}`; `help(ruzgalt.join)` shows more of them.",
+    "The calls of `ruzgalt` from Python. [FRAMES](FRAMES.md) explains them. `tools/make-api` "
+    "makes this page of the docstrings; `help(ruzgalt.join)` shows a whole one. Tests run the examples, after "
+    f"`import pandas as pd`, `import ruzgalt`, `{DAY}` and the examples before.",
 ]
-OF_SEVERAL = ["", "## Parameters of several calls", "", "A call's own parameters are in its section.", ""]
+OF_SEVERAL = [
+    "", "## Parameters of several calls", "",
+    "*Points* and *commits* are given as [Store](#store) says, *names* as a name or a list. A store's `name`, `left` "
+    "and `right` are tables, a `path` a file. After its parameters a section describes the answer. Calls raise "
+    "[Refused](#refused) or [Stopped](#stopped), and warn by [Doubt](#doubt).", "",
+]
 
 Subjects = List[Tuple[str, Any]]
+Key = Tuple[str, Tuple[str, ...], str]
 
 
 def page() -> Iterator[str]:
     """Returns the lines of the page."""
     found = list(subjects())
-    shared = Shared(found)
-    yield from [*HEAD, "", f"On frames, and their answers: {links(found, False)}.", ""]
+    shared, made = Shared(found), {"day": f"{DAY}\n"}
+    yield from [*HEAD, "", f"On frames, and answers: {links(found, False)}.", ""]
     yield from [f"On stores: {links(found, True)}.", *OF_SEVERAL, *shared.lines()]
     for name, one in found:
-        yield from ["", f"{'###' if '.' in name else '##'} {name}", *section(name, one, shared)]
+        yield from ["", f"{'###' if '.' in name else '##'} {name}", *section(name, one, shared, made)]
 
 
 def links(found: Subjects, of_store: bool) -> str:
@@ -69,54 +81,55 @@ class Shared:
     """The entries of docstrings that several calls have, word for word."""
 
     def __init__(self, found: Subjects) -> None:
-        self.calls: Dict[str, Dict[str, List[str]]] = {heading: defaultdict(list) for heading in SHARED}
-        for name, one in found:
+        self.calls: Dict[Key, List[Entry]] = defaultdict(list)
+        for _, one in found:
             docstring = Docstring(one)
             for heading in SHARED:
                 for entry in docstring.entries(heading):
-                    self.calls[heading][item(entry)].append(name)
+                    self.calls[key(heading, entry)].append(entry)
+        # If a name has several meanings, the one of most calls.
+        self.usual = {(heading, names): text for (heading, names, text), _ in sorted(
+            self.calls.items(), key=lambda pair: len(pair[1]))}
 
     def has(self, heading: str, entry: Entry) -> bool:
-        return heading in SHARED and len(self.calls[heading][item(entry)]) > 1
+        found = self.calls.get(key(heading, entry), [])
+        is_usual = heading != "Parameters" or self.usual[heading, tuple(entry.names)] == entry.text
+        return heading in SHARED and len(found) >= SHARED[heading] and is_usual
 
-    def lines(self) -> Iterator[str]:
-        """Yields the shared entries by name. If a name has several meanings, the rarer ones name their calls."""
-        for heading in SHARED:
-            rows = sorted((text, calls) for text, calls in self.calls[heading].items() if len(calls) > 1)
-            if heading != "Parameters" and rows:
-                yield from ["", f"**{heading}**, each call on frames:", ""]
-            for text, calls in rows:
-                name = text.partition(" (")[0]
-                others = [len(more) for other, more in rows if other.startswith(f"{name} (") and other != text]
-                yield text + (f" So in {', '.join(calls)}." if others and max(others) >= len(calls) else "")
+    def lines(self) -> List[str]:
+        """Returns the shared parameters by name, each with the type that its first call has."""
+        firsts = [(heading, found[0]) for (heading, *_), found in self.calls.items()]
+        shown = [entry for heading, entry in firsts if heading == "Parameters" and self.has(heading, entry)]
+        return [item(entry) for entry in sorted(shown, key=lambda entry: entry.names) if entry.text not in SAID]
 
 
-def section(name: str, subject: Any, shared: Shared) -> Iterator[str]:
+def key(heading: str, entry: Entry) -> Key:
+    return heading, tuple(entry.names), entry.text
+
+
+def section(name: str, subject: Any, shared: Shared, made: Dict[str, str]) -> Iterator[str]:
     docstring = Docstring(subject)
-    if "Parameters" in docstring.sections or inspect.isroutine(subject):
-        yield from ["", "```python", *call(name, subject), "```"]
+    returned = docstring.entries("Returns")
+    if "Parameters" in docstring.sections or not inspect.isclass(subject):
+        yield from ["", f"`{call(name, subject, returned)}`"]
     for paragraph in docstring.summary:
         yield from ["", paragraph]
-    for heading in docstring.sections:
-        if heading == "Examples":
-            # Calls show answers and refusals. The methods of a store continue the store's whole example.
-            is_answer = inspect.isclass(subject) and name != "Store"
-            yield from () if is_answer else example(name, docstring.sections[heading])
-        else:
-            own = [item(entry) for entry in docstring.entries(heading) if not shared.has(heading, entry)]
-            yield from ["", f"**{heading}**", "", *own] if own else []
+    found = [(heading, entry) for heading in docstring.sections if heading != "Examples"
+             for entry in docstring.entries(heading) if not shared.has(heading, entry)]
+    own = [item(entry) for heading, entry in found if heading != "Returns"]
+    yield from ["", *own] if own else []
+    yield from (line for heading, entry in found if heading == "Returns" for line in ("", entry.text))
+    # Calls show answers and refusals. The methods of a store continue the store's whole example.
+    if not inspect.isclass(subject) or name == "Store":
+        yield from example(name, docstring.sections["Examples"], made)
 
 
-def call(name: str, subject: Any) -> List[str]:
-    """Returns the call with its parameters and their defaults, without types."""
-    begin = f"{'' if name.startswith('Store.') else 'ruzgalt.'}{name}(".replace("Store.", "store.")
-    if name == "Store.from_script":
-        begin = "ruzgalt.Store.from_script("
-    # No line breaks within a parameter.
-    words = ", ".join(one.replace(" ", "\0") for one in parameters(subject))
-    indent = " " * len(begin)
-    filled = textwrap.wrap(begin + words + ")", WIDTH, subsequent_indent=indent, break_long_words=False)
-    return [line.replace("\0", " ") for line in filled]
+def call(name: str, subject: Any, returned: List[Entry]) -> str:
+    """Returns the call with its parameters and their defaults, without their types, and the type of the answer."""
+    is_method = name.startswith("Store.") and name != "Store.from_script"
+    begin = name.replace("Store.", "store.") if is_method else f"ruzgalt.{name}"
+    words = "" if isinstance(subject, property) else f"({', '.join(parameters(subject))})"
+    return "".join([begin, words, *(f" -> {entry.kind}" for entry in returned)])
 
 
 def parameters(subject: Any) -> Iterator[str]:
@@ -138,20 +151,28 @@ def item(entry: Entry) -> str:
     """Returns a line of a list. The call above it shows which options have defaults."""
     names = ", ".join(f"`{name}`" for name in entry.names)
     kind = re.sub(", (optional|default .*)$", "", entry.kind)
-    return f"- {names + ' (' + kind + ')' if names else kind}: {entry.text}"
+    return f"- {names + ' (' + KINDS.get(kind, kind) + ')' if names else kind}: {entry.text}"
 
 
-def example(name: str, lines: List[str]) -> Iterator[str]:
-    """Yields the text before the first prompt, and the statements up to the first answer of the call itself, if any."""
+def example(name: str, lines: List[str], made: Dict[str, str]) -> Iterator[str]:
+    """Yields the text before the first prompt, and the statements up to the first answer of the call itself, if any.
+
+    A statement that makes what an earlier example made is left out.
+    """
     first = next(index for index, line in enumerate(lines) if line.startswith(">>> "))
     text = " ".join(lines[:first]).strip()
     if text:
         yield from ["", text]
-    shown = [line for line in "\n".join(lines[first:]).strip().splitlines() if line != f">>> {DAY}"]
+    yield from ["", "```pycon"]
     word, was_called = name.rpartition(".")[2], False
-    for one in doctest.DocTestParser().get_examples("\n".join(shown)):
+    for one in doctest.DocTestParser().get_examples("\n".join(lines[first:])):
+        assigned = re.match(r"(\w+) = ", one.source)
+        if not assigned or made.get(assigned[1]) != one.source:
+            yield from (f"{'...' if number else '>>>'} {line}" for number, line in enumerate(one.source.splitlines()))
+            yield from one.want.splitlines()
+        if assigned:
+            made[assigned[1]] = one.source
         was_called = was_called or f".{word}(" in one.source and word != "Store"
         if was_called and one.want:
-            shown = shown[:one.lineno + one.source.count("\n") + one.want.count("\n")]
             break
-    yield from ["", "```pycon", *shown, "```"]
+    yield "```"

@@ -50,11 +50,6 @@ def is_whole(given: Any) -> bool:
     return isinstance(given, (int, np.integer)) and not isinstance(given, bool)
 
 
-def is_number(given: Any) -> bool:
-    """Returns whether a script has it as a whole number."""
-    return is_whole(given) or is_flag(given)
-
-
 def whole(option: str, given: Any, least: int, most: Optional[int] = None) -> int:
     if not is_whole(given) or given < least or (most is not None and given > most):
         bounds = f"from {least} to {most}" if most is not None else f"of at least {least}"
@@ -138,7 +133,8 @@ def digits(option: str, given: Any) -> Mapping[Any, int]:
 
 def records(option: str, given: Any) -> List[Tuple[Any, str]]:
     """Returns columns with the values of a script's records: True and False are 1 and 0."""
-    if not isinstance(given, Mapping) or not all(isinstance(one, str) or is_number(one) for one in given.values()):
+    values = given.values() if isinstance(given, Mapping) else [None]
+    if not all(isinstance(one, str) or is_whole(one) or is_flag(one) for one in values):
         wanted = "must be a dict of columns with texts or whole numbers like the script's"
         raise wrong(option, given, f"{wanted}, such as {{'person': 'Ada'}}")
     return [(one, str.__str__(value) if isinstance(value, str) else str(int(value))) for one, value in given.items()]
@@ -171,10 +167,10 @@ def refuse_odd(columns: Any) -> None:
 def are_spread(**frames: Any) -> bool:
     """Returns whether one is a frame of Dask, which isn't imported for that. Raises Refused if one isn't a frame."""
     dask = sys.modules.get("dask.dataframe")
-    spread = [one for one in frames.values() if dask is not None and isinstance(one, dask.DataFrame)]
+    of_dask = (dask.DataFrame,) if dask is not None else ()
     for name, one in frames.items():
-        frame(name, getattr(one, "_meta", one) if any(one is other for other in spread) else one)
-    return bool(spread)
+        frame(name, one._meta if isinstance(one, of_dask) else one)
+    return any(isinstance(one, of_dask) for one in frames.values())
 
 
 def remedy_of(given: Any) -> str:

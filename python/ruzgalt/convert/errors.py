@@ -33,14 +33,13 @@ class Refused(ValueError):
     Attributes
     ----------
     name : str
-        The refusal's name in the language, such as BadPeriod or KeyOverlap, even if Python refused the value; WrongKind
-        for a dtype that can't be used; NoLabel and NoDay for a store's commits.
+        Its name in the language, such as BadPeriod or KeyOverlap; WrongKind for a dtype, NoLabel or NoDay for a commit.
     reason : str
         The fault and the remedy, in one line.
     column : name or None
-        The frame's column at fault, if there is one.
+        The frame's column at fault.
     label : object or None
-        The index label of the row at fault, if there is one.
+        The index label of the row at fault.
 
     Examples
     --------

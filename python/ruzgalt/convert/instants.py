@@ -78,7 +78,8 @@ def second_in(point: Any, zone: Any) -> int:
         wall = second_of(point)
         return wall if zone is None or wall == points.NO_END else second_shown(wall, point, zone)
     if zone is None:
-        raise Refused("WrongKind", f"{point!r}: dates and times here have no time zone; .tz_localize(None) removes it")
+        reason = "dates and times here have no time zone; .replace(tzinfo=None) removes it"
+        raise Refused("WrongKind", f"{point!r}: {reason}")
     return second_of(in_utc(point))
 
 
@@ -89,8 +90,6 @@ def one_second(point: Any, zone: Any) -> Span:
 
 def in_utc(point: Any) -> Any:
     """Returns a datetime of a zone as clocks show it in UTC. Raises Refused (BadPoint) outside of their years."""
-    if isinstance(point, pd.Timestamp):
-        return point.tz_convert(None)
     if not isinstance(point, datetime.datetime):
         return point
     try:
@@ -111,26 +110,9 @@ def second_shown(wall: int, point: Any, zone: Any) -> int:
     return int(found[0])
 
 
-def next_day(point: Any, form: Form, zone: Any) -> int:
-    """Returns the second when the day after a last day begins. The last day may have no second of its own."""
-    if zone is None:
-        return end_of(point, form)
-    has_zone = getattr(point, "tzinfo", None) is not None
-    wall = int(walls_of(np.array([second_in(point, zone)], np.int64), zone)[0]) if has_zone else second_of(point)
-    if wall >= points.LAST_BUT_ONE:
-        return end_of(points.EPOCH + datetime.timedelta(seconds=wall), form)
-    return int(begins_of(np.array([wall + DAY], np.int64), zone)[0])
-
-
 def span(start: Any, end: Any, form: Form, zone: Any) -> Span:
     """Returns the seconds of a start, and of the first point after an end as the form has it. Raises Refused."""
-    first = second_in(start, zone)
-    after = points.NO_END if end is None else second_in(end, zone)
-    if form.has_last_days:
-        seconds = np.array([first, *([] if end is None else [after])], np.int64)
-        if has_time(seconds[seconds != points.NO_END], zone).any():
-            raise Refused("BadPoint", f"{start!r} to {end!r}: with last_day=True, both must be days, without times")
-        after = after if end is None else next_day(end, form, zone)
+    first, after = bounds(start, end, form, zone)
     if first >= after:
         last = "the last day" if form.has_last_days else "the first point after it"
         raise Refused("BadPeriod", f"{start!r} to {end!r}: a start must be before its end, which is {last}")
@@ -138,23 +120,32 @@ def span(start: Any, end: Any, form: Form, zone: Any) -> Span:
 
 
 def portion(start: Any, end: Any, form: Form) -> Ints:
-    """Returns the seconds of a start, and of the first point after an end as the form has it; None means no end."""
-    first = second_of(start)
-    if form.has_last_days and first % DAY:
+    """Returns the bounds of a change. Whether the start is before the end isn't tested."""
+    return np.array(bounds(start, end, form, None), np.int64)
+
+
+def bounds(start: Any, end: Any, form: Form, zone: Any) -> Span:
+    """Returns the seconds of a start, and of the first point after an end; None means no end."""
+    first = second_in(start, zone)
+    if form.has_last_days and first != points.NO_END and has_time(np.array([first], np.int64), zone).any():
         raise Refused("BadPoint", f"{start!r}: with last_day=True, a start can't have a time")
-    return np.array([first, points.NO_END if end is None else end_of(end, form)], np.int64)
+    return first, points.NO_END if end is None else end_of(end, form, zone)
 
 
-def end_of(end: Any, form: Form) -> int:
-    """Returns the second of an end without a zone; after a last day, the next day's first second. Raises Refused."""
+def end_of(end: Any, form: Form, zone: Any) -> int:
+    """Returns the second of an end; after a last day, when the next day begins in the zone. Raises Refused."""
     if not form.has_last_days:
-        return second_of(end)
+        return second_in(end, zone)
+    day = end
+    if getattr(end, "tzinfo", None) is not None:
+        day = points.EPOCH + datetime.timedelta(seconds=int(walls_of(np.array([second_in(end, zone)]), zone)[0]))
     try:
-        return int(form.ends_of(column_of(end))[0][0])
+        after = form.ends_of(column_of(day))[0]
     except Refused as error:
         raise Refused(error.name, f"{end!r}: {error.reason}") from None
+    return points.NO_END if after[0] == points.NO_END else int(begins_of(after, zone)[0])
 
 
 def text_of(point: Any) -> str:
     """Returns a point of a question as the store reads it."""
-    return written(point) or points.text_of(second_of(point))
+    return written(point) or points.text_of(second_in(point, None))

@@ -14,7 +14,7 @@ from __future__ import annotations
 
 from dataclasses import dataclass
 from importlib import import_module
-from typing import Any, Set
+from typing import Any
 
 import numpy as np
 import pandas as pd
@@ -70,15 +70,10 @@ def joint_kind(*kinds: Kind) -> Kind:
     # A set isn't possible, since zones of dateutil have no hash.
     if all(kind == there[0] for kind in there):
         return there[0] if there else Kind()
-    return Kind(joint_name({kind.name for kind in there}), there[0].zone)
-
-
-def joint_name(names: Set[str]) -> str:
-    if len(names) == 1:
-        return "".join(names)
-    if names <= set(UNITS):
-        return max(names, key=list(UNITS).index)
-    return "datetime" if names == {"date", "datetime"} else "S"
+    names = {kind.name for kind in there}
+    if names <= {*UNITS} or len(names) == 1:
+        return Kind(max(names, key=[*UNITS, *names].index), there[0].zone)
+    return Kind("datetime" if names == {"date", "datetime"} else "S", there[0].zone)
 
 
 # Types of pyarrow (pandas.ArrowDtype). pyarrow is imported only if a column has one.

@@ -22,6 +22,8 @@ FIRST, LAST, NO_END = -62_135_596_800, 253_402_300_799, 253_402_214_400
 NS_RANGE = (-(2**63) // NS + 1, (2**63 - 1) // NS)
 NAT = np.iinfo(np.int64).min
 EPOCH = datetime.datetime(1970, 1, 1)
+# The remedy for a missing end.
+OPEN_END = "open_end=True reads a missing end as 9999-12-31"
 LENGTHS = {"D": DAY, "S": 1}
 # The last day before the one that means no end.
 LAST_BUT_ONE = NO_END - DAY
@@ -42,7 +44,7 @@ class Form:
 
     def starts_of(self, column: Any) -> Tuple[Ints, Kind]:
         """Returns the starts, and their kind. Raises Refused (BadPoint, WrongKind)."""
-        seconds, kind = seconds_of(column)
+        seconds, kind = seconds_of(column, remedy=f".dropna(subset=[{column.name!r}]) leaves such rows out")
         if self.has_last_days:
             refuse_times(seconds, kind, column)
         return seconds, kind
@@ -93,10 +95,10 @@ def refuse_times(seconds: Ints, kind: Kind, column: Any, known: Any = slice(None
     refuse(marked, column, "BadPoint", reason)
 
 
-def seconds_of(column: Any, is_open: bool = False) -> Tuple[Ints, Kind]:
+def seconds_of(column: Any, is_open: bool = False, remedy: str = OPEN_END) -> Tuple[Ints, Kind]:
     """Returns the points of a Series as seconds, and their kind. Raises Refused (BadPoint, WrongKind) with the label.
 
-    is_open: a missing point means 9999-12-31.
+    is_open: a missing point means 9999-12-31. remedy: what to do with one otherwise.
     """
     dtype = column.dtype
     if kinds.arrow_type(dtype) in kinds.ARROW_DATES or kinds.arrow_type(dtype).startswith("timestamp["):
@@ -112,10 +114,11 @@ def seconds_of(column: Any, is_open: bool = False) -> Tuple[Ints, Kind]:
     elif dtype == object:
         seconds, kind = of_dates(column)
     else:
-        remedy = "pandas.to_datetime converts texts, .dt.to_timestamp() other periods"
-        raise Refused("WrongKind", f"{dtype} isn't datetime64, period[D], period[S] or date; {remedy}", column.name)
+        others = "pandas.to_datetime converts texts, and numbers such as 20240105 with format='%Y%m%d'"
+        reason = f"{dtype} isn't datetime64, period[D], period[S] or date; {others}, .dt.to_timestamp() other periods"
+        raise Refused("WrongKind", reason, column.name)
     missing = seconds == NAT
-    refuse_missing(missing, is_open, column)
+    refuse_missing(missing, is_open, column, remedy)
     seconds[missing] = NO_END
     return seconds, kind
 
@@ -142,9 +145,9 @@ def ends_of_long(column: Any, is_open: bool) -> Tuple[Ints, Kind]:
     return np.where(missing, NO_END, lasts + 1), kind
 
 
-def refuse_missing(missing: Marks, is_open: bool, column: Any) -> None:
+def refuse_missing(missing: Marks, is_open: bool, column: Any, remedy: str = OPEN_END) -> None:
     if not is_open:
-        refuse(missing, column, "BadPoint", "no date or time is given; open_end=True reads a missing end as 9999-12-31")
+        refuse(missing, column, "BadPoint", f"no date or time is given; {remedy}")
 
 
 def of_arrow(column: Any) -> Tuple[Ints, Kind]:
@@ -232,13 +235,15 @@ def series_of(seconds: Ints, kind: Kind, index: Any = None, is_open: bool = Fals
     """
     name, missing = kind.name, seconds == NO_END if is_open else np.zeros(len(seconds), bool)
     if name in DAYS and (seconds % DAY).any():
-        point = texts_of(seconds[seconds % DAY > 0][:1])[0]
+        point = text_of(seconds[seconds % DAY > 0][0])
         raise Refused("BadPoint", f"{point} isn't a day: give the points of both frames as period[S] or datetime64")
     if kind.arrow is not None:
         cells = datetimes_of(seconds, missing, name if name in UNITS else "s")
         return pd.Series(kinds.arrow_of_datetimes(cells, missing, kind.arrow), index)
     if name in UNITS:
-        return in_zone(datetimes_of(seconds, missing, name), kind.zone, index)
+        # pandas 1.5 has only ns.
+        made = pd.Series(datetimes_of(seconds, missing, name if kinds.HAS_SECONDS else "ns"), index)
+        return made if kind.zone is None else made.dt.tz_localize("UTC").dt.tz_convert(kind.zone)
     if name in OFFSETS:
         return periods_of(seconds, missing, name, index)
     if kind.is_long:
@@ -251,22 +256,12 @@ def periods_of(seconds: Ints, missing: Marks, name: str, index: Any) -> Any:
     return pd.Series(pd.arrays.PeriodArray(ordinals, dtype=pd.PeriodDtype(OFFSETS[name])), index)
 
 
-def in_zone(cells: Cells, zone: Any, index: Any) -> Any:
-    """Returns the datetimes as a Series, in a zone if there is one."""
-    try:
-        made = pd.Series(cells, index)
-    except pd.errors.OutOfBoundsDatetime as error:
-        # pandas 1.5 has only ns.
-        raise Refused("BadPoint", f"{error}: period[S] holds it, as .dt.to_period('S') makes it") from None
-    return made if zone is None else made.dt.tz_localize("UTC").dt.tz_convert(zone)
-
-
 def datetimes_of(seconds: Ints, missing: Marks, kind: str) -> Cells:
-    outside = (seconds < NS_RANGE[0]) | (seconds > NS_RANGE[1])
-    if kind == "ns" and (outside & ~missing).any():
-        point = texts_of(seconds[outside & ~missing][:1])[0]
-        remedy = "period[S] holds it, as .dt.to_period('S') makes it"
-        raise Refused("BadPoint", f"datetime64[ns] can't hold {point}: {remedy}")
+    outside = ((seconds < NS_RANGE[0]) | (seconds > NS_RANGE[1])) & ~missing
+    if kind == "ns" and outside.any():
+        second = seconds[outside][0]
+        remedy = "open_end=True returns it as missing" if second == NO_END else "period[S] does: .dt.to_period('S')"
+        raise Refused("BadPoint", f"datetime64[ns] can't hold {text_of(second)}; {remedy}")
     numbers = np.where(missing, 0, seconds) * UNITS[kind]
     return np.where(missing, NAT, numbers).view(f"M8[{kind}]")
 

@@ -84,7 +84,8 @@ class Values:
 
 def plain(cells: Cells, dtype: Any) -> Any:
     if is_whole(dtype):
-        least, greatest = bounds_of(dtype)
+        bounds = np.iinfo(numpys(dtype)) if not is_bool(dtype) else None
+        least, greatest = (bounds.min, bounds.max) if bounds else (0, 1)
         if len(cells) and not least <= cells.min() <= cells.max() <= greatest:
             return cells
     if is_bool(dtype):
@@ -100,13 +101,6 @@ def is_bool(dtype: Any) -> bool:
 def is_whole(dtype: Any) -> bool:
     """Returns whether it has whole numbers, or True and False."""
     return bool(pd.api.types.is_integer_dtype(dtype)) or is_bool(dtype)
-
-
-def bounds_of(dtype: Any) -> Tuple[int, int]:
-    if is_bool(dtype):
-        return 0, 1
-    bounds = np.iinfo(numpys(dtype))
-    return int(bounds.min), int(bounds.max)
 
 
 def numpys(dtype: Any) -> Any:
@@ -165,8 +159,8 @@ def of_categories(column: Any) -> Values:
 
 
 def ints_of(column: Any) -> Ints:
-    missing = column.isna().to_numpy()
-    refuse(missing, column, "BadNumber", no_value(column.name))
+    if not isinstance(column.dtype, np.dtype):
+        refuse(column.isna().to_numpy(), column, "BadNumber", no_value(column.name))
     is_signed = numpys(column.dtype).kind != "u"
     numbers: Cells = column.to_numpy(dtype="i8" if is_signed else "u8")
     if not is_signed:

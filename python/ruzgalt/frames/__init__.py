@@ -1,16 +1,5 @@
 """Frames of pandas and of Dask, joined, counted and divided by the time for which their rows hold: docs/FRAMES.md.
 
-    join, anti, agg, dip    frames in, a frame or a division out
-    check                   whether somebody's division has an overlap
-    at, during              the rows that hold then
-    coalesce, gaps          the time when some row of a group holds, or no row
-    overlaps                the rows of a group that hold at one time
-    spread                  the amounts of a group by months
-    Division, Checked       the fewest parts of rows without an overlap; the verdict on somebody's parts
-    Refused                 the exception for a wrong value or call: name, reason, column, label
-    Stopped                 the exception for a missing library or program, or too little memory
-    Doubt                   the warning of a possible mistake
-
 Modules. Each imports modules above it, and modules of ruzgalt.convert:
 
     sides                   period rows on their way to the library, with key codes

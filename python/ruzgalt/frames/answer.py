@@ -1,10 +1,4 @@
 """The columns of an answer: collected in order, known by position, and named last.
-
-    Columns       has columns with the names that they have in their frames
-    frame()       repeated names get suffixes; a name that still is repeated is refused
-    of_table()    of one table: a column whose name is taken has `_` after it
-    of_two()      of two frames or tables
-    period_of()   the columns of the period
 """
 from __future__ import annotations
 

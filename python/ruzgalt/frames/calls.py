@@ -32,27 +32,21 @@ def join(left: Frame, right: Right, on: Names = None, *, left_on: Names = None, 
          workers: int = WORKERS, progress: Optional[bool] = None) -> Union[Frame, Right]:
     """Returns the pairs of a left and a right row with equal values in `on`, each for the time when both hold.
 
-    Returns
-    -------
-    DataFrame
-        The period with the left frame's names, then the left frame's other columns, then the right frame's; compared
-        columns once. Columns keep their dtype, or with missing cells get the one of pandas.merge. Points of two kinds
-        become period[S] or the coarser kind. Rows are by start, end, left and right position, unmatched ones last. Of
-        Dask if one frame is: rows are in this order within each partition.
+    Returns DataFrame: The period as in the left frame, then the left and the right frame's other columns; compared
+    columns of one name once. Missing cells change dtypes as in pandas.merge; points of two kinds become period[S] or
+    the coarser kind. Rows are by start, end, left and right position, unmatched ones last.
 
-    Examples
-    --------
-    >>> day = pd.to_datetime
-    >>> pay = pd.DataFrame({"from": day(["2024-01-01", "2024-07-01"]), "to": day(["2024-07-01", None]),
-    ...                     "person": ["Ada", "Ada"], "cents": [5000, 5400]})
-    >>> contract = pd.DataFrame({"from": day(["2024-02-01"]), "to": day(["2024-09-01"]),
-    ...                          "person": ["Ada"], "centre": ["press"]})
+    >>> ruzgalt.join(pay, contract, on="person", open_end=True)
+            from         to person  cents centre
+    0 2024-02-01 2024-07-01    Ada   5000  press
+    1 2024-07-01 2024-09-01    Ada   5400  press
     >>> ruzgalt.join(pay, contract, on="person", how="left", open_end=True)
             from         to person  cents centre
     0 2024-01-01 2024-02-01    Ada   5000    NaN
     1 2024-02-01 2024-07-01    Ada   5000  press
-    2 2024-07-01 2024-09-01    Ada   5400  press
-    3 2024-09-01        NaT    Ada   5400    NaN
+    2 2024-03-01 2024-10-01  Grace   4800    NaN
+    3 2024-07-01 2024-09-01    Ada   5400  press
+    4 2024-09-01        NaT    Ada   5400    NaN
     """
     return paired(pairs.join, left, right, options_in("join", locals()))
 
@@ -65,22 +59,14 @@ def anti(left: Frame, right: Right, on: Names = None, *, left_on: Names = None, 
          progress: Optional[bool] = None) -> Union[Frame, Right]:
     """Returns the left rows, each for the time when no right row with equal values in `on` holds.
 
-    Returns
-    -------
-    DataFrame
-        The left frame's columns, dtypes and labels. A row may be there several times, or not at all; periods are as
-        long as possible. Rows are by left position, then start. Of Dask if one frame is: rows are in this order
-        within each partition.
+    Returns DataFrame: The left frame's columns, dtypes and labels, by left position and start. A row may come several
+    times, or not at all.
 
-    Examples
-    --------
-    >>> day = pd.to_datetime
-    >>> contract = pd.DataFrame({"from": day(["2024-02-01"]), "to": day([None]), "person": ["Ada"]}, index=["c1"])
-    >>> pay = pd.DataFrame({"from": day(["2024-03-01"]), "to": day(["2024-07-01"]), "person": ["Ada"]})
-    >>> ruzgalt.anti(contract, pay, on="person", open_end=True)
-             from         to person
-    c1 2024-02-01 2024-03-01    Ada
-    c1 2024-07-01        NaT    Ada
+    >>> ruzgalt.anti(pay, contract, on="person", open_end=True)
+            from         to person  cents
+    0 2024-01-01 2024-02-01    Ada   5000
+    1 2024-09-01        NaT    Ada   5400
+    2 2024-03-01 2024-10-01  Grace   4800
     """
     return paired(pairs.anti, left, right, options_in("anti", locals()))
 
@@ -91,39 +77,22 @@ def agg(frame: Frame, function: Functions, column: Any = None, *, by: Names = No
         workers: int = WORKERS, progress: Optional[bool] = None) -> Frame:
     """Returns count, sum, min, max or mean of the rows that hold, for each period while it stays the same.
 
-    Parameters
-    ----------
-    frame : DataFrame
-        A frame of pandas or of Dask.
-    function : str or dict
-        count, sum, min, max or mean. Or a dict of columns, each with one of these or a list of them, for several at
-        once: in a period all stay the same.
-    column : name, optional
-        The column of numbers of a sum, min, max or mean. A count has none, nor has a dict.
+    Returns DataFrame: The columns of `by`, the period, and the values, named count or FUNCTION_COLUMN: means are
+    floats, counts and sums of whole numbers int64, or Python's ints past 64 bits; others have the column's dtype. By
+    group and start.
 
-    Returns
-    -------
-    DataFrame
-        The columns of `by`, the period, and the values, named count or FUNCTION_COLUMN: a mean is a float, a count and
-        a sum of whole numbers are int64, or objects of int if a sum has more than 64 bits; others have the column's
-        dtype. Rows are by group, then start; times when no row holds are left out. Of Dask if the frame is:
-        with `by` partitions are in no order, without there is one.
-
-    Examples
-    --------
-    >>> day = pd.to_datetime
-    >>> pay = pd.DataFrame({"from": day(["2024-01-01", "2024-03-01"]), "to": day(["2024-07-01", "2024-10-01"]),
-    ...                     "person": ["Ada", "Grace"], "cents": [5000, 4800]})
-    >>> ruzgalt.agg(pay, "sum", "cents")
+    >>> ruzgalt.agg(pay, "sum", "cents", open_end=True)
             from         to  sum_cents
     0 2024-01-01 2024-03-01       5000
     1 2024-03-01 2024-07-01       9800
-    2 2024-07-01 2024-10-01       4800
-    >>> ruzgalt.agg(pay, {"person": "count", "cents": ["max", "mean"]})
+    2 2024-07-01 2024-10-01      10200
+    3 2024-10-01        NaT       5400
+    >>> ruzgalt.agg(pay, {"person": "count", "cents": ["max", "mean"]}, open_end=True)
             from         to  count_person  max_cents  mean_cents
     0 2024-01-01 2024-03-01             1       5000      5000.0
     1 2024-03-01 2024-07-01             2       5000      4900.0
-    2 2024-07-01 2024-10-01             1       4800      4800.0
+    2 2024-07-01 2024-10-01             2       5400      5100.0
+    3 2024-10-01        NaT             1       5400      5400.0
     """
     options = options_in("agg", locals())
     return grouped(groups.agg, frame, options, measures.of_call(function, column))
@@ -135,30 +104,15 @@ def dip(frame: pd.DataFrame, by: Names = None, *, period: PeriodNames = PERIOD, 
         workers: int = WORKERS, progress: Optional[bool] = None) -> Division[pd.Series]:
     """Divides the rows into the fewest parts so that no two rows of a part hold at one time.
 
-    Parameters
-    ----------
-    frame : DataFrame
-        A frame of pandas, of at most 1,000,000 rows, or of that many in each group.
+    Returns Division: All rows divided, or with `by` each group.
 
-    Returns
-    -------
-    Division
-        Its `parts` are a Series with the frame's index: the number of each row's part, from 0 on. `count` is the number
-        of parts; `instant` is the first point when `count` rows hold, so that fewer parts aren't enough. With
-        `by` each group has its own parts, from 0 on, and count and instant are Series by group.
-
-    Examples
-    --------
-    >>> day = pd.to_datetime
-    >>> stay = pd.DataFrame({"from": day(["2024-01-01", "2024-01-03", "2024-01-05"]),
-    ...                      "to": day(["2024-01-05", "2024-01-08", "2024-01-06"])}, index=["a", "b", "c"])
     >>> division = ruzgalt.dip(stay)
     >>> division
     2 parts of 3 rows, as many as hold at 2024-01-03 00:00:00
-    >>> division.parts.to_dict(), division.count, division.instant
-    ({'a': 0, 'b': 1, 'c': 0}, 2, Timestamp('2024-01-03 00:00:00'))
-    >>> ruzgalt.dip(stay.assign(ward=["A", "A", "B"]), by="ward").count.to_dict()
-    {'A': 2, 'B': 1}
+    >>> division.parts.tolist(), division.count, division.instant
+    ([0, 1, 0], 2, Timestamp('2024-01-03 00:00:00'))
+    >>> ruzgalt.dip(stay, by="bed").count.to_dict()
+    {7: 2, 8: 1}
     """
     options = options_in("dip", locals())
     if checks.are_spread(frame=frame):
@@ -170,28 +124,12 @@ def dip(frame: pd.DataFrame, by: Names = None, *, period: PeriodNames = PERIOD, 
 @documented
 def check(frame: pd.DataFrame, part: Names, *, period: PeriodNames = PERIOD, open_end: bool = False,
           last_day: bool = False) -> Checked:
-    """Returns whether no two rows of a part overlap, for parts that are a column, such as somebody's plan of beds.
+    """Returns whether no two rows of a part overlap.
 
-    Parameters
-    ----------
-    frame : DataFrame
-        A frame of pandas, of at most 1,000,000 rows.
-    part : name or list of names
-        The column of each row's part, or several, such as a ward and a bed.
+    Returns Checked: True, or false with two rows of a part that overlap.
 
-    Returns
-    -------
-    Checked
-        It is true if no two rows of a part hold at one time. Otherwise it has two rows that do, by their labels, their
-        part and the time that they share.
-
-    Examples
-    --------
-    >>> day = pd.to_datetime
-    >>> stay = pd.DataFrame({"from": day(["2024-01-01", "2024-01-03", "2024-01-05"]),
-    ...                      "to": day(["2024-01-05", "2024-01-08", "2024-01-06"])}, index=["Ada", "Grace", "Hill"])
-    >>> ruzgalt.check(stay.assign(bed=[7, 7, 8]), part="bed")
-    No: rows 'Ada' and 'Grace' of part 7 both hold from 2024-01-03 to 2024-01-05.
+    >>> ruzgalt.check(stay, part="bed")
+    No: rows 0 and 1 of part 7 both hold from 2024-01-03 to 2024-01-05.
     >>> ruzgalt.check(stay.assign(bed=[7, 8, 9]), part="bed")
     Yes: no two rows of a part hold at one time. The rows have 3 parts, and 2 are enough.
     """
@@ -204,28 +142,14 @@ def check(frame: pd.DataFrame, part: Names, *, period: PeriodNames = PERIOD, ope
 @documented
 def at(frame: Frame, point: Any, *, period: PeriodNames = PERIOD, open_end: bool = False,
        last_day: bool = False) -> Frame:
-    """Returns the rows that hold at a point.
+    """Returns the rows that hold at a point. Points without a time zone are in the frame's.
 
-    Parameters
-    ----------
-    frame : DataFrame
-        A frame of pandas or of Dask.
-    point : str, date, datetime, Timestamp or Period
-        A day is its begin. If the frame's points have a time zone, a point without one is what clocks show there.
+    Returns DataFrame: These rows, unchanged, in their order.
 
-    Returns
-    -------
-    DataFrame
-        These rows, unchanged, in their order.
-
-    Examples
-    --------
-    >>> day = pd.to_datetime
-    >>> pay = pd.DataFrame({"from": day(["2024-01-01", "2024-07-01"]), "to": day(["2024-07-01", None]),
-    ...                     "cents": [5000, 5400]})
     >>> ruzgalt.at(pay, "2024-07-01", open_end=True)
-            from  to  cents
-    1 2024-07-01 NaT   5400
+            from         to person  cents
+    1 2024-07-01        NaT    Ada   5400
+    2 2024-03-01 2024-10-01  Grace   4800
     """
     return groups.held(frame, options_in("at", locals()), lambda zone, _: instants.one_second(point, zone))
 
@@ -233,29 +157,13 @@ def at(frame: Frame, point: Any, *, period: PeriodNames = PERIOD, open_end: bool
 @documented
 def during(frame: Frame, start: Any, end: Any, *, period: PeriodNames = PERIOD, open_end: bool = False,
            last_day: bool = False) -> Frame:
-    """Returns the rows that hold at some point from `start` on and before `end`.
+    """Returns the rows that hold at some point of a time. Points without a time zone are in the frame's.
 
-    Parameters
-    ----------
-    frame : DataFrame
-        A frame of pandas or of Dask.
-    start, end : str, date, datetime, Timestamp or Period
-        With `last_day` the end is the last day. None as the end means no end. If the frame's points have a time zone,
-        points without one are what clocks show there.
+    Returns DataFrame: These rows, unchanged, in their order.
 
-    Returns
-    -------
-    DataFrame
-        These rows, unchanged, in their order.
-
-    Examples
-    --------
-    >>> day = pd.to_datetime
-    >>> pay = pd.DataFrame({"from": day(["2024-01-01", "2024-07-01"]), "to": day(["2024-07-01", None]),
-    ...                     "cents": [5000, 5400]})
-    >>> ruzgalt.during(pay, "2024-05-01", "2024-07-01", open_end=True)
-            from         to  cents
-    0 2024-01-01 2024-07-01   5000
+    >>> ruzgalt.during(pay, "2024-10-01", None, open_end=True)
+            from  to person  cents
+    1 2024-07-01 NaT    Ada   5400
     """
     options = options_in("during", locals())
     return groups.held(frame, options, lambda zone, form: instants.span(start, end, form, zone))
@@ -267,21 +175,12 @@ def coalesce(frame: Frame, by: Names = None, *, period: PeriodNames = PERIOD, op
              progress: Optional[bool] = None) -> Frame:
     """Returns the longest periods when some row of a group holds.
 
-    Returns
-    -------
-    DataFrame
-        The columns of `by` and the period. Rows are by group, then start. Of Dask if the frame is: with `by` partitions
-        are in no order, without there is one.
+    Returns DataFrame: The columns of `by` and the period, by group and start.
 
-    Examples
-    --------
-    >>> day = pd.to_datetime
-    >>> pay = pd.DataFrame({"from": day(["2024-01-01", "2024-07-01", "2024-11-01"]),
-    ...                     "to": day(["2024-07-01", "2024-10-01", "2025-01-01"]), "person": "Ada"})
-    >>> ruzgalt.coalesce(pay, "person")
+    >>> ruzgalt.coalesce(pay, "person", open_end=True)
       person       from         to
-    0    Ada 2024-01-01 2024-10-01
-    1    Ada 2024-11-01 2025-01-01
+    0    Ada 2024-01-01        NaT
+    1  Grace 2024-03-01 2024-10-01
     """
     return grouped(groups.agg, frame, options_in("coalesce", locals()), [measures.HELD])
 
@@ -292,27 +191,15 @@ def gaps(frame: Frame, by: Names = None, *, within: Any = None, period: PeriodNa
          progress: Optional[bool] = None) -> Frame:
     """Returns the longest periods when no row of a group holds.
 
-    Parameters
-    ----------
-    frame : DataFrame
-        A frame of pandas, or with `by` of Dask.
+    Gaps are within `within`, by default between a group's first start and last end. Categories without a row
+    aren't groups.
 
-    Returns
-    -------
-    DataFrame
-        The columns of `by` and the period. Without `within` gaps are between a group's first start and its last end.
-        Rows are by group, then start; partitions of Dask are in no order. A group without a row has no gap. Without
-        `by` all of `within` is a gap if no row holds in it.
+    Returns DataFrame: The columns of `by` and the period, by group and start.
 
-    Examples
-    --------
-    >>> day = pd.to_datetime
-    >>> pay = pd.DataFrame({"from": day(["2024-01-01", "2024-07-01", "2024-11-01"]),
-    ...                     "to": day(["2024-07-01", "2024-10-01", "2025-01-01"]), "person": "Ada"})
-    >>> ruzgalt.gaps(pay, "person", within=("2024-08-01", "2025-02-01"))
+    >>> ruzgalt.gaps(pay, "person", within=("2024-01-01", "2025-01-01"), open_end=True)
       person       from         to
-    0    Ada 2024-10-01 2024-11-01
-    1    Ada 2025-01-01 2025-02-01
+    0  Grace 2024-01-01 2024-03-01
+    1  Grace 2024-10-01 2025-01-01
     """
     return grouped(groups.gaps, frame, options_in("gaps", locals()))
 
@@ -323,26 +210,11 @@ def overlaps(frame: Frame, by: Names = None, *, keep_periods: bool = False, peri
              suffixes: PairOfSuffixes = SUFFIXES, workers: int = WORKERS, progress: Optional[bool] = None) -> Frame:
     """Returns the pairs of different rows of a group, each for the time when both hold.
 
-    Parameters
-    ----------
-    frame : DataFrame
-        A frame of pandas, or with `by` of Dask.
+    Returns DataFrame: As a join with itself on `by`, each pair once: the left row is the earlier one in the frame.
 
-    Returns
-    -------
-    DataFrame
-        The join of the frame with itself on `by`, with each pair once: the left row is before the right one in the
-        frame.
-
-    Examples
-    --------
-    >>> day = pd.to_datetime
-    >>> stay = pd.DataFrame({"from": day(["2024-01-01", "2024-01-03", "2024-01-05"]),
-    ...                      "to": day(["2024-01-05", "2024-01-08", "2024-01-06"]), "desk": 7, "who": ["a", "b", "c"]})
-    >>> ruzgalt.overlaps(stay, "desk")
-            from         to  desk who_left who_right
-    0 2024-01-03 2024-01-05     7        a         b
-    1 2024-01-05 2024-01-06     7        b         c
+    >>> ruzgalt.overlaps(stay, "bed")
+            from         to  bed who_left who_right
+    0 2024-01-03 2024-01-05    7      Ada     Grace
     """
     return grouped(pairs.overlaps, frame, options_in("overlaps", locals()))
 
@@ -354,37 +226,23 @@ def spread(frame: Frame, column: Any, *, amount: Optional[str] = None, each: str
            progress: Optional[bool] = None) -> Frame:
     """Returns the amounts of a group's rows in each month, quarter, year, week or day.
 
-    Amounts are divided by days, or by seconds if a point has a time of day. An amount "per month" is a row's amount in
-    each whole month, and in a part of a month that part of it. The whole numbers of a group add up to its exact sum,
-    rounded once, half up: numbers with the largest remainders count one more, the first of equal ones.
+    An amount "per month" counts in each whole month. Part of a month has its part by days, or by seconds if a point has
+    a time of day. A group's whole numbers add up to its exact sum, rounded half up: the largest remainders are rounded
+    up, the first of equal ones.
 
-    An amount "in total" is divided over all of a row's own period. Up to an instant a row has that part of its amount,
-    rounded half up, so that its pieces add up to the amount, months to quarters, and two answers to one of both times.
+    An amount "in total" is divided over a row's own period. The pieces up to any point add up to their part of it,
+    rounded half up.
 
-    Parameters
-    ----------
-    frame : DataFrame
-        A frame of pandas, or with `by` of Dask.
-    column : name
-        The column of amounts.
+    Rows without an end need `within`.
 
-    Returns
-    -------
-    DataFrame
-        The columns of `by`, the period of each piece that some row of the group touches, and the sum under its column's
-        name, as agg returns sums. Rows are by group, then start; partitions of Dask are in no order. Pieces of a frame
-        of longer periods are period[D].
+    Returns DataFrame: The columns of `by`, each piece that a row of the group touches, and its sum, named as the
+    column, in the dtype of agg's sum; by group and start. Periods longer than days become period[D].
 
-    Examples
-    --------
-    >>> day = pd.to_datetime
-    >>> pay = pd.DataFrame({"from": day(["2024-06-01", "2024-06-11"]), "to": day(["2024-06-11", None]),
-    ...                     "person": "Ada", "euros": [5000, 5400]})
-    >>> until_july = {"by": "person", "within": ("2024-01-01", "2024-08-01"), "open_end": True}
-    >>> ruzgalt.spread(pay, "euros", amount="per month", **until_july)
-      person       from         to  euros
-    0    Ada 2024-06-01 2024-07-01   5267
-    1    Ada 2024-07-01 2024-08-01   5400
+    >>> ruzgalt.spread(pay, "cents", amount="per month", each="Q", within=("2024-01-01", "2024-10-01"), open_end=True)
+            from         to  cents
+    0 2024-01-01 2024-04-01  19800
+    1 2024-04-01 2024-07-01  29400
+    2 2024-07-01 2024-10-01  30600
     >>> premium = pd.DataFrame({"from": day(["2024-01-15"]), "to": day(["2025-01-15"]), "euros": 1200})
     >>> ruzgalt.spread(premium, "euros", amount="in total", each="Y")
             from         to  euros

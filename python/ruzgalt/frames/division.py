@@ -31,20 +31,16 @@ Parts = TypeVar("Parts")
 
 @dataclass(frozen=True, eq=False, repr=False)
 class Division(Generic[Parts]):
-    """Rows divided into the fewest parts, so that no two rows of a part hold at one time.
-
-    It isn't a Series: `parts` is one. Each operation of a Series with the Division itself raises Refused.
+    """The answer of dip. It isn't a Series: `parts` is one.
 
     Attributes
     ----------
     parts : Series or DataFrame
-        The part of each row, from 0 on. From ruzgalt.dip it is a Series with the frame's index, from Store.dip a frame
-        of part and row_id.
-    count : int
-        How many parts there are. With groups it is a Series of them, by group.
-    instant : point or None
-        The first point when `count` rows hold, so that fewer parts aren't enough. It has the type of the rows'
-        starts, and is None without rows. With groups it is a Series.
+        The part of each row, from 0 on in each group: a Series with the frame's index, or of Store.dip a frame.
+    count : int, or Series by group
+        The number of parts.
+    instant : point or None, or Series by group
+        The first point when `count` rows hold: fewer parts aren't enough.
 
     Examples
     --------
@@ -114,18 +110,18 @@ def shown(group: Any) -> str:
 
 @dataclass(frozen=True, repr=False)
 class Checked:
-    """What `ruzgalt.check` found of a frame's own division. It is true if no two rows of a part hold at one time.
+    """The answer of check. It is true if no two rows of a part overlap.
 
     Attributes
     ----------
     count, least : int
         The number of parts, and the least number that is enough.
     rows : tuple
-        The index labels of two rows of a part that hold at one time, if there are such.
+        The labels of two rows of a part that overlap, if there are such.
     part : value or tuple of values
         Their part.
     start, end : point
-        The time that they share, in the type of the frame's points.
+        The time that they share.
 
     Examples
     --------
@@ -161,7 +157,8 @@ class Checked:
 def check(frame: Any, options: Options) -> Checked:
     """Checks the division whose parts are the values of `by`."""
     if not options.by:
-        raise checks.wrong("part", None, "must be the name of a column, or a list of names")
+        given = None if options.by is None else []
+        raise checks.wrong("part", given, "must be the name of a column, or a list of names")
     whole, side, codes, firsts, _ = groups.grouped(frame, [], options)
     refuse_many(len(side), "a frame")
     _, least, second = split.answer(library.dip, side.start, side.end)

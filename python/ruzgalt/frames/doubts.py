@@ -29,8 +29,8 @@ FEW = 2
 # Ends from the one on and before the other may mean no end, like in files (load/dates.is_far_off).
 FAR, FARTHEST = map(instants.second_of, ("2099-01-01", "9999-01-01"))
 REMEDY = (
-    "they differ only in spaces, capitals, zeros in front, or .0 at the end: "
-    ".str.strip(), .str.lower(), .str.lstrip('0'), .str.removesuffix('.0')"
+    "they differ only in spaces, capitals, accents of their own, zeros in front, or .0 at the end: "
+    ".str.strip(), .str.lower(), .str.normalize('NFKC'), .str.lstrip('0'), .str.removesuffix('.0')"
 )
 
 
@@ -99,12 +99,14 @@ def of_keys(left: Sequence[Values], right: Sequence[Values]) -> bool:
     """
     is_found = False
     for one, other in zip(left, right):
-        found = strangers(one.texts.cells, other.texts.cells) if one.kind == other.kind == "text" else []
+        texts = one.texts.cells, other.texts.cells
+        # A column of another kind has none.
+        found = alike(*texts) or [(left_one, right_one) for right_one, left_one in alike(*texts[::-1])]
         if found:
             more = f", nor do {len(found) - 1} more" if len(found) > 1 else ""
             doubt(f"{one.name!r} has {found[0][0]!r} and {found[0][1]!r}, which don't meet{more}; {REMEDY}")
         elif min(len(one.codes), len(other.codes)) >= FEW and not (
-            have_common(one.codes, other.codes) if one.kind == "int" else {*one.texts.cells} & {*other.texts.cells}
+            have_common(one.codes, other.codes) if one.kind == "int" else {*texts[0]} & {*texts[1]}
         ):
             examples = " and ".join(map(example_of, (one, other)))
             doubt(f"{one.name!r} has no value that {other.name!r} of the right frame has, such as {examples}: "
@@ -123,11 +125,6 @@ def have_common(one: Ints, other: Ints) -> bool:
 def example_of(column: Values) -> str:
     is_text = column.kind == "text"
     return repr(column.texts.cells[column.codes[0]]) if is_text else str(column.restored(column.codes[:1])[0])
-
-
-def strangers(left: Sequence[str], right: Sequence[str]) -> List[Tuple[str, str]]:
-    """Returns pairs of a left and a right text that look alike, if one of them matches nothing."""
-    return alike(left, right) or [(one, other) for other, one in alike(right, left)]
 
 
 def alike(texts: Sequence[str], others: Sequence[str]) -> List[Tuple[str, str]]:
@@ -166,15 +163,15 @@ def of_groups(columns: Iterable[Values]) -> None:
 class RowEnds(Ends):
     """Ends of a frame's rows, which are named by their labels, with remedies of a call."""
 
+    remedies = (
+        "a row no longer holds on that day; last_day=True reads it as the last one",
+        "last_day=True reads it as the last day of a row; without it, the day before is the last",
+    )
+
     def example_of(self, ends: Any) -> str:
         starts = dict(zip(self.starts, self.lines[0]))
         label, end = next(pair for pair in zip(self.lines[0], ends) if pair[1] in starts)
         return f"row {starts[end]!r} after row {label!r}"
-
-    def remedy(self) -> str:
-        if self.is_last_day:
-            return "last_day=True reads it as the last day of a row; without it, the day before is the last"
-        return "a row no longer holds on that day; last_day=True reads it as the last one"
 
 
 def of_ends(side: Side, key: Sequence[Values], name: Any, is_last_day: bool) -> None:

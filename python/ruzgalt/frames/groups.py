@@ -69,11 +69,11 @@ def gaps(frame: Any, options: Options) -> Any:
     side, codes, span = groups.side, groups.codes.codes, groups.span
     # If no row is there, all of the span is a gap of the one group that there is without `by`.
     numbers = np.arange(len(groups.firsts) if span else min(len(groups.firsts), len(side)))
-    start, end = (np.full(len(numbers), second, np.int64) for second in span or (0, 0))
-    if span is None and len(numbers):
-        order = np.argsort(codes, kind="stable")
-        begins = np.searchsorted(codes[order], numbers)
-        start, end = np.minimum.reduceat(side.start[order], begins), np.maximum.reduceat(side.end[order], begins)
+    if span is not None:
+        start, end = (np.full(len(numbers), second, np.int64) for second in span)
+    else:
+        start = pd.Series(side.start).groupby(codes).min().to_numpy()
+        end = pd.Series(side.end).groupby(codes).max().to_numpy()
     whole = Side(start, end, [Values(None, "int", numbers)], side.kind, places=numbers)
     start, end, group = split.anti([whole, replace(side, columns=[groups.codes])], options.workers)
     return framed(groups, start, end, group, [], options)
@@ -89,11 +89,11 @@ def held(frame: Any, options: Options, span_of: Callable[[Any, Form], Span]) -> 
         from ruzgalt.frames import partitions
         return partitions.parted(frame, held_part, span, options)
     doubts.of_frame(frame, side, [], options)
-    return held_part(frame, span, options)
+    return held_part(frame, span, options, side)
 
 
-def held_part(frame: Any, span: Span, options: Options) -> Any:
-    side = side_of(frame, [], options)
+def held_part(frame: Any, span: Span, options: Options, side: Optional[Side] = None) -> Any:
+    side = side_of(frame, [], options) if side is None else side
     return frame.iloc[np.flatnonzero((side.start < span[1]) & (span[0] < side.end))]
 
 

@@ -98,17 +98,13 @@ def refuse_texts(measures: Measures, columns: Mapping[Any, Values]) -> None:
     """Raises Refused for texts, and for min or max of a category that has another order than its numbers."""
     for function, column in ((one.function, columns[name]) for one in measures for name in one.amount):
         if column.kind != "int":
-            reason = f"{function} needs numbers, but these are texts; give texts by by="
-            raise Refused("WrongKind", reason, column.name)
+            reason = f"{function} needs numbers, but these are texts"
+            remedy = ".astype('int64') makes numbers of texts such as '12'"
+            raise Refused("WrongKind", f"{reason}; {remedy}", column.name)
         is_ordered = getattr(column.dtype, "ordered", False) and not column.dtype.categories.is_monotonic_increasing
         if is_ordered and function in ("min", "max"):
             reason = f"{function} needs numbers, but this category has another order"
             raise Refused("WrongKind", f"{reason}; .astype('int64') makes numbers of it", column.name)
-
-
-def asks_of(measures: Measures) -> List[Ask]:
-    """Returns the questions to the library, each once."""
-    return list(dict.fromkeys(asked for one in measures for asked in one.asks))
 
 
 def measured(side: Side, columns: Mapping[Any, Values], measures: Measures, workers: int) -> Found:
@@ -123,7 +119,7 @@ def answers(side: Side, columns: Mapping[Any, Values], measures: Measures, worke
         amounts = [columns[name] for name in asked[1:]] or ([ones] if asked[0] != "count" else [])
         return split.agg(replace(side, columns=[*side.columns, *amounts]), asked[0], workers)
 
-    return {asked: answer(asked) for asked in asks_of(measures)}
+    return {asked: answer(asked) for asked in dict.fromkeys(asked for one in measures for asked in one.asks)}
 
 
 def together(found: Mapping[Ask, Found], measures: Measures) -> Found:

@@ -4,7 +4,6 @@ from __future__ import annotations
 import datetime
 import inspect
 import re
-import textwrap
 from dataclasses import dataclass, field, fields, replace
 from types import MappingProxyType
 from typing import Any, Callable, List, Literal, Mapping, Optional, Sequence, Tuple, TypeVar, Union
@@ -17,6 +16,7 @@ from ruzgalt.convert.checks import Pair, Suffixes
 from ruzgalt.convert.errors import Refused
 from ruzgalt.convert.kinds import Kind
 from ruzgalt.convert.points import Form
+from ruzgalt.frames import docstrings
 from ruzgalt.frames.sides import Period
 from ruzgalt.periods import EACH
 
@@ -53,6 +53,7 @@ SIDES = ("left", "right")
 # The options of a table's frames.
 OF_TABLE = ("period", "open_end", "last_day", "decimals", "missing")
 NAMES, PERIODS = "name or list of names", "pair of names, or name"
+OF_SIDES = "The left and the right period, if names differ."
 
 
 @dataclass(frozen=True)
@@ -64,12 +65,12 @@ class Option:
     kind: str = ""
     text: str = ""
 
-    def entry(self, name: str) -> str:
-        """Returns its entry in a docstring."""
+    @property
+    def described(self) -> Tuple[str, str]:
+        """Its type with the default, and its text."""
         given = repr(self.default).replace("'", '"')
         after = ", optional" if self.default in (None, NO_DECIMALS) else f", default {given}" if given != '""' else ""
-        text = textwrap.fill(self.text, 115, initial_indent="    ", subsequent_indent="    ")
-        return f"{name} : {self.kind}{after}\n{text}"
+        return self.kind + after, self.text
 
 
 def option(check: Check, default: object = None, kind: str = "", text: str = "") -> Any:
@@ -108,52 +109,51 @@ class Options:
 
     call: str = ""
     left_on: GivenNames = option(
-        checks.names, None, NAMES, "The compared columns of the left frame, if names differ.")
+        checks.names, None, NAMES, "The left and the right compared columns, if names differ.")
     right_on: GivenNames = option(
-        checks.names, None, NAMES, "The compared columns of the right frame, in the same order.")
+        checks.names, None, NAMES, "The left and the right compared columns, if names differ.")
     how: str = option(
         among(*HOWS), INNER, "str",
-        "inner has the pairs. left also has the left rows, each for the time when no right row matches, with "
-        "missing cells in the right columns. right has the right rows likewise, outer both.")
+        "inner, left, right or outer, like pandas.merge: left also has the left rows, each for the time when no right "
+        "row matches.")
     by: GivenNames = option(
-        checks.names, None, NAMES, "Columns whose equal values are a group; without any all rows are one.")
+        checks.names, None, NAMES, "Rows with equal values in these columns are a group; without columns all rows are.")
     period: Period = option(
         checks.period, PERIOD, PERIODS,
-        "The columns of a row's start and of its end, the first point after it; or one column of intervals.")
-    left_period: Optional[Period] = option(checks.period, None, PERIODS, "Those in the left frame, if others.")
-    right_period: Optional[Period] = option(checks.period, None, PERIODS, "Those in the right frame, if others.")
+        "The columns of a row's start and of its end, the first point after it; or a column of intervals.")
+    left_period: Optional[Period] = option(checks.period, None, PERIODS, OF_SIDES)
+    right_period: Optional[Period] = option(checks.period, None, PERIODS, OF_SIDES)
     keep_periods: bool = option(
-        checks.flag, False, "bool", "Adds the periods of the left and of the right row after the shared one.")
+        checks.flag, False, "bool", "Adds the periods of both rows after the shared one.")
     open_end: OneSided = option(
         checks.flag, False, "bool", "Reads a missing end as 9999-12-31, and returns it as missing.")
     last_day: OneSided = option(
-        checks.flag, False, "bool", "An end is a row's last day, in the answer too. No point has a time then.")
+        checks.flag, False, "bool",
+        "An end is a row's last day, in answers and changes too. Then no point has a time.")
     decimals: Mapping[Any, int] = option(
         checks.digits, NO_DECIMALS, "dict",
-        'The number of decimals of columns of floats or Decimals that are compared or added, such as `{"hours": 2}`.')
+        'Numbers of decimals of floats or Decimals that are compared, added or in a store, such as `{"hours": 2}`.')
     missing: Mapping[Any, Any] = option(checks.stand_ins, NO_STAND_INS)
     suffixes: Suffixes = option(
         checks.suffixes, SUFFIXES, "pair of str or None",
-        "Texts after left and right names that are taken; None adds nothing.")
+        "Texts after names that both frames have; None adds nothing.")
     amount: str = option(
         amount_named, "", "str",
-        'What an amount is: "per day", "per week", "per month", "per quarter" or "per year", or "in total". '
-        "It must be given.")
+        '"per day", "per week", "per month", "per quarter" or "per year", or "in total" for a row\'s period.')
     each: str = option(
         among(*PIECES), MONTH, "str",
-        "Pieces of the calendar: D for days, W for weeks from Monday on, M for months, Q for quarters, Y for years.")
+        "Pieces of the calendar: D (days), W (weeks from Monday on), M (months), Q (quarters) or Y (years).")
     within: Optional[Pair] = option(
         checks.span, None, "pair of points",
-        "The time that counts, from a start on and before an end. With `last_day` the end is the last day; None is no "
-        "end.")
-    exact: bool = option(checks.flag, False, "bool", "Returns sums as Fractions, which aren't rounded.")
+        "Start and end of the time that counts, or with `last_day` its last day. None as the end means no end.")
+    exact: bool = option(checks.flag, False, "bool", "Returns sums as Fractions, not rounded.")
     workers: int = option(
         workers_of, WORKERS, "int",
-        f"Calls of the library at once, 1 to {MOST_WORKERS}. Rows of different values, or groups, are dealt to them.")
+        f"Threads, 1 to {MOST_WORKERS}, which share out compared values or groups.")
     progress: Optional[bool] = option(
         checks.flag, None, "bool",
-        "Whether standard error shows how far a call is, after two seconds; by default on a terminal. Frames of Dask "
-        "show nothing: use dask.diagnostics.")
+        "Shows the seconds on standard error, after two of them; by default on a terminal. With Dask use "
+        "dask.diagnostics.")
     # Whether the rows are a partition of Dask's, which brings no warnings.
     is_part: bool = False
 
@@ -189,21 +189,40 @@ class Options:
 
 OPTIONS: Mapping[str, Option] = {one.name: one.metadata["option"] for one in fields(Options) if one.metadata}
 # The options of calls of two frames that differ.
-OF_PAIR = {
-    "open_end": Option(
-        one_sided, False, 'bool or "left" or "right"',
-        "Reads a missing end as 9999-12-31, and returns it as missing; in both frames or in one."),
-    "last_day": Option(
-        one_sided, False, 'bool or "left" or "right"',
-        "An end is a row's last day, in both frames or in one; in the answer if it is in the left frame. No point has "
-        "a time then."),
+ONE_SIDED = 'bool, or "left" or "right" for one frame'
+OF_PAIR = {name: replace(OPTIONS[name], check=one_sided, kind=ONE_SIDED) for name in ("open_end", "last_day")}
+POINT = "str, date, datetime, Timestamp or Period"
+OF_DASK = "Rows of Dask's answers are in order within partitions."
+OF_PANDAS = "DataFrame", "A frame of pandas. All of it, or with `by` each group, has at most 1,000,000 rows."
+PAIR = "DataFrame", f"Frames of pandas or Dask, also one of each. {OF_DASK}"
+# Parameters of calls that aren't options.
+PARAMETERS: docstrings.Texts = {
+    "left": PAIR, "right": PAIR, "frame": ("DataFrame", f"A frame of pandas or Dask. {OF_DASK}"),
+    "dip.frame": OF_PANDAS, "check.frame": ("DataFrame", "A frame of pandas, of at most 1,000,000 rows."),
+    "on": (f"{NAMES}, optional", "Columns of both sides whose values must be equal. `on=[]` compares none."),
+    "function": (
+        "str or dict",
+        "sum, min, max or mean of `column`, or count. Or a dict of columns, each with one of these or a list of them, "
+        "for several at once: in a period all stay the same."),
+    "agg.column": ("name, optional", "The column of numbers."), "column": ("name", "The column of numbers."),
+    "part": (NAMES, "The column of each row's part, or several, such as a ward and a bed."),
+    "point": (POINT, "A day means its midnight."),
+    "start": (POINT, "The first point of the time."),
+    "end": (POINT, "The first point after the time, or with `last_day` its last day. None means no end."),
 }
-# Parameters of several calls that aren't options.
-PARAMETERS = {
-    "left": "left : DataFrame\n    A frame of pandas or of Dask.",
-    "right": "right : DataFrame\n    A frame of pandas or of Dask; the left one may be of the other kind.",
-    "frame": "frame : DataFrame\n    A frame of pandas or of Dask.",
-    "on": f"on : {NAMES}, optional\n    Columns of both frames whose values must be equal. `on=[]` compares none.",
+# What the examples of calls are about.
+FRAMES = {
+    "pay": """>>> pay = pd.DataFrame({"from": day(["2024-01-01", "2024-07-01", "2024-03-01"]),
+...                     "to": day(["2024-07-01", None, "2024-10-01"]),
+...                     "person": ["Ada", "Ada", "Grace"], "cents": [5000, 5400, 4800]})
+""",
+    "contract": """>>> contract = pd.DataFrame({"from": day(["2024-02-01"]), "to": day(["2024-09-01"]),
+...                          "person": ["Ada"], "centre": ["press"]})
+""",
+    "stay": """>>> stay = pd.DataFrame({"from": day(["2024-01-01", "2024-01-03", "2024-01-05"]),
+...                      "to": day(["2024-01-05", "2024-01-08", "2024-01-06"]),
+...                      "bed": [7, 7, 8], "who": ["Ada", "Grace", "Hill"]})
+""",
 }
 RAISES = """Raises
 ------
@@ -220,20 +239,14 @@ Doubt
 
 
 def documented(call: Call) -> Call:
-    """Adds the parameters that a call's docstring doesn't describe, after its own ones, and RAISES."""
-    if not call.__doc__:
-        # python -OO drops docstrings.
-        return call
-    begin, answer = inspect.cleandoc(call.__doc__).split("Returns\n-------\n")
-    summary, _, described = begin.partition("Parameters\n----------\n")
-    parameters = inspect.signature(call).parameters
-    table = {**OPTIONS, **(OF_PAIR if "left" in parameters else {})}
-    others = [name for name in parameters if not re.search(rf"^{name}\b.* : |^\w+, {name} : ", described, re.MULTILINE)]
-    entries = [PARAMETERS[name] if name in PARAMETERS else table[name].entry(name) for name in others]
-    written = "\n".join([*filter(None, [described.strip()]), *entries])
-    returned, examples = answer.split("Examples\n--------\n")
-    call.__doc__ = (f"{summary}Parameters\n----------\n{written}\n\nReturns\n-------\n{returned}{RAISES}\n"
-                    f"Examples\n--------\n{examples}")
+    """Makes the docstring of a call of frames, with RAISES, and with FRAMES that its examples need."""
+    # python -OO drops docstrings.
+    if call.__doc__:
+        table = {**OPTIONS, **(OF_PAIR if "left" in inspect.signature(call).parameters else {})}
+        texts = {**{name: one.described for name, one in table.items()}, **PARAMETERS}
+        begin, heading, examples = docstrings.made(call.__name__, call, texts).partition("Examples\n--------\n")
+        frames = "".join(made for name, made in FRAMES.items() if re.search(rf"\b{name}[,.)]", examples))
+        call.__doc__ = f"{begin}{RAISES}\n{heading}>>> day = pd.to_datetime\n{frames}{examples}"
     return call
 
 

@@ -48,7 +48,7 @@ def overlaps(frame: Any, options: Options) -> Any:
     frame = with_levels(frame, by)
     side = sides.side_of(frame, by, options.period, options.form, options.decimals)
     doubts.of_frame(frame, side, side.columns, options)
-    found = split.join([side, side], options.workers)
+    found = split.join(with_codes([side, side]), options.workers)
     is_first = found[2] < found[3]
     options = replace(options, left_on=by, right_on=by)
     return framed([frame, frame], [column[is_first] for column in found], [side, side], options)
@@ -111,9 +111,10 @@ def refuse_two_kinds(one: Values, other: Values) -> None:
 
 
 def matched(both: Sequence[Side], options: Options) -> Found:
-    """Returns start, end, index of the left row and of the right one, in this order; -1 for no row comes last."""
-    # So several calls find the codes of the rows once.
-    both = with_codes(both)
+    """Returns start, end, index of the left row and of the right one, in this order; -1 for no row comes last.
+
+    Both sides have key codes.
+    """
     found = [split.join(both, options.workers)]
     if options.how in ("left", "outer"):
         start, end, left = split.anti(both, options.workers)

@@ -68,7 +68,9 @@ def paired(asked: Callable[..., Any], left: Any, right: Any, options: Options) -
     options, names = replace(options, is_part=True), options.keys
     if not names[0]:
         raise Refused("BadCommand", "frames of Dask need on=: without it, each row may meet each")
-    spread = [frame if isinstance(frame, dd.DataFrame) else with_labels_flat(frame) for frame in (left, right)]
+    # Dask doesn't know labels of several levels, which become tuples.
+    spread = [frame if isinstance(frame, dd.DataFrame) else
+              with_labels_twice(frame).set_axis(frame.index.to_flat_index()) for frame in (left, right)]
     metas = [frame._meta if isinstance(frame, dd.DataFrame) else frame.iloc[:0] for frame in spread]
     for meta, period in zip(metas, options.periods):
         refuse_unsent(meta, period)
@@ -80,11 +82,6 @@ def paired(asked: Callable[..., Any], left: Any, right: Any, options: Options) -
         rows = [by_value(frame, own, options.decimals, parts) for frame, own in zip(frames, names)]
         words = {"meta": meta, "align_dataframes": False, "transform_divisions": False}
         return dd.map_partitions(sent(asked, options), *rows, **words)
-
-
-def with_labels_flat(frame: Any) -> Any:
-    """Returns the frame with tuples as labels if they have several levels, which Dask doesn't know."""
-    return with_labels_twice(frame).set_axis(frame.index.to_flat_index())
 
 
 def refuse_unsent(meta: Any, period: Period) -> None:

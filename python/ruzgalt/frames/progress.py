@@ -17,23 +17,15 @@ def is_terminal() -> bool:
         return False
 
 
-def is_shown(is_wanted: Optional[bool]) -> bool:
-    """Returns whether a line is shown, as progress= says."""
-    return is_terminal() if is_wanted is None else is_wanted and sys.stderr is not None
-
-
 def of_call(call: str, is_wanted: Optional[bool]) -> ContextManager[Any]:
-    """Shows how long a call takes. If that isn't wanted, no thread is started."""
-    if is_shown(is_wanted):
-        return OfCall(call, True)
+    """Shows how long a call takes, as progress= says. If nothing is shown, no thread is started."""
+    if is_terminal() if is_wanted is None else is_wanted and sys.stderr is not None:
+        return OfCall(f"ruzgalt.{call}", True)
     return nullcontext()
 
 
 class OfCall(Progress):
     """Shows the seconds since a call began."""
-
-    def __init__(self, call: str, is_wanted: Optional[bool]) -> None:
-        super().__init__(f"ruzgalt.{call}", is_shown(is_wanted))
 
     def new_line(self) -> Line:
         try:

@@ -93,7 +93,9 @@ def side_of(frame: Any, names: Sequence[Any], period: Period, form: Form, decima
     if is_empty.any():
         place = int(is_empty.argmax())
         reason = f"it starts at {starts.iloc[place]} and ends at {ends.iloc[place]}"
-        remedy = "an end is the first point after a row; last_day=True reads it as the last day"
+        remedy = "an end is the first point after a row"
+        if start[place] == end[place] and not form.has_last_days:
+            remedy += "; last_day=True reads it as the last day"
         raise Refused("BadPeriod", f"{reason}: {remedy}", ends.name, label_at(is_empty, ends.index))
     columns = [values.values_of(column, decimals.get(same(column.name))) for column in found]
     kind = kinds.joint_kind(first, last)

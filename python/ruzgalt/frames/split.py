@@ -17,7 +17,7 @@ from ruzgalt.convert.errors import Refused
 from ruzgalt.convert.values import Values
 from ruzgalt.errors import Stopped
 from ruzgalt.frames import worker
-from ruzgalt.frames.sides import Side, together, with_codes
+from ruzgalt.frames.sides import Side, together
 from ruzgalt.kernel import library, threads
 from ruzgalt.kernel.library import Rows
 
@@ -129,14 +129,13 @@ def all_of(found: List[Found]) -> Found:
 
 
 def join(sides: Sides, workers: int) -> Found:
-    """Returns start, end, index of the left row and index of the right row, in this order."""
+    """Returns start, end, index of the left row and index of the right row, in this order. The sides have key codes."""
     def asked(part: Sides) -> Found:
         return pairs_of(part, workers)
 
     def by_blocks(part: Sides) -> Found:
         return all_of([asked([left, right]) for left in part[0].blocks(ROWS) for right in part[1].blocks(ROWS)])
 
-    sides = with_codes(sides)
     if fits(sides):
         return asked(sides)
     return by_period(all_of([over_time(part, asked, by_blocks) for part in by_value(sides)]))
@@ -148,7 +147,7 @@ def by_period(found: Found) -> Found:
 
 
 def anti(sides: Sides, workers: int) -> Found:
-    """Returns start, end and index of the rest of the left rows, by index and start."""
+    """Returns start, end and index of the rest of the left rows, by index and start. The sides have key codes."""
     def asked(part: Sides) -> Found:
         return found_of(rest_of(part, workers))
 
@@ -158,7 +157,6 @@ def anti(sides: Sides, workers: int) -> Found:
             left = together([rest_of([block, right], workers) for block in left.blocks(ROWS)] or [left])
         return found_of(left)
 
-    sides = with_codes(sides)
     if fits(sides):
         return asked(sides)
     found = all_of([over_time(part, asked, by_blocks) for part in by_value(sides)])

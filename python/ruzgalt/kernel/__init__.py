@@ -2,4 +2,5 @@
 
     library     the functions of ruzgalt.h, a call each
     threads     the same by several calls at once
+    live        the program dipq-live, which a store keeps
 """

@@ -9,7 +9,7 @@ Each module imports only from modules above it:
 
     parameters              the parameters of calls, for their docstrings
     tables                  a table's columns, their names and cells; commands
-    live                    the program, and its answers as columns
+    lists                   answers of the program as columns
     labels                  labels and days of commits
     changes                 the commands of a change, and possible mistakes in it
     state                   tables, commands and program together

@@ -1,7 +1,7 @@
 """The changes of a store: their commands, counts and possible mistakes."""
 from __future__ import annotations
 
-from typing import TYPE_CHECKING, Any, Callable, Collection, Iterator, List, NamedTuple, Optional, Sequence, Tuple
+from typing import TYPE_CHECKING, Any, Callable, Iterator, List, NamedTuple, Optional, Sequence, Tuple
 
 import numpy as np
 import pandas as pd
@@ -10,7 +10,6 @@ from ruzgalt.convert import checks, points, values
 from ruzgalt.convert.errors import REMEDIES, Refused
 from ruzgalt.convert.named import names_of, same
 from ruzgalt.convert.values import Values
-from ruzgalt.errors import Misfit
 from ruzgalt.frames import doubts
 from ruzgalt.frames.options import Names, Options
 from ruzgalt.frames.sides import Side
@@ -27,29 +26,33 @@ if TYPE_CHECKING:
 
 # The remedy for a raise of a column that may have missing cells.
 OF_ROWS = "take rows(), .dropna() to leave such rows out, and give update_rows the new amounts"
-# What the tools' options are called here.
-PARAMETERS = (("(line ", "(commit "), ("--again", "again=True"), ("--round half-up", "round='half-up'"), (" --", " "))
+
+
+# How many versions each of some commits added, and how many it closed.
+Counts = List[Tuple[int, int]]
+
+
+def sums(counts: Counts) -> Tuple[int, int]:
+    return sum(one for one, _ in counts), sum(one for _, one in counts)
 
 
 class Changed:
-    """A change of a store that was done.
+    """A change of a store that was done. Within a batch, calls return None instead.
 
     Attributes
     ----------
     commit : int
-        The number of its commit, or of the last of several.
+        Its commit, or the last of several.
     added : int
         How many versions of rows it added.
     closed : int
-        How many versions of rows it closed, which no later commit shows.
+        How many it closed, which no later commit shows.
 
     Examples
     --------
     >>> day = pd.to_datetime
     >>> pay = pd.DataFrame({"from": day(["2024-01-01"]), "to": day(["2025-01-01"]), "cents": [5000]})
     >>> changed = ruzgalt.Store().table("pay", pay)
-    >>> changed
-    commit 2: 1 added, 0 closed
     >>> changed.commit, changed.added, changed.closed
     (2, 1, 0)
     """
@@ -57,16 +60,16 @@ class Changed:
     added: int
     closed: int
 
-    def __init__(self, commit: int, *counts: int, later: Optional[Callable[[], Tuple[int, int]]] = None) -> None:
+    def __init__(self, commit: int, *counts: int, later: Optional[Callable[[], Counts]] = None) -> None:
+        """later: returns the counts of its commits when they are first needed."""
         self.commit, self._later = commit, later
         if counts:
             self.added, self.closed = counts
 
     def __getattr__(self, name: str) -> Any:
-        """Counts when the counts are first needed."""
         if name not in ("added", "closed") or self._later is None:
             raise AttributeError(name)
-        (self.added, self.closed), self._later = self._later(), None
+        (self.added, self.closed), self._later = sums(self._later()), None
         return getattr(self, name)
 
     def __eq__(self, other: object) -> bool:
@@ -119,7 +122,7 @@ def making(name: Any, frame: Any, key: Names, options: Options) -> Change:
     doubts.of_decimals(options.decimals, frame)
     made = tables.table_of(name, side, checks.names("key", key) or (), options)
     warn_of_ends(made, side)
-    command = tables.make(name, list(made.words.values()), side.columns, [made.word(column) for column in made.key])
+    command = tables.command(*made.schema.fields)
     return Change(name, [command, *([tables.load(name, side)] if len(side) else [])], made, side)
 
 
@@ -148,14 +151,12 @@ def updating(table: Table, frame: Any, where: Names) -> Change:
     if not set_to:
         raise Refused("BadCommand", "the frame has no column to set besides the period and where=")
     warn_of_ends(table, side)
-    columns = [[(table.word(column.name), text) for text in texts_of(column)] for column in side.columns]
-    made, cut = [], len(set_to)
+    words, cut, made = [table.word(column.name) for column in side.columns], 2 * len(set_to), []
     times = points.texts_of(side.start), points.texts_of(side.end)
-    for start, end, label, *pairs in zip(*times, frame.index, *columns):
-        set_pairs, where_pairs = ([text for pair in some for text in pair] for some in (pairs[:cut], pairs[cut:]))
-        made.append(tables.command(
-            "update", table.name, start, end, "set", *set_pairs, "where", *where_pairs, label=label
-        ))
+    for start, end, label, *texts in zip(*times, frame.index, *map(texts_of, side.columns)):
+        pairs = [text for pair in zip(words, texts) for text in pair]
+        portion = "update", table.name, start, end
+        made.append(tables.command(*portion, "set", *pairs[:cut], "where", *pairs[cut:], label=label))
     return Change(table.name, made, portion=np.concatenate([side.start, side.end]).tolist())
 
 
@@ -191,15 +192,10 @@ def raise_of(state: State, table: Table, column: Any, how: Tuple[Any, ...], is_a
         list(zip(pairs[::2], pairs[1::2])), rounding,
     )
     rows = state.answer_to(f"rows,{table.name}")
-    try:
+    with tables.refusing():
         made = raises.Raise(rows, wish)
         if not is_again:
             made.refuse_again(list(updates_of(state, table.name)))
-    except Misfit as misfit:
-        reason = str(misfit)
-        for word, parameter in PARAMETERS:
-            reason = reason.replace(word, parameter)
-        raise Refused("BadCommand", reason[2:] if reason.startswith("--") else reason) from None
     raised = np.array([one.raised for one in made.steps], np.int64)
     values.refuse_unheld(raised, table.column(column), "a raised amount is")
     return made
@@ -214,19 +210,16 @@ def updates_of(state: State, name: str) -> Iterator[Answer]:
 
 # Possible mistakes.
 
-def mistakes_in(done: Done, table: Table, closed: Optional[Sequence[int]]) -> Iterator[str]:
-    """Yields the possible mistakes in a change that was accepted.
-
-    closed: how many versions each of its commits closed, or None if they weren't counted.
-    """
+def mistakes_in(done: Done, table: Table, counts: Optional[Counts]) -> Iterator[str]:
+    """Yields the possible mistakes in a change that was accepted. counts: its commits' counts, if known."""
     change, side = done.change, done.change.side
-    is_load = side is not None and change.made is None
+    closed = [one for _, one in counts or ()]
     if side is not None and len(side):
         yield from mistakes_in_load(change.name, side, done.is_repeated)
-    elif is_load or not change.commands:
+    elif not change.commands or side is not None and change.made is None:
         yield f"{change.name}: the frame has no rows, so nothing was changed"
     elif change.commands[-1].label is not None:
-        yield from mistakes_in_rows(change, closed or ())
+        yield from mistakes_in_rows(change, closed)
     elif closed and change.commands[-1].word in marks.PORTIONS:
         yield from mistakes_in_portion(change, table, closed[-1])
 
@@ -248,31 +241,32 @@ def two_rows(row_labels: Sequence[Any], *numbers: int) -> List[str]:
 
 
 def mistakes_in_portion(change: Change, table: Table, closed: int) -> Iterator[str]:
-    command = change.commands[-1]
-    reason = marks.of_touched(command.fields, closed)
+    fields = change.commands[-1].fields
+    named, reason = f"{fields[0]} of {change.name}", marks.of_touched(fields, closed)
     if reason:
         # It names the change, since there may be many.
-        indices = commands.where_places(command.fields)
-        pairs = [f"{command.fields[index]} is '{visible(command.fields[index + 1])}'" for index in indices]
-        where = f" where {' and '.join(pairs)}" if pairs else ""
-        yield f"{command.word} of {change.name}{where}: {reason}"
+        pairs = [f"{fields[index]} is '{visible(fields[index + 1])}'" for index in commands.where_places(fields)]
+        yield f"{named}{' where ' * bool(pairs)}{' and '.join(pairs)}: {reason}"
     if closed and not table.form.has_last_days and change.portion[-1] < table.last:
-        reason = marks.of_end(command.fields[3])
+        reason = marks.of_end(fields[3])
         if reason:
-            yield f"{command.word} of {change.name}: {reason}"
+            yield f"{named}: {reason}"
 
 
-def mistakes_in_rows(change: Change, closed: Collection[int]) -> Iterator[str]:
+def mistakes_in_rows(change: Change, closed: Sequence[int]) -> Iterator[str]:
     """Yields the possible mistakes in updates by rows of a frame."""
+    named = f"update of {change.name}"
     idle = [one for one, count in zip(change.commands, closed) if not count]
     if idle:
-        more = f"; {len(idle) - 1} more rows do so" if len(idle) > 1 else ""
-        yield f"update of {change.name}: row {idle[0].label!r}: {marks.of_touched(idle[0].fields, 0)}{more}"
+        yield f"{named}: row {idle[0].label!r}: {marks.of_touched(idle[0].fields, 0)}{more(len(idle))}"
     updated = [(one.fields[2], *one.fields[commands.where_place(one.fields):]) for one in change.commands]
     is_later = pd.Series(updated).duplicated().to_numpy()
     if is_later.any():
         number = int(is_later.argmax())
         one, other = two_rows([one.label for one in change.commands], number, updated.index(updated[number]))
-        more = f"; {int(is_later.sum()) - 1} more rows do so" if is_later.sum() > 1 else ""
         reason = f"{one} updates the same rows from the same point on as {other}, and the later one counts"
-        yield f"update of {change.name}: {reason}{more}"
+        yield f"{named}: {reason}{more(int(is_later.sum()))}"
+
+
+def more(count: int) -> str:
+    return f"; {count - 1} more rows do so" if count > 1 else ""

@@ -8,7 +8,7 @@ from __future__ import annotations
 import datetime
 import difflib
 from bisect import bisect_right
-from typing import Any, Dict, Iterator, List, Mapping, NamedTuple, Optional, Sequence, Tuple
+from typing import Any, Dict, Iterator, List, NamedTuple, Optional, Sequence, Tuple
 
 import numpy as np
 import pandas as pd
@@ -25,10 +25,8 @@ from ruzgalt.store.tables import written
 
 # The columns of a diary after its period. The tools read the first one, and Store.from_script all.
 NEWEST, COMMIT, LABEL = COLUMNS = ("newest", "commit", "label")
-# The most labels that a message lists, and the most among which it searches for one that looks alike.
-LISTED, COMPARED = 10, 1_000
-# The least ratio of characters that two labels share if they look alike.
-ALIKE = 0.75
+# The most labels that a message lists, the most among which it searches for one that looks alike, and how much alike.
+LISTED, COMPARED, ALIKE = 10, 1_000, 0.75
 # The types of a day; a text is a day or a label.
 DAYS = (datetime.date, np.datetime64, pd.Period)
 
@@ -45,14 +43,9 @@ class Note(NamedTuple):
             raise Refused("BadCommand", f"label={self.label!r} would name a commit, but this change makes none")
 
 
-NO_NOTE = Note()
-
-
 def note_of(label: Any, day: Any) -> Note:
     """Returns a checked label and day. Raises Refused."""
-    if label is None and day is None:
-        return NO_NOTE
-    second = None if day is None else instants.second_of(written(day))
+    second = None if day is None else instants.second_in(written(day), None)
     if second is not None and second >= points.NO_END:
         raise Refused("BadPoint", f"day={day!r}: 9999-12-31 stands for no end, so it can't be the day of a commit")
     return Note(None if label is None else label_of(label), second)
@@ -143,7 +136,7 @@ class Diary:
             return self.labels[given]
         if isinstance(given, str) and not instants.written(given):
             raise Refused("NoLabel", f"{option}={checks.shown(given)} {self.why_unknown(given)}")
-        commit = past.newest_at(self.seconds, self.commits, instants.second_of(given))
+        commit = past.newest_at(self.seconds, self.commits, instants.second_in(given, None))
         if commit is not None:
             return commit
         reason = f"the first day of a commit is {points.text_of(self.seconds[0])}" if self.seconds else (
@@ -152,9 +145,8 @@ class Diary:
 
     def why_unknown(self, given: str) -> str:
         reason = "isn't a day, and no commit has this label"
-        near = {one.casefold(): one for one in list(self.labels)[-COMPARED:]}
-        alike = difflib.get_close_matches(given.strip().casefold(), near, 1, ALIKE)
-        reason += f", but {near[alike[0]]!r} looks alike" if alike else ""
+        alike = difflib.get_close_matches(given, list(self.labels)[-COMPARED:], 1, ALIKE)
+        reason += f", but {alike[0]!r} looks alike" if alike else ""
         reason += f"; give a commit's number as a number: {int(given)}" if is_number(given) else ""
         if not self.labels:
             return f"{reason}; give labels by label= of changes, or by diary= of Store.from_script"
@@ -200,40 +192,36 @@ def read(schema: Schema, cells: Sequence[Cells], newest: int) -> Diary:
         days = list(dict.fromkeys(past.days_of(schema, rows)))
     except Misfit as misfit:
         raise Refused("WrongKind", str(misfit)) from None
-    columns = {column.name: (column.kind.value, own) for column, own in zip(schema.columns, values)}
-    labels = list(labels_in(columns, values[0]))
-    for reason in past.strange_commits([*days, *(("", commit) for _, commit in labels)], newest):
+    named = list(labels_in(schema, values))
+    for reason in past.strange_commits([*days, *(("", commit) for _, commit in named)], newest):
         raise Refused("Future", f"{schema.name}: {reason}")
     for reason in past.steps_back(days):
         raise Refused("BadNumber", f"{schema.name}: {reason}")
-    for time in gaps_in(start, end, values[0]):
-        doubt(f"{schema.name}: no row holds {time}; as of a day then the commit before that is taken")
+    gap = gap_in(start, end, values[0])
+    if gap:
+        doubt(f"{schema.name}: no row holds {gap}; as of a day then the commit before that is taken")
     made = Diary()
     made.seconds, made.commits = [points.FIRST + forms.seconds(day) for day, _ in days], [one for _, one in days]
-    for label, commit in labels:
+    for label, commit in named:
         if made.labels.get(label) != commit:
             made.add(commit, Note(label_of(label)))
     return made
 
 
-def gaps_in(starts: Ints, ends: Ints, newest: Ints) -> Iterator[str]:
-    """Yields the first gap in the rows of a diary that have a commit, if there is one."""
-    rows = zip(starts.tolist(), ends.tolist(), newest.tolist())
-    spans = sorted((start, end) for start, end, commit in rows if commit)
+def gap_in(starts: Ints, ends: Ints, newest: Ints) -> str:
+    """Returns the first gap in the rows of a diary that have a commit, or nothing."""
+    spans = sorted(zip(starts[newest != 0].tolist(), ends[newest != 0].tolist()))
     reached = spans[0][0] if spans else points.NO_END
-    for start, end in spans:
+    for start, end in [*spans, (points.NO_END, points.NO_END)]:
         if start > reached:
-            yield f"from {points.text_of(reached)} to {points.text_of(start)}"
-            return
+            to = f"to {points.text_of(start)}" if start < points.NO_END else "on"
+            return f"from {points.text_of(reached)} {to}"
         reached = max(reached, end)
-    if reached < points.NO_END:
-        yield f"from {points.text_of(reached)} on"
+    return ""
 
 
-def labels_in(columns: Mapping[str, Tuple[str, Any]], newest: Cells) -> Iterator[Tuple[str, int]]:
+def labels_in(schema: Schema, values: Sequence[Cells]) -> Iterator[Tuple[str, int]]:
     """Yields the labels of a diary's rows with the commits in column `commit`, or with the newest ones."""
-    kind, labels = columns.get(LABEL, ("", []))
-    kind_of_commits, commits = columns.get(COMMIT, ("", []))
-    if kind == "text":
-        numbers = commits if kind_of_commits == "int" else newest
-        yield from ((label, int(commit)) for label, commit in zip(labels, numbers) if label)
+    columns = {(column.name, column.kind.value): own for column, own in zip(schema.columns, values)}
+    commits = columns.get((COMMIT, "int"), values[0])
+    yield from ((label, int(one)) for label, one in zip(columns.get((LABEL, "text"), ()), commits) if label)

@@ -16,12 +16,12 @@ from ruzgalt.convert.named import same
 from ruzgalt.convert.values import Texts, Values
 from ruzgalt.errors import Misfit
 from ruzgalt.frames.options import OF_TABLE, options_of
+from ruzgalt.kernel.live import unreadable
 from ruzgalt.script import answers, commands, naming, refusals
 from ruzgalt.script.commands import COMMANDS, NONE
 from ruzgalt.script.records import BYTE_ORDER_MARK, Block, Source, long_fields
 from ruzgalt.script.schemas import Kind, Schema
 from ruzgalt.store import labels, tables
-from ruzgalt.store.live import unreadable
 from ruzgalt.store.state import State
 from ruzgalt.store.tables import Command, Script, Table
 
@@ -55,8 +55,7 @@ def read(state: State, given: Given, options: Any, diary: Any) -> None:
         of_table = {"names": names.get(name, {}), **options.get(name, {})}
         state.tables[name] = table_of(schema, of_table, name in with_times)
     if diary is not None:
-        table = state.known(diary)
-        cells = state.block(["rows", table.name], "-pp" + table.readers)
+        cells = state.block(["rows", diary], "-pp" + state.known(diary).readers)
         state.diary = labels.read(schemas[diary], list(cells), state.newest)
 
 
@@ -77,7 +76,7 @@ def fill(state: State, data: bytes) -> Set[str]:
         state.loads = {one.data for one in begun if one.word == "load"}
         return len(begun)
 
-    found = state.live.answers([], text, count)
+    found = state.answers(text, count)
     others = [(one.word, answer) for one, answer in zip(begun, found) if not answer.startswith(b"ok,")]
     # A question may be refused; each other answer is a refused change, or of no command at all.
     if any(answer.startswith(b"error,") and not COMMANDS.get(word, NONE).is_query for word, answer in others):
@@ -188,8 +187,10 @@ def refuse_options(options: Any, schemas: Mapping[str, Schema]) -> None:
 def table_of(schema: Schema, given: Mapping[str, Any], has_times: bool) -> Table:
     """Returns a table of the script, with the options of its frames. Raises Refused."""
     of_frames = {option: value for option, value in given.items() if option != "names"}
-    if not set(of_frames) <= set(OF_TABLE):
-        raise checks.wrong("options", given, f"the options of a table are {', '.join([*OF_TABLE, 'names'])}")
+    for word in of_frames:
+        if word not in OF_TABLE:
+            reason = f"the options of a table are {', '.join([*OF_TABLE, 'names'])}"
+            raise Refused("BadCommand", f"options= of {schema.name} has {word!r}, but {reason}")
     options = options_of(**of_frames)
     names = names_of(schema, given["names"])
     kind_of = dict(zip(names, (column.kind for column in schema.columns)))

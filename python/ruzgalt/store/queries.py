@@ -1,18 +1,21 @@
-"""The questions of a store. If an answer has a column of the same name, a table's column gets `_` after its name."""
+"""The questions of a store. If an answer has a column of the same name, a table's column gets `_` after its name.
+
+The program lists rows, versions and commits. The library joins, aggregates and divides rows.
+"""
 from __future__ import annotations
 
 from dataclasses import replace
-from typing import Any, Iterable, Iterator, List, Mapping, Optional, Sequence, Tuple
+from typing import Any, Collection, Iterable, List, Mapping, NamedTuple, Optional, Sequence, Tuple
 
 import numpy as np
 import pandas as pd
 
 from ruzgalt.convert import checks, instants, points
-from ruzgalt.convert.arrays import NO_INTS, Cells, Ints, of_objects
+from ruzgalt.convert.arrays import Cells, Ints, of_objects
 from ruzgalt.convert.errors import Refused, doubt
 from ruzgalt.convert.kinds import Kind
 from ruzgalt.convert.values import Values
-from ruzgalt.frames import answer, division, doubts, groups, measures, pairs
+from ruzgalt.frames import answer, division, doubts, groups, measures, pairs, split
 from ruzgalt.frames.answer import Column, Columns
 from ruzgalt.frames.division import Division
 from ruzgalt.frames.measures import Measures
@@ -20,13 +23,14 @@ from ruzgalt.frames.options import (
     INNER, SUFFIXES, AsOf, Commit, Functions, Names, Options, PairOfSuffixes, compared, options_of, shared_in,
 )
 from ruzgalt.frames.pairs import Taken
-from ruzgalt.frames.sides import Side
+from ruzgalt.frames.sides import Side, with_codes
+from ruzgalt.kernel import library
 from ruzgalt.script import changes as past
 from ruzgalt.script import forms
 from ruzgalt.script.run import Versions, versions_of
 from ruzgalt.store.parameters import described
 from ruzgalt.store.state import State
-from ruzgalt.store.tables import Table, coded
+from ruzgalt.store.tables import Table, coded, in_python
 
 LOG = ("commit", "caller", "kind", "table", "added", "closed")
 IDS = ("left_id", "right_id")
@@ -41,14 +45,8 @@ class Queries:
     def rows(self, name: str, as_of: AsOf = None) -> pd.DataFrame:
         """All rows of a table as of a commit.
 
-        Returns
-        -------
-        DataFrame
-            row_id in int64, the period's columns, and the table's, in the dtypes of the loaded frames. Rows are sorted
-            by row_id.
+        Returns DataFrame: row_id, the period and the table's columns, in the dtypes of the loaded frames.
 
-        Examples
-        --------
         >>> store.rows("pay", as_of=2)
            row_id       from         to person  cents
         0       1 2024-01-01 2025-01-01    Ada   5000
@@ -60,13 +58,8 @@ class Queries:
     def at(self, name: str, point: Any, as_of: AsOf = None) -> pd.DataFrame:
         """The rows of a table that hold at a point, as of a commit.
 
-        Returns
-        -------
-        DataFrame
-            The columns of rows().
+        Returns DataFrame: The columns of rows().
 
-        Examples
-        --------
         >>> [store.at("pay", "2024-12-01", as_of=commit)["cents"].tolist() for commit in (2, 3)]
         [[5000], [5400]]
         """
@@ -74,16 +67,11 @@ class Queries:
             return listed(self.state, as_of, ["at", name, instants.text_of(point)])
 
     def between(self, name: str, first: Commit, last: Commit) -> pd.DataFrame:
-        """The versions of rows that some commit from `first` to `last` shows.
+        """The versions of rows that the commits from `first` to `last` show.
 
-        Returns
-        -------
-        DataFrame
-            row_id, the period, the commits that made and closed the version: sys_from in int64, sys_to in Int64, which
-            is NA if none closed it; then the table's columns. Rows are sorted by row_id.
+        Returns DataFrame: The columns of rows(). After the period, sys_from is the commit that made the version, and
+        sys_to the one that closed it, or NA.
 
-        Examples
-        --------
         >>> store.between("pay", 1, 3)[["row_id", "sys_from", "sys_to", "cents"]]
            row_id  sys_from  sys_to  cents
         0       1         2       3   5000
@@ -94,59 +82,40 @@ class Queries:
         with self.state.lock:
             table = self.state.known(name)
             numbers = self._numbers(first, last, may_be_later=True)
-            cells = self.state.block(["between", name, *map(str, numbers)], "ippcc" + table.readers)
-            columns = Columns([("row_id", next(cells)), *table.period_cells(cells)])
+            cells = self.state.block(["between", name, *map(str, numbers)], "ippii" + table.readers)
+            columns = Columns([("row_id", next(cells)), *table.period_cells(next(cells), next(cells))])
             made, closed = next(cells), next(cells)
-            columns.add([("sys_from", made), ("sys_to", pd.arrays.IntegerArray(closed, closed < 0))])
+            # An open version has a dash, which is read as 0.
+            columns.add([("sys_from", made), ("sys_to", pd.arrays.IntegerArray(closed, closed == 0))])
             columns.add(table.cells(cells))
             return columns.of_table()
 
     def join(self, left: str, right: str, on: Names = None, *, left_on: Names = None, right_on: Names = None,
              how: str = INNER, suffixes: PairOfSuffixes = SUFFIXES, as_of: AsOf = None) -> pd.DataFrame:
-        """Joins rows of two tables that are equal in the columns `on`, each pair for as long as both hold.
+        """Joins rows of two tables with equal values in `on`, for the time when both hold.
 
-        Returns
-        -------
-        DataFrame
-            The period, left_id and right_id in int64, the left table's columns, then the right one's; compared columns
-            come once. Rows are sorted by start, end and ids. If a row is unmatched, the other table's cells are
-            missing, in dtypes as in pandas.merge, and the id is NA, in Int64.
+        Returns DataFrame: As ruzgalt.join, with left_id and right_id after the period, in Int64 with unmatched rows.
+        Rows are by start, end and ids.
 
-        Examples
-        --------
         >>> lab = pd.DataFrame({"from": day(["2024-02-01"]), "to": day(["2024-06-01"]), "person": ["Grace"]})
         >>> store.table("lab", lab)
         commit 5: 1 added, 0 closed
-        >>> store.join("pay", "lab", on="person")
-                from         to  left_id  right_id person  cents
-        0 2024-03-01 2024-06-01        2         1  Grace   4800
         >>> store.join("lab", "pay", on="person", how="left")
                 from         to  left_id  right_id person   cents
         0 2024-02-01 2024-03-01        1      <NA>  Grace     NaN
         1 2024-03-01 2024-06-01        1         2  Grace  4800.0
         """
-        options = options_of(left_on=left_on, right_on=right_on, how=how, suffixes=suffixes)
+        workers = self.state.live.workers
+        options = options_of(left_on=left_on, right_on=right_on, how=how, suffixes=suffixes, workers=workers)
         with self.state.lock:
-            tables = [self.state.known(name) for name in (left, right)]
-            fields = on_of(tables, on, options)
-            if options.how == INNER:
-                made = matched(self.state, as_of, tables, fields, on, options)
-            else:
-                made = with_unmatched(self.state, as_of, tables, on, options)
-            warn_of_pairs(self.state, as_of, tables, on, options)
-            return made
+            return joined(both_of(self.state, as_of, (left, right), on, options), options)
 
     def anti(self, left: str, right: str, on: Names = None, *, left_on: Names = None, right_on: Names = None,
              as_of: AsOf = None) -> pd.DataFrame:
-        """The left table's rows, each for as long as no right row holds that is equal in the columns `on`.
+        """The left table's rows, each for the time when no right row with equal values in `on` holds.
 
-        Returns
-        -------
-        DataFrame
-            The columns of rows(). A row may come never, once or several times. Rows are sorted by row_id and start.
+        Returns DataFrame: The columns of rows(), by row_id and start.
 
-        Examples
-        --------
         >>> lab = pd.DataFrame({"from": day(["2024-02-01"]), "to": day(["2024-06-01"]), "person": ["Grace"]})
         >>> store.table("lab", lab)
         commit 5: 1 added, 0 closed
@@ -156,23 +125,19 @@ class Queries:
         """
         options = options_of(left_on=left_on, right_on=right_on)
         with self.state.lock:
-            tables = [self.state.known(name) for name in (left, right)]
-            made = listed(self.state, as_of, ["anti", left, right, *on_of(tables, on, options)], tables[1].kind)
-            warn_of_pairs(self.state, as_of, tables, on, options)
-            return made
+            one, other = both_of(self.state, as_of, (left, right), on, options)
+            start, end, places = split.anti(with_codes([one.side, other.side]), self.state.live.workers)
+            taken = Taken(one.frame, places, False)
+            columns = Columns([("row_id", one.ids[places]), *one.table.period_cells(start, end, other.table.kind)])
+            columns.add(taken.others(()))
+            return columns.of_table()
 
     def agg(self, name: str, function: Functions, column: Optional[str] = None, by: Names = None,
             as_of: AsOf = None) -> pd.DataFrame:
-        """Aggregates the rows that hold, group by group, for each period while the value stays the same.
+        """Aggregates the rows that hold, by groups, for each period while the value stays the same.
 
-        Returns
-        -------
-        DataFrame
-            The columns of `by`, the period's, and the values, named as in ruzgalt.agg. Rows are sorted by group and
-            start.
+        Returns DataFrame: As ruzgalt.agg.
 
-        Examples
-        --------
         >>> store.agg("pay", "max", "cents", by="person")
           person       from         to  max_cents
         0    Ada 2024-01-01 2024-07-01       5000
@@ -184,16 +149,10 @@ class Queries:
             return agg(self.state, as_of, self.state.known(name), asked, options)
 
     def dip(self, name: str, as_of: AsOf = None) -> Division[pd.DataFrame]:
-        """Divides the rows into the fewest parts, so that no two rows of a part hold at one time.
+        """Divides the rows into the fewest parts so that no two rows of a part hold at one time.
 
-        Returns
-        -------
-        Division
-            Its parts are a frame of part, counted from 0, and row_id, both in int64, sorted by part and start. Its
-            count and instant are as in ruzgalt.dip.
+        Returns Division: Its parts are a frame of part and row_id, by part and start.
 
-        Examples
-        --------
         >>> division = store.dip("pay")
         >>> division
         2 parts of 3 rows, as many as hold at 2024-03-01 00:00:00
@@ -202,25 +161,18 @@ class Queries:
         """
         with self.state.lock:
             table = self.state.known(name)
-            output = self.state.answer(["dip", name], as_of)
-        _, _, count, instant = output.record()[:4]
-        lists = [np.array(output.record()[2:], np.int64) for _ in range(int(count))]
-        numbers = np.repeat(np.arange(len(lists)), [len(one) for one in lists])
-        parts = pd.DataFrame({"part": numbers, "row_id": np.concatenate([NO_INTS, *lists])})
-        second = None if instant == "-" else points.FIRST + forms.seconds(instant)
-        return Division(parts, int(count), None if second is None else division.point_of(second, table.kind))
+            side, frame = rows_with(self.state, as_of, table, [])
+        part, count, second = split.answer(library.dip, side.start, side.end)
+        order = np.lexsort((side.start, part))
+        parts = pd.DataFrame({"part": part[order].astype(np.int64), "row_id": ids_of(frame)[order]})
+        return Division(parts, count, None if second is None else division.point_of(second, table.kind))
 
     def log(self) -> pd.DataFrame:
         """The commits, with what each did.
 
-        Returns
-        -------
-        DataFrame
-            commit and caller in int64, kind (table, load, update or delete) and table as objects of str; added and
-            closed in int64, the numbers of versions that the commit added and closed. Rows are sorted by commit.
+        Returns DataFrame: commit, caller, kind (table, load, update or delete), table, and how many versions it added
+        and closed.
 
-        Examples
-        --------
         >>> store.log()
            commit  caller    kind table  added  closed
         0       1       1   table   pay      0       0
@@ -231,54 +183,35 @@ class Queries:
             return pd.DataFrame(dict(zip(LOG, self.state.block(["log"], "iittii"))))
 
     def diary(self, *, after: AsOf = None) -> pd.DataFrame:
-        """The labels and days of the commits in a frame that a table of the store can keep.
+        """The labels and days of the commits, which a script doesn't have, for a table that keeps them.
 
-        A script has no labels and days. `store.table("diary", store.diary())`, after all other changes, keeps them;
-        `store.load("diary", store.diary(after=..))` adds rows later. Store.from_script(.., diary="diary") and
-        `--diary diary` of tools/answers read that table.
+        `store.load("diary", store.diary(after=..))` adds later ones to it. `--diary` of tools/answers reads it too.
 
-        Returns
-        -------
-        DataFrame
-            from and to, the time when the commit was the newest, in period[D], or period[S] if some have times;
-            newest and commit, its number, in int64; label, an empty text if it has none. If a labelled commit has no
-            day, newest is 0 and the period is all time. Rows are sorted by commit, those without a day first. If
-            several commits of a day have no label, only the last one is listed.
+        Returns DataFrame: from and to, the time when the commit was the newest, in period[D] or period[S]; newest and
+        commit, its number; label, which may be empty. A label without a day has newest 0 and all time. If several
+        commits of a day have no label, only the last is listed.
 
-        Examples
-        --------
         >>> store.update("pay", "2024-07-01", None, {"cents": 5600}, {"person": "Ada"}, label="July", day="2024-07-25")
         commit 4: 1 added, 1 closed
-        >>> store.delete("pay", "2024-09-01", None, {"person": "Grace"}, label="Grace leaves", day="2024-08-12")
-        commit 5: 1 added, 1 closed
         >>> store.diary()
-                 from          to  newest  commit         label
-        0  2024-07-25  2024-08-12       4       4          July
-        1  2024-08-12  9999-12-31       5       5  Grace leaves
-        >>> [store.at("pay", "2024-09-01", as_of=commit)["person"].tolist() for commit in ("July", "2024-08-12", 5)]
-        [['Grace', 'Ada'], ['Ada'], ['Ada']]
+                 from          to  newest  commit label
+        0  2024-07-25  9999-12-31       4       4  July
         >>> store.table("diary", store.diary())
-        commit 7: 2 added, 0 closed
+        commit 6: 1 added, 0 closed
         >>> again = ruzgalt.Store.from_script(store.script(), diary="diary")
-        >>> again.at("pay", "2024-09-01", as_of="July")["person"].tolist()
-        ['Grace', 'Ada']
+        >>> again.at("pay", "2024-09-01", as_of="July")["cents"].tolist()
+        [4800, 5600]
         """
         with self.state.lock:
             return self.state.diary.frame(0 if after is None else self.state.commit("after", after))
 
     def history(self, name: str, where: Optional[Mapping[str, Any]] = None, *, first: AsOf = None, last: AsOf = None,
                 retroactive: bool = False) -> pd.DataFrame:
-        """Lists for each commit the time for which values hold since then, or no longer.
+        """Lists what each commit changed: the times for which values hold since, or no longer.
 
-        Returns
-        -------
-        DataFrame
-            commit in int64; entered, the first day on which the commit was there, if commits have days; change: "-" for
-            values that no longer hold, "+" for values that hold since; the period; the table's columns. Rows are sorted
-            by commit, values and start, like the rows of `tools/answers history`.
+        Returns DataFrame: commit; entered, its day, if commits have days; change: "-" for values that no longer hold,
+        "+" for values that hold since; the period and the table's columns. Rows are by commit, values and start.
 
-        Examples
-        --------
         >>> store.history("pay", where={"person": "Ada"})
            commit change       from         to person  cents
         0       2      + 2024-01-01 2025-01-01    Ada   5000
@@ -291,17 +224,11 @@ class Queries:
             return history(self.state, name, where, range(numbers[0], numbers[1] + 1), flag)
 
     def changed(self, name: str, before: Commit, after: AsOf = None) -> pd.DataFrame:
-        """Lists the time for which values hold at only one of two commits.
+        """Lists the times for which values hold at only one of two commits.
 
-        Returns
-        -------
-        DataFrame
-            change: "-" for values that hold only at `before`, "+" for values that hold only at `after`; the period; the
-            table's columns. Rows that were only cut aren't listed. Rows are sorted by values and start, as in
-            `tools/answers changed`.
+        Returns DataFrame: change: "-" for values only at `before`, "+" only at `after`; the period and the table's
+        columns. Rows are by values and start.
 
-        Examples
-        --------
         >>> store.changed("pay", 2)
           change       from         to person  cents
         0      - 2024-07-01 2025-01-01    Ada   5000
@@ -324,117 +251,110 @@ class Queries:
         return numbers
 
 
-def listed(state: State, as_of: AsOf, fields: Sequence[str], *others: Kind) -> Any:
-    """Returns rows of a table. others: the kinds of points of other tables in the question."""
+def listed(state: State, as_of: AsOf, fields: Sequence[str]) -> Any:
+    """Returns rows of a table."""
     table = state.known(fields[1])
     cells = state.block(fields, "ipp" + table.readers, as_of)
-    columns = Columns([("row_id", next(cells)), *table.period_cells(cells, *others)])
+    columns = Columns([("row_id", next(cells)), *table.period_cells(next(cells), next(cells))])
     columns.add(table.cells(cells))
     return columns.of_table()
 
 
+def rows_with(state: State, as_of: AsOf, table: Table, names: Sequence[Any],
+              kept: Collection[Any] = ()) -> Tuple[Side, Any]:
+    """Returns a table's rows with some columns, and a frame of the columns `kept`, whose index is the rows' ids.
+
+    Other columns aren't read.
+    """
+    wanted = [table.column(name).name for name in names]
+    there = [name for name in table.columns if name in wanted or name in kept]
+    readers = "".join(reader if name in there else "-" for name, reader in zip(table.columns, table.readers))
+    ids, start, end, *cells = state.block(["rows", table.name], "ipp" + readers, as_of)
+    found = dict(zip(there, cells))
+    columns = [coded(table.columns[name], found[name]) for name in wanted]
+    restored = [table.restored(table.columns[name], found[name]) for name in kept]
+    frame = answer.frame_of(list(kept), restored) if restored else pd.DataFrame(index=range(len(ids)))
+    return Side(start, end, columns, table.kind, places=np.arange(len(ids))), frame.set_axis(ids)
+
+
+def ids_of(frame: Any) -> Ints:
+    ids: Ints = frame.index.to_numpy(np.int64)
+    return ids
+
+
 # Joins.
 
-def on_of(tables: Sequence[Table], on: Any, options: Options) -> List[str]:
-    """Returns the compared columns as fields of a question. Raises Refused."""
-    names = compared(on, options)
-    for name in names[0]:
+class Read(NamedTuple):
+    """A table's rows: their periods and compared columns, and a frame of all columns, whose index is the ids."""
+
+    table: Table
+    side: Side
+    frame: Any
+
+    @property
+    def ids(self) -> Ints:
+        return ids_of(self.frame)
+
+
+def both_of(state: State, as_of: AsOf, names: Sequence[str], on: Any, options: Options) -> List[Read]:
+    """Returns the rows of two tables. Raises Refused if columns can't be compared; warns of possible mistakes."""
+    tables, keys = [state.known(name) for name in names], compared(on, options)
+    for name in keys[0]:
         if isinstance(name, tuple) and name not in tables[0].columns:
             wanted = "must be names of columns that both tables have; give others by left_on= and right_on="
             raise checks.wrong("on", on, wanted)
-    for pair in zip(*([table.column(name) for name in own] for table, own in zip(tables, names))):
+    for pair in zip(*([table.column(name) for name in own] for table, own in zip(tables, keys))):
         pairs.refuse_two_kinds(*pair)
-    columns = [(table, name) for pair in zip(*names) for table, name in zip(tables, pair)]
-    for table, name in columns:
-        table.refuse_missing(name, "would match another row's")
-    return ["on", *(table.word(name) for table, name in columns)] if columns else []
-
-
-def matched(state: State, as_of: AsOf, tables: Sequence[Table], fields: Sequence[str], on: Any,
-            options: Options) -> Any:
-    """Returns the columns of an inner join."""
-    left, right = tables
-    cells = state.block(["join", left.name, right.name, *fields], "ppii" + left.readers + right.readers, as_of)
-    own = left.period_cells(cells, right.kind, is_open=right.form.is_open)
-    own += [(name, next(cells)) for name in IDS]
-    shared = shared_in(*compared(on, options))
-    sides = [left.cells(cells), [column for column in right.cells(cells) if column[0] not in shared]]
-    return answer.of_two(own, sides, options.suffixes)
-
-
-def with_unmatched(state: State, as_of: AsOf, tables: Sequence[Table], on: Any, options: Options) -> Any:
-    """Returns the columns of a left, right or outer join, which the library does with the tables' rows."""
-    left, right = tables
-    names = compared(on, options)
-    sides, frames = zip(*(side_and_frame(state, as_of, table, own) for table, own in zip(tables, names)))
-    start, end, *rows = pairs.matched(sides, replace(options, workers=state.live.workers))
-    taken = [Taken(frame, own, False) for frame, own in zip(frames, rows)]
-    period = left.period_cells(iter((start, end)), right.kind, is_open=right.form.is_open)
-    shared = shared_in(*names)
-    digits = {name: right.column(name).digits for name in shared}
-    return answer.of_two([*period, *ids_of(taken)], pairs.columns_of_both(taken, shared, digits), options.suffixes)
-
-
-def side_and_frame(state: State, as_of: AsOf, table: Table, names: Sequence[Any]) -> Tuple[Side, Any]:
-    """Returns a table's rows as a side with these columns, and as a frame of all columns with the ids as its index."""
-    ids, start, end, *cells = state.block(["rows", table.name], "ipp" + table.readers, as_of)
-    found = dict(zip(table.columns, cells))
-    columns = [coded(table.column(name), found[table.column(name).name]) for name in names]
-    made = table.cells(iter(cells))
-    frame = answer.frame_of(*zip(*made)) if made else pd.DataFrame(index=range(len(ids)))
-    return Side(start, end, columns, table.kind, places=np.arange(len(start))), frame.set_axis(ids)
-
-
-def ids_of(taken: Sequence[Taken]) -> Iterator[Column]:
-    """Yields the columns of ids, which are NA in a row that is missing."""
-    for name, one in zip(IDS, taken):
-        ids = np.append(one.frame.index.to_numpy(np.int64), 0)
-        yield name, pd.arrays.IntegerArray(ids[one.rows], one.rows < 0)
-
-
-def warn_of_pairs(state: State, as_of: AsOf, tables: Sequence[Table], on: Any, options: Options) -> None:
-    """Warns as a join of frames: of texts that look alike and don't meet, and of a column that isn't compared."""
+    for table, own in zip(tables, keys):
+        for name in own:
+            table.refuse_missing(name, "would match another row's")
+    both = [Read(one, *rows_with(state, as_of, one, own, one.columns)) for one, own in zip(tables, keys)]
     if on is None and options.left_on is None:
         doubts.of_no_columns(*(table.columns for table in tables))
-    names = [pair for pair in zip(*compared(on, options)) if tables[0].column(pair[0]).kind == "text"]
-    if names:
-        left, right = (rows_with(state, as_of, table, own)[2] for table, own in zip(tables, zip(*names)))
-        for one, other in zip(left, right):
-            doubts.of_no_value(one.name, one.texts.cells, other.texts.cells)
-        doubts.of_keys(left, right)
+    columns = [one.side.columns for one in both]
+    for left, right in zip(*columns):
+        doubts.of_no_value(left.name, left.texts.cells, right.texts.cells)
+    doubts.of_keys(*columns)
+    return both
 
 
-def rows_with(state: State, as_of: AsOf, table: Table, names: Sequence[Any]) -> Tuple[Ints, Ints, List[Values]]:
-    """Returns the starts and ends of a table's rows, and some columns with their cells. Other columns aren't read."""
-    wanted = [table.column(name).name for name in names]
-    readers = [reader if name in wanted else "-" for name, reader in zip(table.columns, table.readers)]
-    start, end, *cells = state.block(["rows", table.name], "-pp" + "".join(readers), as_of)
-    found = dict(zip((name for name in table.columns if name in wanted), cells))
-    return start, end, [coded(table.columns[name], found[name]) for name in wanted]
+def joined(both: Sequence[Read], options: Options) -> Any:
+    """Returns the columns of a join."""
+    left, right = both
+    start, end, *rows = pairs.matched(with_codes([one.side for one in both]), options)
+    taken = [Taken(one.frame, own, False) for one, own in zip(both, rows)]
+    period = left.table.period_cells(start, end, right.table.kind, is_open=right.table.form.is_open)
+    ids = [(name, ids_at(one.ids, own, options.how)) for name, one, own in zip(IDS, both, rows)]
+    shared = shared_in(*([column.name for column in one.side.columns] for one in both))
+    digits = {column.name: column.digits for column in right.side.columns}
+    return answer.of_two([*period, *ids], pairs.columns_of_both(taken, shared, digits), options.suffixes)
+
+
+def ids_at(ids: Ints, rows: Ints, how: str) -> Any:
+    """Returns the ids of rows, NA for no row."""
+    return ids[rows] if how == INNER else pd.arrays.IntegerArray(np.append(ids, 0)[rows], rows < 0)
 
 
 # Aggregates.
 
 def agg(state: State, as_of: AsOf, table: Table, asked: Measures, options: Options) -> Any:
-    """Returns an aggregate, which the library computes of the table's rows. Raises Refused."""
-    by = [table.column(name) for name in options.by or ()]
+    """Returns an aggregate. Raises Refused."""
     for one in asked:
         if one.is_of_column:
             table.refuse_missing(one.column, "would be counted as a value")
-    names = list(measures.amounts_of(asked))
-    amounts = {name: table.column(name) for name in names}
+    by = [table.column(name).name for name in options.by or ()]
+    amounts = {name: table.column(name) for name in measures.amounts_of(asked)}
     measures.refuse_texts(asked, amounts)
-    start, end, columns = rows_with(state, as_of, table, [*(one.name for one in by), *names])
-    side = Side(start, end, columns[:len(by)], places=np.arange(len(start)))
+    side, _ = rows_with(state, as_of, table, [*by, *amounts])
+    counted, side = dict(zip(amounts, side.columns[len(by):])), replace(side, columns=side.columns[:len(by)])
     doubts.of_groups(one for one in side.columns if table.stand_in(one.name) is None)
     codes, firsts = groups.group_codes(side, len(by))
-    counted = dict(zip(names, columns[len(by):]))
-    start, end, group, *values = measures.measured(
+    start, end, group, *found = measures.measured(
         replace(side, columns=[codes]), counted, asked, state.live.workers
     )
     made = Columns([(one.name, restored_at(table, one, firsts[group])) for one in side.columns])
-    made.add(table.period_cells(iter((start, end))))
-    made.add(measures.columns_of(values, asked, amounts))
+    made.add(table.period_cells(start, end))
+    made.add(measures.columns_of(found, asked, amounts))
     return made.frame()
 
 
@@ -450,17 +370,15 @@ def restored_at(table: Table, column: Values, rows: Ints) -> Any:
 def history(state: State, name: str, where: Any, numbers: range, is_retroactive: bool) -> Any:
     """Returns the changes by each of these commits in rows that have the values of where=. Raises Refused."""
     table, days = state.known(name), state.diary.days()
-    pairs = table.condition(where)[1:]
+    pairs_given = table.condition(where)[1:]
     if is_retroactive and not days:
         raise Refused("NoDay", "retroactive=True needs days of commits: give them by day= of changes")
-    words = [column.name for column in table.schema.columns]
-    wanted = [(words.index(word), value) for word, value in zip(pairs[::2], pairs[1::2])]
-    versions = Versions(state.answer_to(versions_of(name)))
-    found = past.history(versions, wanted, numbers, days, is_retroactive)
+    wanted = [(table.schema.index_of(word), value) for word, value in zip(pairs_given[::2], pairs_given[1::2])]
+    found = past.history(Versions(state.answer_to(versions_of(name))), wanted, numbers, days, is_retroactive)
     if found.is_of_none:
         doubt(f"history of {name}: no row ever had the values of where=")
     for reason in found.doubts if is_retroactive else ():
-        doubt(f"history of {name}: {reason.replace('--retroactive', 'retroactive=True')}")
+        doubt(f"history of {name}: {in_python(reason)}")
     own: Sequence[Column] = [("commit", np.array([one.commit for one in found.entries], np.int64))]
     if days:
         kind = table.options.kind_of(table.period, table.kind)
@@ -470,11 +388,10 @@ def history(state: State, name: str, where: Any, numbers: range, is_retroactive:
 
 def frame_of(table: Table, own: Iterable[Column], found: Sequence[Sequence[Optional[str]]]) -> Any:
     """Returns the frame of changes, after columns of its own."""
-    signs, start, end, *values = list(zip(*found)) or [()] * (len(past.CHANGE) + len(table.columns))
-    columns = Columns([*own, ("change", of_objects(signs))])
-    columns.add(table.period_cells(iter((seconds_of(start), seconds_of(end)))))
+    signs, start, end, *texts = list(zip(*found)) or [()] * (len(past.CHANGE) + len(table.columns))
+    columns = Columns([*own, ("change", of_objects(signs)), *table.period_cells(seconds_of(start), seconds_of(end))])
     kinds = [one.kind for one in table.columns.values()]
-    cells = (np.array(one, np.int64) if kind == "int" else of_objects(one) for one, kind in zip(values, kinds))
+    cells = (np.array(one, np.int64) if kind == "int" else of_objects(one) for one, kind in zip(texts, kinds))
     columns.add(table.cells(cells))
     return columns.of_table()
 

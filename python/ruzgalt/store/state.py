@@ -4,34 +4,39 @@ from __future__ import annotations
 import os
 import weakref
 from contextlib import contextmanager
+from dataclasses import replace
 from threading import RLock
-from typing import Any, Dict, Iterator, List, NamedTuple, Optional, Sequence, Set, Tuple
+from typing import Any, Callable, Dict, Iterator, List, NamedTuple, Optional, Sequence, Set, Tuple
 
 import numpy as np
 import pandas as pd
 
 from ruzgalt.convert import checks, points
 from ruzgalt.convert.arrays import Cells, of_objects
-from ruzgalt.convert.errors import REMEDIES, Refused
+from ruzgalt.convert.errors import REMEDIES, Refused, doubt
 from ruzgalt.convert.kinds import DAY
 from ruzgalt.convert.values import Values
 from ruzgalt.errors import Misfit
+from ruzgalt.frames import worker
 from ruzgalt.frames.options import AsOf
 from ruzgalt.frames.progress import of_call
+from ruzgalt.kernel.live import Ended, Live, unreadable
 from ruzgalt.script import commands, records, refusals, run
 from ruzgalt.script.answers import Answer, Reading
 from ruzgalt.script.records import Source
-from ruzgalt.store import labels, tables
-from ruzgalt.store.changes import Change, Done
-from ruzgalt.store.labels import Diary, Note
-from ruzgalt.store.live import Live, Output, reading, unreadable
-from ruzgalt.store.tables import Command, Script, Table
+from ruzgalt.store import tables
+from ruzgalt.store.changes import Change, Counts, Done
+from ruzgalt.store.labels import DAYS, Diary, Note
+from ruzgalt.store.lists import columns_of, reading
+from ruzgalt.store.tables import Command, Script, Table, refusing
 
 LOG = tables.command("log")
 # The most bytes of a command with its block.
 LIMIT = 67_108_864
 # All states, for forks.
 STATES: "weakref.WeakSet[State]" = weakref.WeakSet()
+# Tables, the size of the diary, and the number of commits, to which changes can be undone.
+Saved = Tuple[Dict[str, Table], Tuple[int, int], int]
 
 
 class Batch(NamedTuple):
@@ -54,15 +59,15 @@ class State:
     """
 
     def __init__(self, workers: int, progress: Optional[bool]) -> None:
-        self.lock, self.live, self.progress = RLock(), Live(workers), progress
+        self.lock, self.live, self.progress = RLock(), Live(workers, worker.place, worker.memory), progress
         self.tables: Dict[str, Table] = {}
         self.commands: List[Command] = []
-        self.counts: List[Tuple[int, int]] = []
+        self.counts: Counts = []
         self.loads: Set[bytes] = set()
         self.diary = Diary()
         self.batch: Optional[Batch] = None
         self.is_lost = False
-        self.saved: Optional[Tuple[Dict[str, Table], Tuple[int, int], int]] = None
+        self.saved: Optional[Saved] = None
         STATES.add(self)
 
     def __reduce__(self) -> Tuple[Any, ...]:
@@ -89,7 +94,7 @@ class State:
 
     def commit(self, option: str, given: Any, may_be_later: bool = False) -> int:
         """Returns a commit's number, given its number, label or day. Raises Refused."""
-        if isinstance(given, (str, *labels.DAYS)) and not pd.isna(given):
+        if isinstance(given, (str, *DAYS)) and not pd.isna(given):
             return self.diary.commit_of(option, given)
         if not checks.is_whole(given) or given < 0:
             wanted = f"must be a commit's number, here 0 to {self.newest}, or its label, or a day"
@@ -103,32 +108,34 @@ class State:
     def ask(self, *asked: Command) -> List[bytes]:
         """Returns the answers to commands. Raises Stopped."""
         with of_call("Store", self.progress):
-            return self.live.answers(self.commands, b"".join(one.data for one in asked), lambda: len(asked))
+            return self.answers(b"".join(one.data for one in asked), lambda: len(asked))
 
-    def answer(self, fields: Sequence[str], as_of: AsOf = None) -> Output:
-        """Returns the answer to a question as of a commit. Raises Refused if the program refuses it, Stopped."""
+    def answers(self, data: bytes, count: Callable[[], int]) -> List[bytes]:
+        """Returns what Live.answers does. A program that is killed or runs out of memory is replaced once."""
+        try:
+            return self.live.answers((one.data for one in self.commands), data, count)
+        except Ended as ended:
+            doubt(f"{ended}: it was started again with all changes, and is asked once more")
+        return self.live.answers((one.data for one in self.commands), data, count)
+
+    def block(self, fields: Sequence[str], kinds: str, as_of: AsOf = None) -> Iterator[Cells]:
+        """Yields the columns of the answer to a question as of a commit. Raises Refused, Stopped."""
         suffix = [] if as_of is None else ["asof", str(self.commit("as_of", as_of))]
         question = tables.command(*fields, *suffix)
         [found] = self.ask(question)
         if found.startswith(b"error,"):
             raise refusal(question, found)
-        return Output(found)
-
-    def block(self, fields: Sequence[str], kinds: str, as_of: AsOf = None) -> Iterator[Cells]:
-        """Yields the columns of the answer to a question as of a commit. Raises Refused, Stopped."""
-        return iter(self.answer(fields, as_of).block(kinds))
+        return iter(columns_of(found, kinds))
 
     def answer_to(self, question: Any) -> Answer:
         """Returns the answer to a question in the words of the language. Raises Refused, Stopped."""
-        if not isinstance(question, str):
-            raise checks.wrong("question", question, "must be a question of the language, such as 'rows,pay'")
+        checks.text("question", question)
         with refusing():
             begun = list(commands.commands(Source(run.line_of(run.named(question)[1]))))
         if len(begun) != 1 or not begun[0].form.is_query or not begun[0].is_ended:
-            raise checks.wrong("question", question, "must be one question, not a change")
+            raise checks.wrong("question", question, "must be one question of the language, such as 'rows,pay'")
         fields = [one.fields for one in (begun[0].record, *begun[0].block)]
-        command = Command(fields[0], records.encode(records.to_text(fields)))
-        [output] = self.ask(command)
+        [output] = self.ask(Command(fields[0], records.encode(records.to_text(fields))))
         if output.startswith(b"error,"):
             # The program counts records from its start on.
             output = b"error,1," + output.split(b",", 2)[2]
@@ -140,11 +147,12 @@ class State:
             raise Refused(answer.refusal.name, f"question={checks.shown(question)}: {refusals.reason(answer)}")
         return answer
 
-    def counted(self, first: int, last: int) -> List[Tuple[int, int]]:
+    def counted(self, first: int, last: int) -> Counts:
         """Returns how many versions each commit after `first` up to `last` added, and how many it closed."""
-        if len(self.counts) < last:
-            self.count(self.ask(LOG)[0])
-        return self.counts[first:last]
+        with self.lock:
+            if len(self.counts) < last:
+                self.count(self.ask(LOG)[0])
+            return self.counts[first:last]
 
     def count(self, log: bytes) -> None:
         """Reads the counts that are missing from the answer to `log`."""
@@ -158,22 +166,22 @@ class State:
     @contextmanager
     def whole(self) -> Iterator[None]:
         """Within, all changes are kept, or none if an exception is raised."""
-        before, is_outermost = (dict(self.tables), self.diary.size, self.newest), self.saved is None
-        self.saved = self.saved or before
+        outer, own = self.saved, (dict(self.tables), self.diary.size, self.newest)
+        self.saved = outer or own
         try:
             yield
         except BaseException as error:
             # The program may have done a change that an interrupt kept from being recorded here.
-            self.undo(*before, is_program_ended=not isinstance(error, Exception))
+            self.undo(own, not isinstance(error, Exception))
             raise
         finally:
-            self.saved = None if is_outermost else self.saved
+            self.saved = outer
 
-    def undo(self, tables: Dict[str, Table], size: Tuple[int, int], count: int, is_program_ended: bool = False) -> None:
-        """Restores the tables, the diary of this size, and the first `count` commands."""
-        self.tables = tables
+    def undo(self, saved: Saved, has_others: bool = False) -> None:
+        """Undoes later changes. has_others: the program may have changes that aren't recorded."""
+        self.tables, size, count = saved
         self.diary.cut(size)
-        if self.newest > count or is_program_ended:
+        if self.newest > count or has_others:
             del self.commands[count:], self.counts[count:]
             self.loads = {one.data for one in self.commands if one.word == "load"}
             self.live.end()
@@ -182,7 +190,7 @@ class State:
         """Undoes unfinished changes in a forked process, which has a program of its own, and only one thread."""
         self.live.end()
         if self.saved is not None:
-            self.undo(*self.saved)
+            self.undo(self.saved)
         if self.lock.acquire(blocking=False):
             self.is_lost = self.is_lost or self.batch is not None
             self.lock.release()
@@ -262,35 +270,25 @@ def from_program() -> Iterator[None]:
         raise unreadable(misfit) from None
 
 
-@contextmanager
-def refusing() -> Iterator[None]:
-    """Within, a Misfit becomes Refused. An option of a command line is a parameter of a call here."""
-    try:
-        yield
-    except Misfit as misfit:
-        raise Refused("BadCommand", f" {misfit}".replace(" --", " ")[1:].replace("by where", "by where=")) from None
-
-
 def overlap(state: State, table: Table, command: Command, row_labels: Any) -> Exception:
     """Returns why a key refused a command, naming two rows. The program names none.
 
     So another program does the table's changes and this one without the key, and joins the table with itself on it.
+    row_labels: the labels of the rows that the command loads, or None for an update.
     """
     trial = State(state.live.workers, None)
-    own = [one for one in state.commands if one.fields[1] == table.name]
-    first = list(own[0].fields)
-    trial.commands = [tables.command(*first[:first.index("key")]), *own[1:]]
+    own = [one for one in state.commands if one.fields[1] == table.name][1:]
+    trial.commands = [tables.command(*replace(table.schema, key=()).fields), *own]
     on = [word for name in table.key for word in [table.word(name)] * 2]
     rows = tables.command("rows", table.name)
-    before, done, found, after = trial.ask(rows, command, tables.command("join", *[table.name] * 2, "on", *on), rows)
-    begins, _, left, right = Output(found).block("ppii") if done.startswith(b"ok,") else [np.empty(0, np.int64)] * 4
+    before, _, found, after = trial.ask(rows, command, tables.command("join", *[table.name] * 2, "on", *on), rows)
+    begins, _, left, right = columns_of(found, "ppii")
     pairs = np.flatnonzero(left < right)
     if not len(pairs):
         return refusal(command, b"error,,KeyOverlap")
-    there, cells = set(Output(before).block("i")[0].tolist()), Output(after).block("ipp" + table.readers)
-    both = [np.flatnonzero(cells[0] == one[pairs[0]])[0] for one in (left, right)]
+    there, cells = set(columns_of(before, "i")[0].tolist()), columns_of(after, "ipp" + table.readers)
     # A row with a greater id than all rows before was loaded, or updated.
-    other, at_fault = ([column[place] for column in cells] for place in both)
+    other, at_fault = ([column[cells[0] == one[pairs[0]]][0] for column in cells] for one in (left, right))
     begin_of_load = int(cells[0].max()) - (0 if row_labels is None else len(row_labels))
 
     def named(row: Sequence[Any]) -> str:

@@ -12,7 +12,7 @@ from contextlib import contextmanager
 from dataclasses import dataclass
 from functools import partial
 from pathlib import Path
-from typing import Any, ContextManager, Dict, Iterable, Iterator, List, Mapping, Optional, Sequence, Tuple, Union
+from typing import Any, ContextManager, Dict, Iterable, Iterator, List, Mapping, Optional, Sequence, Union
 
 import pandas as pd
 
@@ -24,18 +24,18 @@ from ruzgalt.convert.errors import Refused, doubt
 from ruzgalt.frames.options import (
     NO_DECIMALS, NO_STAND_INS, PERIOD, WORKERS, Names, PeriodNames, options_of, workers_of,
 )
-from ruzgalt.frames.progress import OfCall
+from ruzgalt.frames.progress import of_call
 from ruzgalt.report import contents, document, figures, svg
-from ruzgalt.script import naming
+from ruzgalt.script import changes as past, naming
 from ruzgalt.script.run import Versions, versions_of
 from ruzgalt.store import changes, opening, tables
-from ruzgalt.store.changes import Change, Changed, Done
+from ruzgalt.store.changes import Change, Changed, Done, sums
 from ruzgalt.store.labels import Note, note_of
 from ruzgalt.store.opening import Given
 from ruzgalt.store.parameters import described
 from ruzgalt.store.queries import Queries
-from ruzgalt.store.state import Batch, State, from_program, refusing
-from ruzgalt.store.tables import Script, Table
+from ruzgalt.store.state import Batch, State, from_program
+from ruzgalt.store.tables import Script, Table, refusing
 
 AnyPath = Union[str, "os.PathLike[str]"]
 Where = Optional[Mapping[str, Any]]
@@ -47,7 +47,7 @@ LEAST_RAISE = 0.1
 
 @dataclass(frozen=True, repr=False)
 class Picture:
-    """A picture of an answer of a store, which a notebook shows by itself.
+    """A picture of an answer of a store.
 
     Attributes
     ----------
@@ -57,12 +57,10 @@ class Picture:
     Examples
     --------
     >>> day = pd.to_datetime
-    >>> stay = pd.DataFrame({"from": day(["2024-01-01"]), "to": day(["2024-01-05"]), "desk": [7]})
     >>> store = ruzgalt.Store()
-    >>> store.table("stay", stay)
+    >>> store.table("stay", pd.DataFrame({"from": day(["2024-01-01"]), "to": day(["2024-01-05"]), "desk": [7]}))
     commit 2: 1 added, 0 closed
-    >>> picture = store.picture("rows,stay")
-    >>> picture.svg.startswith("<svg")
+    >>> store.picture("rows,stay").svg.startswith("<svg")
     True
     """
 
@@ -79,28 +77,25 @@ class Picture:
 class Store(Queries):
     """Tables with a past, in memory: each change is a commit, and each question may be asked as of any of them.
 
-    A commit is named by its number, by the label of its change, or by a day on which it was the newest. Threads may
-    share a store: changes, questions and batches wait for each other.
-    `copy.copy` makes another store of the same commits; so does pickle. A forked process has a store of its own, as it
-    was before an open batch.
+    A point is a str, date, datetime, Timestamp or Period. A commit is given by its number, its label, or a day: the
+    newest commit at its midnight. Threads may share a store. Copies, pickles and forks go on by themselves.
 
     Raises
     ------
     Refused
-        By each call, if a table, a column or a commit doesn't exist, an argument is invalid, or two rows of one key
-        would overlap. Nothing is changed then. Also by script, save, page, copies and pickle within a batch.
+        If a table, column or commit doesn't exist, an argument is invalid, or rows of one key would overlap. Within a
+        batch also by script, save, page, copies and pickle.
     Stopped
-        By each call, if the program ended without all answers.
+        If the program or the library is missing or ended.
 
     Warns
     -----
     Doubt
-        If a change touches no row, or all rows without `where`; if rows are loaded twice; if ends look like last days,
-        or don't and should; if keys or groups look alike, or `on` is missing; if a script or a diary has mistakes.
+        Of possible mistakes, such as changes of no row, rows loaded twice or a missing `on`.
 
     Examples
     --------
-    Those of the methods go on from this one.
+    Each method's example begins with this store.
 
     >>> day = pd.to_datetime
     >>> pay = pd.DataFrame({"from": day(["2024-01-01", "2024-03-01"]), "to": day(["2025-01-01", "2024-10-01"]),
@@ -123,25 +118,17 @@ class Store(Queries):
     def from_script(cls, script: Given, *, workers: int = WORKERS, progress: Optional[bool] = None,
                     options: Optional[Mapping[str, Mapping[str, Any]]] = None,
                     diary: Optional[str] = None) -> Store:
-        """Opens a script: the store has its accepted changes, without its questions and refused changes.
+        """Opens a script, without its questions and refused changes.
 
-        Returns
-        -------
-        Store
-            Its points are period[D], or period[S] in a table with times.
+        Returns Store: Its points are period[D], or period[S] in a table with times.
 
-        Raises
-        ------
-        Refused
-            If the file, a table or column of options, or the diary doesn't exist, or the script isn't complete.
+        Raises Refused: If the file or the diary doesn't exist, or the script isn't complete.
 
-        Examples
-        --------
         >>> ruzgalt.Store.from_script(store.script(), options={"pay": {"open_end": True}})
         <Store of 3 commits, tables: pay>
         """
         store = cls(workers=workers, progress=progress)
-        with OfCall("Store", store.state.progress):
+        with of_call("Store", store.state.progress):
             opening.read(store.state, script, {} if options is None else options, diary)
         return store
 
@@ -161,13 +148,8 @@ class Store(Queries):
     def tables(self) -> Dict[str, Table]:
         """The tables by their names.
 
-        Returns
-        -------
-        dict
-            For each name the table, which has columns, period and key.
+        Returns dict: A table has columns, period and key.
 
-        Examples
-        --------
         >>> {name: list(table.columns) for name, table in store.tables.items()}
         {'pay': ['person', 'cents']}
         """
@@ -185,10 +167,8 @@ class Store(Queries):
               open_end: bool = False, last_day: bool = False, decimals: Mapping[Any, int] = NO_DECIMALS,
               missing: Mapping[Any, Any] = NO_STAND_INS, label: Optional[str] = None,
               day: Any = None) -> Optional[Changed]:
-        """Makes a table of a frame's columns, except the period's two, and loads its rows.
+        """Makes a table of a frame's columns, and loads its rows.
 
-        Examples
-        --------
         >>> store.table("centre", pay[["from", "to", "person"]].assign(centre="lab"), key=["person"])
         commit 5: 2 added, 0 closed
         """
@@ -197,10 +177,8 @@ class Store(Queries):
 
     def load(self, name: str, frame: pd.DataFrame, *, label: Optional[str] = None,
              day: Any = None) -> Optional[Changed]:
-        """Adds the rows of a frame that has the table's columns and no others, in any order.
+        """Adds the rows of a frame.
 
-        Examples
-        --------
         >>> store.load("pay", pay.assign(person=["Mary", "Emmy"]))
         commit 4: 2 added, 0 closed
         """
@@ -209,10 +187,8 @@ class Store(Queries):
 
     def update(self, name: str, start: Any, end: Any, set: Mapping[str, Any], where: Where = None, *,
                label: Optional[str] = None, day: Any = None) -> Optional[Changed]:
-        """Sets values from `start` on and before `end`, in all rows or in the rows with the values of `where`.
+        """Sets values of rows, for a time.
 
-        Examples
-        --------
         >>> store.update("pay", "2024-09-01", None, set={"cents": 4900}, where={"person": "Grace"})
         commit 4: 2 added, 1 closed
         """
@@ -223,10 +199,8 @@ class Store(Queries):
 
     def delete(self, name: str, start: Any, end: Any, where: Where = None, *, label: Optional[str] = None,
                day: Any = None) -> Optional[Changed]:
-        """Removes the time from `start` on and before `end` from all rows or from the rows with the values of `where`.
+        """Removes a time from rows.
 
-        Examples
-        --------
         >>> store.delete("pay", "2024-06-01", None, where={"person": "Grace"})
         commit 4: 1 added, 1 closed
         """
@@ -239,10 +213,7 @@ class Store(Queries):
                     day: Any = None) -> Optional[Changed]:
         """Does an update for each row of a frame, in their order. Each is a commit; all are done, or none.
 
-        Examples
-        --------
-        >>> raises = pay.assign(cents=[5100, 4900])
-        >>> store.update_rows("pay", raises)
+        >>> store.update_rows("pay", pay.assign(cents=[5100, 4900]))
         commit 5: 3 added, 3 closed
         """
         with self.state.lock:
@@ -253,26 +224,13 @@ class Store(Queries):
                  label: Optional[str] = None, day: Any = None) -> Union[Changed, pd.DataFrame, None]:
         """Raises amounts by a percentage, exactly: an update for each amount that rows have.
 
-        Returns
-        -------
-        Changed or DataFrame
-            The counts of all updates together, in a batch None. With dry_run a frame of the number of rows, the amount
-            under its column's name, the exact new amount and the rounded one, in the column's smallest units.
+        Returns Changed or DataFrame: With dry_run for each update its number of rows, the amount, and the exact and the
+        rounded new amount, in the column's smallest units.
 
-        Raises
-        ------
-        Refused
-            If the same rows were already raised from this start on, the column's floats don't hold a new amount, or it
-            has more decimals than the column and `round` isn't given.
-
-        Examples
-        --------
         >>> store.raise_by("pay", "cents", "2.5", "2024-09-01", dry_run=True)
            rows  cents exact  raised
         0     1   5400  5535    5535
         1     1   4800  4920    4920
-        >>> store.raise_by("pay", "cents", "2.5", "2024-09-01")
-        commit 5: 4 added, 2 closed
         """
         is_dry, is_again = checks.flag("dry_run", dry_run), checks.flag("again", again)
         note = note_of(label, day)
@@ -293,19 +251,13 @@ class Store(Queries):
             return self._change(Change(name, commands, portion=table.portion(start, end)), note)
 
     def batch(self, *, label: Optional[str] = None, day: Any = None) -> ContextManager[List[Changed]]:
-        """The changes within are all kept, or none if one is refused or another exception ends the batch.
+        """Keeps all changes of a `with` block, or none if an exception ends it, such as a refusal.
 
-        Each change within is a commit, and may have a label and a day of its own. It is done at once, and
-        raises Refused if it is refused; a question within is answered with the changes before it. Other threads wait
-        for the batch's end. To undo changes takes as long as to open the store's script.
+        Each change is a commit, which questions within see. Other threads wait. To undo changes takes as long as to
+        open the script.
 
-        Returns
-        -------
-        context manager
-            It gives a list, which has a Changed for each change at the end of the `with`.
+        Returns context manager: A list, which at the end has a Changed for each change.
 
-        Examples
-        --------
         >>> with store.batch() as changed:
         ...     store.update("pay", "2024-08-01", "2024-09-01", {"cents": 5500}, where={"person": "Ada"})
         ...     store.delete("pay", "2024-09-01", None, where={"person": "Ada"})
@@ -333,7 +285,7 @@ class Store(Queries):
                         state.diary.add(state.newest, Note(note.label))
                     else:
                         note.refuse_without_commit()
-                    changed += self._reported(batch.done, True)
+                    changed += [self._reported(one, True) for one in batch.done]
             finally:
                 state.batch, state.is_lost = None, False
 
@@ -356,41 +308,25 @@ class Store(Queries):
                     state.diary.add(state.newest, note)
                 done = Done(change, before, state.newest, is_repeated)
                 if batch is None:
-                    return self._reported([done], is_counted)[0]
+                    return self._reported(done, is_counted)
             batch.done.append(done)
             return None
 
-    def _reported(self, changes_done: Sequence[Done], is_counted: bool) -> List[Changed]:
-        """Returns what changes did, and warns of possible mistakes in them."""
-        found = []
-        for done in changes_done:
-            counts = self.state.counted(done.before, done.last) if is_counted else None
-            closed = None if counts is None else [one for _, one in counts]
-            for reason in changes.mistakes_in(done, self.state.tables[done.change.name], closed):
-                doubt(reason)
-            if counts is None:
-                found.append(Changed(done.last, later=partial(self._counts, done.before, done.last)))
-            else:
-                found.append(Changed(done.last, *sums(counts)))
-        return found
-
-    def _counts(self, before: int, last: int) -> Tuple[int, int]:
-        """Returns how many versions some commits added, and how many they closed."""
-        with self.state.lock:
-            return sums(self.state.counted(before, last))
+    def _reported(self, done: Done, is_counted: bool) -> Changed:
+        """Returns what a change did, and warns of possible mistakes in it."""
+        counted = partial(self.state.counted, done.before, done.last)
+        counts = counted() if is_counted else None
+        for reason in changes.mistakes_in(done, self.state.tables[done.change.name], counts):
+            doubt(reason)
+        return Changed(done.last, later=counted) if counts is None else Changed(done.last, *sums(counts))
 
     # Files and pictures.
 
     def script(self) -> Script:
         """All changes that were accepted, as ./dipq and tools/answers read them.
 
-        Returns
-        -------
-        Script
-            Bytes: a script of the language, CSV in UTF-8. Its `names` say what its columns are called in frames.
+        Returns Script: Bytes of CSV in UTF-8.
 
-        Examples
-        --------
         >>> print(store.script().decode().strip())
         table,pay,person,text,cents,int,key,person
         load,pay
@@ -403,39 +339,23 @@ class Store(Queries):
             return self._settled().script
 
     def save(self, path: AnyPath) -> None:
-        """Writes the script to a file, which it replaces. Store.from_script(path) opens a store of it.
+        """Writes the script to a file, which it replaces.
 
-        Returns
-        -------
-        None
-            An error of the system comes as Python's OSError; the file is complete then, or as it was. It keeps its
-            mode. A symbolic link is followed. A device, a pipe or a file with a second hard link is written into. The
-            file that standard output goes to is refused.
+        Returns None: After an OSError the file is complete or as it was. It keeps its mode and its links.
 
-        Examples
-        --------
-        >>> import tempfile
-        >>> with tempfile.TemporaryDirectory() as folder:
-        ...     store.save(f"{folder}/pay.csv")
-        ...     ruzgalt.Store.from_script(f"{folder}/pay.csv")
+        >>> store.save("pay.csv")
+        >>> ruzgalt.Store.from_script("pay.csv")
         <Store of 3 commits, tables: pay>
         """
         write(path_of(path), [self.script()])
 
     def page(self, path: AnyPath, questions: Sequence[str] = (), *, title: str = "", note: str = "",
              diary: Optional[str] = None) -> None:
-        """Writes a page for a browser, with the script's commits and tables, and answers to questions.
+        """Writes a page for a browser: commits, tables, and answers to questions.
 
-        Returns
-        -------
-        None
-            As save() does.
+        Returns None: It writes the file as `save` does.
 
-        Examples
-        --------
-        >>> import tempfile
-        >>> with tempfile.TemporaryDirectory() as folder:
-        ...     store.page(f"{folder}/pay.html", ["agg,pay,sum,cents"])
+        >>> store.page("pay.html", ["agg,pay,sum,cents"])
         """
         asked, target = checks.texts("questions", questions), path_of(path)
         given = {"title": title, "note": note, **({} if diary is None else {"diary": diary})}
@@ -451,38 +371,30 @@ class Store(Queries):
             file = Path(folder, target.with_suffix(".csv").name)
             file.write_bytes(script)
             options = answers_tool.options_of("page", [str(file), *words])
+            if diary is not None:
+                past.refuse_no_commits(self.state.known(diary).schema)
             with from_program():
                 found = given_tool.sources(options)
             write(target, document.pieces(contents.of(found, diary)))
 
     def picture(self, question: str, *, by: Optional[str] = None, label: Optional[str] = None, where: Where = None,
                 start: Any = None, end: Any = None, width: Optional[int] = None) -> Picture:
-        """A picture of the answer to a question, which a notebook shows.
+        """Draws the answer to a question.
 
-        Returns
-        -------
-        Picture
-            Its svg is a text; a notebook shows it.
+        Returns Picture: A notebook shows it.
 
-        Examples
-        --------
         >>> store.picture("rows,pay", by="person").svg.count("<svg")
         1
         """
         if width is not None:
             width = checks.whole("width", width, 40, 100_000)
         limits = [None if point is None else instants.text_of(point) for point in (start, end)]
-        wanted = [] if where is None else checks.records("where", where)
-        wish = figures.Wish(by, label, wanted, limits[0], limits[1])
+        wish = figures.Wish(by, label, [] if where is None else checks.records("where", where), limits[0], limits[1])
         with self.state.lock, refusing():
             return Picture(svg.draw(figures.of(self.state.answer_to(question), wish, self._versions), width, None))
 
     def _versions(self, name: str) -> Versions:
         return Versions(self.state.answer_to(versions_of(name)))
-
-
-def sums(counts: Sequence[Tuple[int, int]]) -> Tuple[int, int]:
-    return sum(one for one, _ in counts), sum(one for _, one in counts)
 
 
 def path_of(given: Any) -> Path:

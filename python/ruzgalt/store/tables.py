@@ -5,6 +5,7 @@ A column of a frame may have any name. In the store its name is a word of the la
 from __future__ import annotations
 
 import datetime
+from contextlib import contextmanager
 from dataclasses import dataclass, field, replace
 from decimal import Decimal
 from functools import lru_cache
@@ -21,6 +22,7 @@ from ruzgalt.convert.kinds import WITHOUT_ZONE, Kind
 from ruzgalt.convert.named import column_of, names_of, same
 from ruzgalt.convert.points import Form
 from ruzgalt.convert.values import Texts, Values
+from ruzgalt.errors import Misfit
 from ruzgalt.frames import sides
 from ruzgalt.frames.options import Options
 from ruzgalt.frames.sides import Period, Side
@@ -32,6 +34,11 @@ from ruzgalt.script.schemas import Kind as Kinds
 Cell = Union[int, str]
 # The columns of a table that isn't made yet.
 NO_COLUMNS: Mapping[Any, Values] = MappingProxyType({})
+# What the tools' options are called here.
+PARAMETERS = (
+    ("(line ", "(commit "), ("--again", "again=True"), ("--round half-up", "round='half-up'"),
+    ("--retroactive", "retroactive=True"), ("by --where", "by where="), (" --", " "),
+)
 # The remedy for a question about a column that may have missing cells.
 OF_FRAMES = "take rows(), .dropna() to leave such rows out, and ruzgalt.join, anti or agg"
 
@@ -39,13 +46,12 @@ OF_FRAMES = "take rows(), .dropna() to leave such rows out, and ruzgalt.join, an
 # Commands.
 
 class Script(bytes):
-    """The changes of a store that were accepted: bytes of a script, as ./dipq and tools/answers read it.
+    """The accepted changes of a store, as bytes.
 
     Attributes
     ----------
     names : dict
-        For each table a dict of the columns' names in the script with their names in frames. If a name isn't one of the
-        language, the script has one like it.
+        For each table a dict of the columns' names in the script with their names in frames.
 
     Examples
     --------
@@ -94,11 +100,6 @@ def load(table: str, side: Side) -> Command:
     return Command(("load", table), b"".join([record(("load", table)), rows_of(side), b"end\n"]))
 
 
-def make(table: str, names: Sequence[str], columns: Sequence[Values], key: Sequence[str] = ()) -> Command:
-    given = [text for name, column in zip(names, columns) for text in (name, column.kind)]
-    return command("table", table, *given, *(["key", *key] if key else []))
-
-
 def rows_of(side: Side) -> bytes:
     """Returns the `row` records."""
     times = [points.texts_of(side.start), points.texts_of(side.end)]
@@ -135,12 +136,13 @@ class Table:
 
     @property
     def schema(self) -> Schema:
-        """The columns as the language has them."""
-        return Schema(self.name, tuple(Column(self.words[one.name], Kinds(one.kind)) for one in self.columns.values()))
+        """The table as the language has it."""
+        columns = tuple(Column(self.words[name], Kinds(one.kind)) for name, one in self.columns.items())
+        return Schema(self.name, columns, tuple(map(list(self.columns).index, self.key)))
 
     @property
     def readers(self) -> str:
-        """The kinds of the columns, as Output.block reads them."""
+        """The kinds of the columns, for lists.columns_of."""
         return "".join("i" if one.kind == "int" else "t" for one in self.columns.values())
 
     def column(self, name: Any) -> Values:
@@ -233,19 +235,17 @@ class Table:
     # Output.
 
     def cells(self, cells: Iterator[Cells]) -> List[Tuple[str, Any]]:
-        """Takes the next columns of an answer, and returns them as the table's columns."""
+        """Returns the next columns of an answer as the table's columns."""
         return [(one.name, self.restored(one, next(cells))) for one in self.columns.values()]
 
     def restored(self, column: Values, cells: Cells) -> Any:
         return restored_cells(column, cells, self.stand_in(column.name))
 
-    def period_cells(self, cells: Iterator[Cells], *others: Kind, is_open: bool = False) -> List[Tuple[Any, Any]]:
-        """Takes the next two columns of an answer, and returns them as the period.
+    def period_cells(self, start: Cells, end: Cells, *others: Kind, is_open: bool = False) -> List[Tuple[Any, Any]]:
+        """Returns starts and ends of an answer as the period.
 
-        others: the kinds of points of other tables in the question. is_open: ends may be missing, because they are
-        in another table of the question.
+        others: the kinds of points of other tables in the question. is_open: these have missing ends.
         """
-        start, end = next(cells), next(cells)
         kind = self.options.kind_of(self.period, self.kind, *others)
         # An interval has no missing end.
         form = self.form if named.are_in(self.period) else replace(self.form, is_open=self.form.is_open or is_open)
@@ -256,8 +256,6 @@ def table_of(name: str, side: Side, key: Sequence[Any], options: Options) -> Tab
     """Returns a table without rows that has the columns of its first rows. Raises Refused."""
     columns = [replace(one, name=same(one.name), codes=one.codes[:0], texts=Texts()) for one in side.columns]
     names = [one.name for one in columns]
-    if any(name != name for name in names):
-        raise Refused("BadName", "NaN can't be the name of a store's column; .rename(columns=..) gives another one")
     for column in key:
         if column not in names:
             raise Refused("NoColumn", f"key= has it, but the table's columns are {listed(names)}", column)
@@ -279,12 +277,28 @@ def checked(table: Table) -> Table:
 
 def listed(names: Iterable[Any]) -> str:
     """Returns names of columns for a message."""
-    return ", ".join(
-        name if isinstance(name, str) and forms.is_name(name) else checks.shown(name) for name in names
-    ) or "none"
+    shown = (one if isinstance(one, str) and forms.is_name(one) else checks.shown(one) for one in names)
+    return ", ".join(shown) or "none"
 
 
-# Points. Changes often have the same ones, and pandas takes long for a single one.
+def in_python(reason: object) -> str:
+    """Returns a message of the tools with parameters instead of options, and commits instead of lines."""
+    text = str(reason)
+    for word, parameter in PARAMETERS:
+        text = text.replace(word, parameter)
+    return text[2:] if text.startswith("--") else text
+
+
+@contextmanager
+def refusing() -> Iterator[None]:
+    """Within, a Misfit becomes Refused."""
+    try:
+        yield
+    except Misfit as misfit:
+        raise Refused("BadCommand", in_python(misfit)) from None
+
+
+# Points. Changes often have the same ones, and pandas and numpy take long for a single one.
 
 text_of = lru_cache(maxsize=1024)(points.text_of)
 
@@ -368,16 +382,17 @@ def refuse_type(column: Values, value: Any) -> None:
     """Raises Refused if the value has another type than the column's."""
     if column.digits is not None:
         is_right = checks.is_whole(value) or isinstance(value, (float, np.floating, Decimal))
-        wanted, remedy = f"numbers of {column.digits} decimals", "decimal.Decimal(..) makes a number of a text"
+        wanted = f"numbers of {column.digits} decimals; decimal.Decimal(..) makes a number of a text"
     elif column.kind == "text":
-        is_right, wanted, remedy = isinstance(value, str), "texts", "str(..) makes a text"
+        is_right, wanted = isinstance(value, str), "texts; str(..) makes a text of a number"
     elif values.is_bool(column.dtype):
-        is_right, wanted, remedy = checks.is_flag(value), "True and False", "bool(..) converts a number"
+        is_right, wanted = checks.is_flag(value), "True and False; bool(..) converts a number"
     else:
-        is_right, wanted = checks.is_whole(value), "whole numbers"
-        remedy = f"decimals={{{column.name!r}: 2}}, when the table is made, takes others"
+        is_right = checks.is_whole(value)
+        others = f"decimals={{{column.name!r}: 2}}, when the table is made, takes others"
+        wanted = f"whole numbers; int(..) makes one of a text; {others}"
     if not is_right:
-        raise Refused("WrongKind", f"{checks.shown(value)}: the column has {wanted}; {remedy}", column.name)
+        raise Refused("WrongKind", f"{checks.shown(value)}: the column has {wanted}", column.name)
 
 
 def series_of(column: Values, value: Any) -> Any:

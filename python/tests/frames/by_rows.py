@@ -6,7 +6,7 @@ list of names and a list of rows, or None where some column has no name of its o
 from fractions import Fraction
 from typing import NamedTuple
 
-OPEN = 40
+OPEN = 60
 FUNCTIONS = {
     "count": len, "sum": sum, "min": min, "max": max, "mean": lambda one: Fraction(sum(one)) / len(one),
 }
@@ -62,21 +62,35 @@ class Kept(NamedTuple):
 
 
 def join(frames, given):
-    """given has periods and on, of each frame; how and suffixes; and whether compared columns are shared."""
-    left, right = (
-        list(zip(periods(frame, period), keys(frame, on))) for frame, period, on in zip(frames, given.periods, given.on)
-    )
-    found = [
-        (max(one[0], two[0]), min(one[1], two[1]), row, other)
-        for row, (one, key) in enumerate(left) for other, (two, other_key) in enumerate(right)
-        if key == other_key and max(one[0], two[0]) < min(one[1], two[1])
-    ]
+    """given has periods and on, of each frame; how, suffixes, and whether the rows' own periods are kept."""
+    left, right = keyed(frames, given)
+    found = pairs(left, right)
     if given.how in ("left", "outer"):
         found += [(start, end, row, NONE) for row, start, end in unmet(left, right)]
     if given.how in ("right", "outer"):
         found += [(start, end, NONE, row) for row, start, end in unmet(right, left)]
     found.sort(key=lambda row: [LAST if one == NONE else one for one in row])
     return side_by_side(frames, found, given)
+
+
+def keyed(frames, given):
+    """The rows of each frame as pairs of a period and a key."""
+    columns = zip(frames, given.periods, given.on)
+    return [list(zip(periods(frame, period), keys(frame, on))) for frame, period, on in columns]
+
+
+def pairs(left, right):
+    """Start, end, and the indices of each pair of rows with one key that share days."""
+    return [
+        (max(one[0], two[0]), min(one[1], two[1]), row, other)
+        for row, (one, key) in enumerate(left) for other, (two, other_key) in enumerate(right)
+        if key == other_key and max(one[0], two[0]) < min(one[1], two[1])
+    ]
+
+
+def joined(left, right):
+    """The sorted pairs of rows that are each a start, an end and a key."""
+    return sorted(pairs(*([(row[:2], row[2]) for row in rows] for rows in (left, right))))
 
 
 def side_by_side(frames, found, given):
@@ -87,12 +101,13 @@ def side_by_side(frames, found, given):
         for is_end, name in enumerate(given.periods[side]):
             own = [Kept(side, bool(is_end), day) for day in cells(frame, name)]
             columns.append((name, given.suffixes[side], taken(own, places[side])))
+    shared = [one for one, other in zip(*given.on) if is_same(one, other)]
     for side, frame in enumerate(frames):
-        away = [*given.periods[side], *(given.on[1] if side and given.is_shared else [])]
+        away = [*given.periods[side], *(shared if side else [])]
         for name, values in frame:
             if not times(away, name):
                 own = taken(values, places[side])
-                if side == 0 and given.is_shared and times(given.on[0], name):
+                if side == 0 and times(shared, name):
                     own = either(values, cells(frames[1], name), places)
                 columns.append((name, given.suffixes[side], own))
     return answer(columns)
@@ -129,9 +144,7 @@ def runs(days):
 
 
 def anti(frames, given):
-    left, right = (
-        list(zip(periods(frame, period), keys(frame, on))) for frame, period, on in zip(frames, given.periods, given.on)
-    )
+    left, right = keyed(frames, given)
     ends = [place(frames[0], name) for name in given.periods[0]]
     rows = []
     for row, one, two in unmet(left, right):
@@ -147,20 +160,25 @@ def order(group):
 
 def agg(frame, measures, given):
     """measures: pairs of a function and its columns; if rows are counted, the columns are None."""
-    groups, rows = keys(frame, given.on[0]), []
     amounts = [frame[0][1] if column is None else cells(frame, column[0]) for _, column in measures]
-    held = list(zip(periods(frame, given.periods[0]), groups, zip(*amounts)))
-    for group in sorted(set(groups), key=order):
-        days = [
-            [own for (start, end), other, own in held if other == group and start <= day < end] for day in range(OPEN)
-        ]
-        values = [
-            tuple(FUNCTIONS[one](column) for (one, _), column in zip(measures, zip(*day))) or None for day in days
-        ]
-        rows += [[*group, start, end, *value] for start, end, value in runs(values)]
+    held = list(zip(periods(frame, given.periods[0]), keys(frame, given.on[0]), zip(*amounts)))
+    values = lambda day: tuple(FUNCTIONS[one](column) for (one, _), column in zip(measures, zip(*day)))  # noqa: E731
+    rows = [[*found, *value] for *found, value in by_group(held, values)]
     names = [function if column is None else f"{function}_{column[0]}" for function, column in measures]
     names = [*given.on[0], *given.periods[0], *names]
     return (names, rows) if all(times(names, name) == 1 for name in names) else None
+
+
+def by_group(held, value_of):
+    """Group, start, end and value of each longest run of days with one value of a group's rows.
+
+    held: the period, the group and the amount of each row.
+    """
+    for group in sorted({group for _, group, _ in held}, key=order):
+        days = [[own for (start, end), other, own in held if other == group and start <= day < end]
+                for day in range(OPEN)]
+        for found in runs([value_of(day) if day else None for day in days]):
+            yield (*group, *found)
 
 
 def by_groups(frame, given, days_of):
@@ -228,12 +246,8 @@ def wholes(sums, found):
 
 
 def overlaps(frame, given):
-    rows = list(zip(periods(frame, given.periods[0]), keys(frame, given.on[0])))
-    found = sorted(
-        (max(one[0], two[0]), min(one[1], two[1]), row, other)
-        for other, (two, other_key) in enumerate(rows) for row, (one, key) in enumerate(rows[:other])
-        if key == other_key and max(one[0], two[0]) < min(one[1], two[1])
-    )
+    rows, _ = keyed([frame, frame], given)
+    found = sorted(row for row in pairs(rows, rows) if row[2] < row[3])
     return side_by_side([frame, frame], found, given)
 
 

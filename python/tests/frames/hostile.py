@@ -1,4 +1,4 @@
-"""What hypothesis draws: frames whose columns have the names of answers, or hardly any, and options of wrong types."""
+"""What hypothesis draws: frames whose columns have the names of answers, or hardly any."""
 import datetime
 from dataclasses import dataclass, field
 from typing import Any
@@ -16,7 +16,8 @@ TEXTS = [
 ]
 ODD = [7, -1, 1.5, None, ("id", "a"), ("id",), datetime.date(2024, 1, 1), pd.NaT]
 NAMES = st.sampled_from(TEXTS) | st.sampled_from([*TEXTS, *ODD])
-KEYS = [st.sampled_from([1, 2]), st.booleans()]
+# Numbers that are far apart. Floats hold them, which a missing cell makes of them.
+KEYS = [st.sampled_from([1, 2]), st.booleans(), st.sampled_from([-2**63, 0, 4_000_000, 3 * 2**50, 2**62])]
 KEYS += [st.sampled_from(["", "a", "A", " a", "é", "e\u0301", 'a"b', "a,b", "001", "1", "a\0"])]
 OTHERS = st.sampled_from([None, (1, 2), "x", "", 7, 1.5, datetime.date(2024, 1, 1)])
 FIRST = datetime.date(2024, 1, 1)
@@ -26,41 +27,10 @@ DAYS = {
     "ns": pd.Timestamp, "date": lambda one: one, "D": lambda one: pd.Period(one, "D"),
     "zone": lambda one: pd.Timestamp(one + SPRING, tz=ZONE.tz),
 }
-FRAME = pd.DataFrame({"from": [pd.Timestamp("2024-01-01")], "to": [pd.Timestamp("2024-01-02")], "id": [1]})
-NO_FRAMES = [None, [1], {"from": [1]}, FRAME["id"], "pay.csv", 5, FRAME.to_numpy(), FRAME.index]
-NO_FLAGS = ["no", "", 1, 0, None, (True, False), np.int64(1), [], np.array([True])]
-NO_NAMES = [True, {"id": 1}, {"id"}, pd.Index(["id"]), FRAME["id"], (name for name in ["id"]), [["id"]], [True], FRAME]
-NO_PAIRS = ["ab", ("from",), ("from", "to", "id"), ("from", "from"), 5, ("from", ["to"]), {"from": "to"}, FRAME.columns]
-WRONG = {
-    "period": [*NO_PAIRS, None], **dict.fromkeys(("left_period", "right_period"), NO_PAIRS), "keep_periods": NO_FLAGS,
-    "open_end": NO_FLAGS, "last_day": NO_FLAGS,
-    "on": NO_NAMES, "by": NO_NAMES, "left_on": [*NO_NAMES, ["id", "id", "id"]],
-    "suffixes": ["", "_l", (), ("_l",), ("_l", "_r", "_s"), (1, 2), None, {"_l": "_r"}, (b"_l", "_r")],
-    "workers": [0, -1, 65, True, 1.0, "4", None, [4]],
-    "decimals": [2, "id", None, [("id", 2)], {"id": 2.0}, {"id": True}, {"id": -1}, {"id": 19}, {"id": None}],
-    "onn": ["id"], "how": ["", "Left", "cross", True, None, ["left"], 1],
-    "each": ["", "month", "m", "MQ", None, ["M"]], "exact": NO_FLAGS,
-    "amount": ["", None, "total", "month", "per Month", "per decade", 1, ["in total"]],
-    "within": ["2024", 5, (FIRST,), {FIRST: FIRST}, (None, None), (FIRST, FIRST)],
-    "progress": [one for one in NO_FLAGS if one is not None],
-}
-OF_ALL = ["period", "open_end", "last_day", "workers", "progress", "onn"]
-OF_PAIRS = ["right_period", "left_period", "on", "left_on", "decimals"]
-OF_CALL = {
-    "join": [*OF_PAIRS, "suffixes", "how", "keep_periods"],
-    "anti": OF_PAIRS, "agg": ["by", "decimals"],
-    "at": [], "dip": ["by", "decimals"],
-    **dict.fromkeys(("coalesce", "gaps"), ["by", "decimals"]),
-    "spread": ["by", "decimals", "amount", "each", "exact", "within"],
-    "overlaps": ["by", "decimals", "suffixes", "keep_periods"],
-}
 # Calls of two frames; the others are of the first one.
 OF_TWO = ("join", "anti")
-NO_FUNCTIONS = [
-    ("summ", "id"), (None, None), (["sum"], "id"), ("Count", None), ("sum", None), ("count", "id"), ("sum", ["id"]),
-    ({},), ({"id": "sum"}, "id"), ({"id": ["sum", "sum"]},), ({"id": []},), ({"id": {"sum"}},), ({None: "count"},),
-]
-AMOUNTS = [st.integers(-3, 3), st.booleans(), st.sampled_from([0.25, -1.5, 2.75])]
+GREAT = st.sampled_from([2**63 - 1, -2**63, 2**62, 2**53, 2**53 + 1, -2**53 - 1, 3 * 2**50])
+AMOUNTS = [st.integers(-3, 3), GREAT, st.booleans(), st.sampled_from([0.25, -1.5, 2.75])]
 # What an amount is.
 WHAT = st.sampled_from(["in total", *(f"per {piece}" for piece in ("day", "week", "month", "quarter", "year"))])
 HOWS = st.sampled_from(["inner", "left", "right", "outer"])
@@ -222,8 +192,6 @@ def cases(draw, call):
         draw_asked(draw, case, amount)
     if call == "spread":
         draw_pieces(draw, case, amount)
-    if rarely(draw):
-        make_wrong(draw, call, case)
     return case
 
 
@@ -249,7 +217,7 @@ def options(draw, call, case, are_open):
         found.update(suffixes=several(case.suffixes), keep_periods=flag(case.keeps_periods))
     if call == "join":
         found["how"] = case.how
-    if "by" in OF_CALL[call]:
+    if call not in (*OF_TWO, "at"):
         found["by"] = one_or_all(draw, case.on[0], several)
     if draw(st.booleans()):
         found["workers"] = draw(st.sampled_from([1, np.int64(2)]))
@@ -272,7 +240,7 @@ def compared(draw, case, several):
 
 
 def draw_asked(draw, case, amount):
-    """A function and its column, or a dict of several; rarely none that is. Among measures a column is in a tuple."""
+    """A function and its column, or a dict of several. Among measures a column is in a tuple."""
     functions = draw(st.lists(st.sampled_from(sorted(by_rows.FUNCTIONS)), min_size=1, max_size=4, unique=True))
     keys = [(name, "count") for name in case.on[0] if name is not None and draw(st.booleans())]
     if draw(st.booleans()):
@@ -285,8 +253,6 @@ def draw_asked(draw, case, amount):
     cells = by_rows.cells(case.columns[0], amount)
     if dtype_of(cells) == "float64" and any(one != "count" for one, _ in case.measures):
         case.options["decimals"] = {amount: draw(st.sampled_from([2, 3, np.int8(2)]))}
-    if rarely(draw):
-        case.asked, case.is_right = draw(st.sampled_from(NO_FUNCTIONS)), False
 
 
 def draw_pieces(draw, case, amount):
@@ -294,14 +260,3 @@ def draw_pieces(draw, case, amount):
     case.options.update(amount=draw(WHAT), each=draw(st.sampled_from("DWMQY")), exact=draw(st.booleans()))
     if dtype_of(by_rows.cells(case.columns[0], amount)) == "float64":
         case.options["decimals"] = {amount: 2}
-
-
-def make_wrong(draw, call, case):
-    """One option, or a frame, of a wrong type."""
-    case.is_right = False
-    if draw(st.booleans()):
-        name = draw(st.sampled_from([*OF_ALL, *OF_CALL[call]]))
-        case.options[name] = draw(st.sampled_from(WRONG[name]))
-    else:
-        place = draw(st.integers(0, 1 if call in OF_TWO else 0))
-        case.frames[place] = draw(st.sampled_from(NO_FRAMES))

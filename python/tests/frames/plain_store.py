@@ -1,9 +1,13 @@
-"""A store of several tables, computed plainly: rows are dicts, times are seconds, and each pair of rows is compared.
+"""A store of several tables, computed plainly: rows are dicts, and times are numbers.
 
 Nothing here uses the package. A call answers a list of names and a list of rows, or REFUSED if it must be refused.
 """
 import copy
 from collections import Counter
+
+import numpy as np
+
+import plainly
 
 REFUSED = "refused"
 
@@ -137,10 +141,9 @@ def join(sides, pairs, shared, suffixes, how="inner"):
                 start, end = max(one["start"], other["start"]), min(one["end"], other["end"])
                 found.append((start, end, one, other))
     if how in ("left", "outer"):
-        found += [(*part, one, None) for one in lefts for part in free_parts(one, rights, pairs)]
+        found += [(*part, None) for part in free_parts(lefts, rights, pairs)]
     if how in ("right", "outer"):
-        turned = [(b, a) for a, b in pairs]
-        found += [(*part, None, other) for other in rights for part in free_parts(other, lefts, turned)]
+        found += [(*part, None, other) for *part, other in free_parts(rights, lefts, [(b, a) for a, b in pairs])]
     found.sort(key=lambda pair: (*pair[:2], *(10**9 if row is None else row["id"] for row in pair[2:])))
     rest = [name for name in right.names if name not in shared]
     given = [*((name, None) for name in (*left.period, "left_id", "right_id")),
@@ -159,63 +162,41 @@ def cells_of_pair(left, rest, shared, one, other):
     return [*mine, *(other and other["values"][name] for name in rest)]
 
 
-def free_parts(one, others, pairs):
-    """The times of a row without the times of all other rows that have equal values in the pairs of columns."""
-    free = [(one["start"], one["end"])]
-    for other in others:
-        if all(one["values"][a] == other["values"][b] for a, b in pairs):
-            free = [part for own in free for part in without(own, (other["start"], other["end"]))]
-    return sorted(free)
+def times(rows):
+    return tuple(np.array([row[side] for row in rows], np.int64) for side in ("start", "end"))
+
+
+def keys(rows, names):
+    array = np.empty(len(rows), object)
+    array[:] = [tuple(row["values"][name] for name in names) for row in rows]
+    return array
+
+
+def free_parts(rows, others, pairs):
+    """Start, end and row for the times of rows when no other row with equal values in the pairs of columns holds."""
+    own = keys(rows, [a for a, _ in pairs]), keys(others, [b for _, b in pairs])
+    return [(start, end, rows[place]) for place, start, end in plainly.anti(times(rows), times(others), *own)]
 
 
 def anti(sides, pairs):
     (left, lefts), (_, rights) = sides
-    found = []
-    for one in lefts:
-        found += [[one["id"], *part, *left.cells(one)] for part in free_parts(one, rights, pairs)]
+    found = [[one["id"], *part, *left.cells(one)] for *part, one in free_parts(lefts, rights, pairs)]
     return apart(["row_id", *left.period, *left.names]), found
-
-
-def without(own, other):
-    parts = [(own[0], min(own[1], other[0])), (max(own[0], other[1]), own[1])]
-    return [part for part in parts if part[0] < part[1]] if own[0] < other[1] and other[0] < own[1] else [own]
 
 
 def agg(table, shown, function, column, by):
     names = [*by, *table.period, function if column is None else f"{function}_{column}"]
     if len(set(names)) < len(names):
         return REFUSED
-    found = []
-    for group in sorted({tuple(row["values"][name] for name in by) for row in shown}):
-        mine = [row for row in shown if tuple(row["values"][name] for name in by) == group]
-        found += [[*group, *step] for step in steps(mine, function, column)]
-    return names, found
-
-
-def steps(rows_of, function, column):
-    cuts = sorted({row[side] for row in rows_of for side in ("start", "end")})
-    found = []
-    for start, end in zip(cuts, cuts[1:]):
-        held = [row["values"].get(column) for row in rows_of if row["start"] <= start and end <= row["end"]]
-        if held:
-            value = {"count": len, "sum": sum, "min": min, "max": max}[function](held)
-            if found and found[-1][1] == start and found[-1][2] == value:
-                found[-1][1] = end
-            else:
-                found.append([start, end, value])
-    return found
+    amounts = [row["values"].get(column) for row in shown]
+    return names, list(map(list, plainly.agg(times(shown), keys(shown, by).tolist(), function, amounts)))
 
 
 def dip(shown):
     """part and id, by part and start, and how many parts there are."""
-    parts = []
-    for row in sorted(shown, key=lambda row: (row["start"], row["end"], row["id"])):
-        free = [(part[-1]["end"], place) for place, part in enumerate(parts) if part[-1]["end"] <= row["start"]]
-        if free:
-            parts[min(free)[1]].append(row)
-        else:
-            parts.append([row])
-    return [[place, row["id"]] for place, part in enumerate(parts) for row in part], len(parts)
+    parts, count, _ = plainly.dip(times(shown))
+    found = sorted((part, row["start"], row["id"]) for part, row in zip(parts, shown))
+    return [[part, row_id] for part, _, row_id in found], count
 
 
 def apart(names):

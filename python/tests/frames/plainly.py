@@ -1,6 +1,6 @@
-"""The answers computed plainly, with numpy and Python's datetimes; nothing here is of the package.
+"""Answers of stores computed plainly, with numpy and Python's datetimes; nothing here is of the package.
 
-A frame's periods are counted in seconds from year 1 on, by Python's own calendar; each pair of rows is compared.
+A frame's periods are counted in seconds from year 1 on, by Python's own calendar.
 """
 import datetime
 
@@ -37,28 +37,11 @@ def periods(frame, names, is_last_day=False):
     return numbers(frame[names[0]]), numbers(frame[names[1]], int(is_last_day))
 
 
-def keys(frame, names):
-    """An array of tuples; with no names all are the same."""
-    rows = list(zip(*(frame[name].tolist() for name in names))) if names else [()] * len(frame)
-    array = np.empty(len(rows), object)
-    array[:] = rows
-    return array
-
-
 def equal(left, right):
     """Which left row is equal to which right one, by Python's own comparison."""
     found = {key: place for place, key in enumerate(dict.fromkeys([*left, *right]))}
     codes = [np.array([found[key] for key in side], np.int64) for side in (left, right)]
     return codes[0][:, None] == codes[1][None, :]
-
-
-def join(left, right, left_keys, right_keys):
-    """Start, end, and the indices of the left and the right row; left and right are pairs of arrays of numbers."""
-    start = np.maximum(left[0][:, None], right[0][None, :])
-    end = np.minimum(left[1][:, None], right[1][None, :])
-    rows, others = np.nonzero((start < end) & equal(left_keys, right_keys))
-    found = zip(start[rows, others].tolist(), end[rows, others].tolist(), rows.tolist(), others.tolist())
-    return sorted(found)
 
 
 def anti(left, right, left_keys, right_keys):
@@ -116,54 +99,3 @@ def dip(times):
     counts = ((times[0][:, None] <= times[0]) & (times[0] < times[1][:, None])).sum(axis=0)
     most = [second for second, count in zip(times[0].tolist(), counts) if count == len(ends)]
     return [parts[place] for place in range(len(times[0]))], len(ends), min(most, default=None)
-
-
-class Store:
-    """One table with changes: its versions of rows as dicts, and the log."""
-
-    def __init__(self):
-        self.versions, self.commit, self.log = [], 0, []
-
-    def shown(self, commit):
-        made = [one for one in self.versions if one["made"] <= commit]
-        return [one for one in made if one["closed"] is None or commit < one["closed"]]
-
-    def add(self, start, end, values):
-        row_id = len(self.versions) + 1
-        self.versions.append(dict(id=row_id, start=start, end=end, values=values, made=self.commit, closed=None))
-
-    def make(self):
-        self.commit += 1
-        self.log.append((self.commit, 1, "table", "t", 0, 0))
-
-    def load(self, rows):
-        self.commit += 1
-        for row in rows:
-            self.add(*row)
-        self.log.append((self.commit, 1, "load", "t", len(rows), 0))
-
-    def change(self, word, start, end, where, to=None):
-        """An update, or with no new values a delete."""
-        hit = [one for one in self.shown(self.commit) if one["start"] < end and start < one["end"]
-               and all(one["values"][name] == value for name, value in where.items())]
-        self.commit += 1
-        before = len(self.versions)
-        for one in hit:
-            self.replace(one, start, end, to)
-        self.log.append((self.commit, 1, word, "t", len(self.versions) - before, len(hit)))
-
-    def replace(self, one, start, end, to):
-        one["closed"] = self.commit
-        if one["start"] < start:
-            self.add(one["start"], start, dict(one["values"]))
-        if to is not None:
-            self.add(max(start, one["start"]), min(end, one["end"]), {**one["values"], **to})
-        if end < one["end"]:
-            self.add(end, one["end"], dict(one["values"]))
-
-    def has_overlap(self, key):
-        rows = self.shown(self.commit)
-        return any(
-            one["id"] < other["id"] and one["start"] < other["end"] and other["start"] < one["end"]
-            and all(one["values"][name] == other["values"][name] for name in key) for one in rows for other in rows
-        )

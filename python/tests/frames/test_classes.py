@@ -1,4 +1,4 @@
-"""Classes and the rows that are sent, compared with Python's own order of UTF-8; some texts look alike."""
+"""Texts that look alike don't match; and the rows that a store sends, compared with Python's own texts."""
 import unittest
 import warnings
 
@@ -9,8 +9,7 @@ from hypothesis import strategies as st
 
 import ruzgalt
 from ruzgalt.convert import points, values
-from ruzgalt.frames import sides
-from ruzgalt.frames.sides import Side, with_codes
+from ruzgalt.frames.sides import Side
 from ruzgalt.store import tables as script
 
 
@@ -29,57 +28,9 @@ TEXTS = [
     'a"b', "a,b", "a\nb", "\ufeff", "\ufeffa", "😀", "\uffff", "\U00010000", "x" * 4096, Folded("A"), Folded("a"),
 ]
 NUMBERS = [-2**63, 2**63 - 1, -1, 0, 1, 9, 10, 10**6, -10**6, 2**53, 2**53 + 1]
-SIDES = st.integers(1, 3).flatmap(lambda count: st.tuples(
-    st.tuples(*[st.sampled_from(["int", "text"])] * count),
-    *[st.lists(st.tuples(*[st.integers(0, 10)] * count), max_size=8)] * 2,
-))
-
-
-def cell(kind, place):
-    return {"int": NUMBERS, "text": TEXTS}[kind][place]
-
-
-def bare(value):
-    """What the program would compare."""
-    return str.encode(value) if isinstance(value, str) else value
-
-
-def side_of(kinds, rows):
-    cells = [[cell(kind, row[place]) for row in rows] for place, kind in enumerate(kinds)]
-    dtypes = {"int": "int64", "text": object}
-    columns = [values.values_of(pd.Series(own, dtype=dtypes[kind])) for kind, own in zip(kinds, cells)]
-    times = np.zeros(len(rows), np.int64)
-    return Side(times, times + points.DAY, columns), list(zip(*(map(bare, own) for own in cells)))
 
 
 class Classes(unittest.TestCase):
-    @settings(deadline=None)
-    @given(SIDES)
-    def test_they_are_equal_where_the_values_are(self, case):
-        kinds, *rows = case
-        sides, keys = zip(*(side_of(kinds, own) for own in rows))
-        found = [side.columns for side in with_codes(sides)]
-        self.assertEqual([[column.kind for column in columns] for columns in found], [["int"], ["int"]])
-        codes = [code for columns in found for code in columns[0].codes.tolist()]
-        flat = [*keys[0], *keys[1]]
-        wanted = [one == other for one in flat for other in flat]
-        self.assertEqual([one == other for one in codes for other in codes], wanted)
-
-    @settings(deadline=None)
-    @given(SIDES)
-    def test_sorted_they_rise_with_the_values(self, case):
-        side, keys = side_of(case[0], case[1])
-        found = sides.codes_of(([column] for column in side.columns), sort=True)[0].tolist()
-        wanted = [one < other for one in keys for other in keys]
-        self.assertEqual([one < other for one in found for other in found], wanted)
-
-    def test_many_are_numbered_anew(self):
-        far = values.Values(None, "int", np.array([0, 10**12, -10**12, 10**12, 5], np.int64))
-        near = values.Values(None, "int", np.array([0, 4_000_000, 0, 4_000_001, 0], np.int64))
-        self.assertEqual(sides.codes_of([[far]], sort=True)[0].tolist(), [1, 3, 0, 3, 2])
-        numbers, bound = sides.codes_of([[far], [near]] * 3, sort=True)
-        self.assertEqual((numbers.tolist(), bound), ([1, 3, 0, 4, 2], 5))
-
     def test_texts_that_look_alike_do_not_meet(self):
         day = pd.to_datetime
         rows = {"from": day("2024-01-01"), "to": day("2024-02-01")}

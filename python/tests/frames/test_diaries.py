@@ -1,20 +1,15 @@
 """Labels and days of a store's commits: their meaning, refusals, and the table that keeps them."""
 import copy
 import datetime
-import io
 import pickle
-import subprocess
-import sys
-import tempfile
 import unittest
-from pathlib import Path
 
 import numpy as np
 import pandas as pd
 
 import ruzgalt
+import store_case
 
-TOP = Path(__file__).resolve().parents[3]
 DAY = pd.to_datetime
 HOSTILE = ["a,b", 'a "b"', "a\nb", "a\r\nb", "a\0b", "\u00e9", "e\u0301", " July ", "July", "row", "end", "2024-07",
            "1.5", "=1+1", "x" * 4096, "nan", "None", "as_of", "\U0001f600", "\ufeff"]
@@ -33,19 +28,14 @@ def frame(*keys, start="2024-01-01"):
 
 
 def store(**words):
-    made = ruzgalt.Store()
-    made.table("t", frame(), **words)
-    return made
+    return store_case.store(frame(), **words)
 
 
-class Case(unittest.TestCase):
-    def refuses(self, call, name, *words):
-        with self.assertRaises(ruzgalt.Refused) as caught:
-            call()
-        self.assertEqual(caught.exception.name, name, caught.exception)
-        for word in words:
-            self.assertIn(word, caught.exception.reason)
+def update(made, number, **words):
+    return made.update("t", "2024-02-01", None, {"n": number}, {"k": "a"}, **words)
 
+
+class Case(store_case.Case):
     def same(self, made, as_of, number):
         pd.testing.assert_frame_equal(made.rows("t", as_of), made.rows("t", number))
 
@@ -67,7 +57,7 @@ class Labels(Case):
     def test_every_change_takes_one_and_every_question(self):
         made = store(label="made", key="k")
         made.load("t", frame("c", "d"), label="loaded")
-        made.update("t", "2024-02-01", None, {"n": 7}, {"k": "a"}, label="updated")
+        update(made, 7, label="updated")
         made.update_rows("t", frame("a", "b", start="2024-03-01"), label="rows")
         made.delete("t", "2024-09-01", None, {"k": "b"}, label="deleted")
         made.raise_by("t", "n", 100, "2024-10-01", where={"k": "d"}, label="raised")
@@ -81,7 +71,7 @@ class Labels(Case):
     def test_hostile_ones_are_kept_as_they_are(self):
         made = store()
         for place, label in enumerate(HOSTILE):
-            made.update("t", "2024-02-01", None, {"n": place}, {"k": "a"}, label=label)
+            update(made, place, label=label)
         made.table("diary", made.diary())
         for one in (made, copy.copy(made), pickle.loads(pickle.dumps(made)),
                     ruzgalt.Store.from_script(bytes(made.script()), diary="diary")):
@@ -89,47 +79,36 @@ class Labels(Case):
                 self.assertEqual(one.at("t", "2024-03-01", label)["n"].max(), max(place, 1), label)
             self.assertEqual(one.diary()["label"].tolist(), HOSTILE)
 
-    def test_wrong_labels_are_refused_and_nothing_is_changed(self):
-        made = store(label="first")
+    def test_wrong_labels_and_days_are_refused_and_nothing_is_changed(self):
+        made = store(label="first", day="2024-01-10", key="k")
         before = made.script()
         for label, name in NO_LABELS:
             with self.subTest(repr(label)[:20]):
                 self.refuses(lambda: made.load("t", frame("c"), label=label), name, "label=")
                 self.refuses(lambda: made.batch(label=label), name)
-        self.refuses(lambda: made.load("t", frame("c"), label="first"), "TwiceNamed", "commit 2", "another one")
-        self.refuses(lambda: made.raise_by("t", "n", 5, "2024-07-01", dry_run=True, label="first"), "TwiceNamed")
+        for day, name in (("soon", "BadPoint"), (5, "WrongKind"), ("9999-12-31", "BadPoint"),
+                          (pd.Timestamp("2024-02-01", tz="UTC"), "WrongKind")):
+            self.refuses(lambda: made.load("t", frame("c"), day=day), name)
+        for call, name, *words in (
+            (lambda: made.load("t", frame("c"), label="first"), "TwiceNamed", "commit 2", "another one"),
+            (lambda: made.raise_by("t", "n", 5, "2024-07-01", dry_run=True, label="first"), "TwiceNamed"),
+            (lambda: made.load("t", frame("c"), day="2024-01-09"), "BadPoint", "commit 2", "can't go back"),
+            (lambda: made.load("t", frame(), label="more"), "KeyOverlap"),
+            (lambda: made.update_rows("t", frame().iloc[:0], label="none"), "BadCommand", "makes none"),
+            (lambda: made.raise_by("t", "n", 5, "2030-01-01", label="none"), "BadCommand", "makes none"),
+        ):
+            self.refuses(call, name, *words)
+        for words in ({"label": "first"}, {"day": "2024-01-09"}, {"label": "none"}):
+            with self.assertRaises(ruzgalt.Refused), made.batch(**words):
+                pass
         self.assertEqual((made.script(), len(made.diary())), (before, 1))
-
-    def test_a_batch_and_its_last_change_have_labels_of_their_own(self):
-        made = store()
-        with self.assertRaisesRegex(ruzgalt.Refused, "'a' already names commit 3"):
-            with made.batch(label="a"):
-                made.load("t", frame("c"), label="a")
-        with made.batch(label="a", day="2024-03-01"):
-            made.load("t", frame("c"), label="b")
-        self.assertEqual(made.diary()["label"].tolist(), ["b", "a"])
-        made.table("diary", made.diary())
-        again = ruzgalt.Store.from_script(bytes(made.script()), diary="diary")
-        self.assertEqual(again.diary()["label"].tolist(), ["b", "a"])
-
-    def test_a_refused_change_leaves_its_label_free(self):
-        made = store(key="k")
-        self.refuses(lambda: made.load("t", frame(), label="more"), "KeyOverlap")
         self.assertEqual(made.load("t", frame("c"), label="more").commit, 3)
-
-    def test_a_label_of_no_commit_is_refused(self):
-        made = store(key="k")
-        self.refuses(lambda: made.update_rows("t", frame().iloc[:0], label="none"), "BadCommand", "makes none")
-        self.refuses(lambda: made.raise_by("t", "n", 5, "2030-01-01", label="none"), "BadCommand", "makes none")
-        with self.assertRaises(ruzgalt.Refused), made.batch(label="none"):
-            pass
-        self.assertEqual(len(made.diary()), 0)
 
     def test_an_unknown_one_is_refused_with_those_that_are_there(self):
         made = store()
         self.refuses(lambda: made.rows("t", "july"), "NoLabel", "label= of changes")
         for week in range(12):
-            made.update("t", "2024-02-01", None, {"n": week}, {"k": "a"}, label=f"Payslips, week {week}")
+            update(made, week, label=f"Payslips, week {week}")
         self.refuses(lambda: made.rows("t", "payslips, week 11"), "NoLabel", "'Payslips, week 11' looks alike",
                      "and 2 more")
         self.refuses(lambda: made.at("t", "2024-02-01", "Payslip, week 5"), "NoLabel", "looks alike")
@@ -140,10 +119,10 @@ class Labels(Case):
 class Days(Case):
     def test_the_newest_commit_at_midnight_is_meant(self):
         made = store(day="2024-01-10")
-        made.update("t", "2024-02-01", None, {"n": 5}, {"k": "a"})
-        made.update("t", "2024-02-01", None, {"n": 6}, {"k": "a"}, day=datetime.date(2024, 2, 10))
-        made.update("t", "2024-02-01", None, {"n": 7}, {"k": "a"}, day=pd.Timestamp("2024-02-10"))
-        made.update("t", "2024-02-01", None, {"n": 8}, {"k": "a"}, day="2024-02-11T12:00:00")
+        update(made, 5)
+        update(made, 6, day=datetime.date(2024, 2, 10))
+        update(made, 7, day=pd.Timestamp("2024-02-10"))
+        update(made, 8, day="2024-02-11T12:00:00")
         for day, number in (
             ("2024-01-10", 2), (datetime.date(2024, 2, 9), 2), (DAY("2024-02-10"), 5), (np.datetime64("2024-02-11"), 5),
             (pd.Period("2024-02-12", "D"), 6), ("2024-02-11T11:59:59", 5), (datetime.datetime(2024, 2, 11, 12), 6),
@@ -155,14 +134,6 @@ class Days(Case):
         self.refuses(lambda: made.rows("t", "2024-01-09"), "NoDay", "2024-01-10")
         self.refuses(lambda: store().rows("t", "2024-01-09"), "NoDay", "day=")
         self.refuses(lambda: made.rows("t", pd.Period("2024-01", "M")), "WrongKind")
-
-    def test_days_do_not_go_back(self):
-        made = store(day="2024-01-10")
-        self.refuses(lambda: made.load("t", frame("c"), day="2024-01-09"), "BadPoint", "commit 2", "can't go back")
-        for day, name in (("soon", "BadPoint"), (5, "WrongKind"), ("9999-12-31", "BadPoint"),
-                          (pd.Timestamp("2024-02-01", tz="UTC"), "BadPoint")):
-            self.refuses(lambda: made.load("t", frame("c"), day=day), name)
-        self.assertEqual((len(made.log()), len(made.diary())), (2, 1))
 
     def test_of_a_batch_each_change_may_have_its_own(self):
         made = store(day="2024-01-10", label="first")
@@ -177,12 +148,8 @@ class Days(Case):
         self.assertEqual(rows, [["2024-01-10", "2", "first"], ["2024-02-10", "3", "c"], ["2024-02-12", "4", "d"],
                                 ["2024-02-12", "5", "batch"]])
         before = made.script()
-        for words in ({"label": "d"}, {"day": "2024-02-11"}):
-            with self.assertRaises(ruzgalt.Refused), made.batch(**words):
-                self.fail("the batch begins")
-        with self.assertRaises(ruzgalt.Refused), made.batch(label="g"):
+        with self.assertRaisesRegex(ruzgalt.Refused, "'g' already names commit 6"), made.batch(label="g"):
             made.load("t", frame("g"), label="g")
-            made.load("t", frame("h"))
         self.assertEqual((made.script(), len(made.diary())), (before, 4))
 
 
@@ -199,9 +166,9 @@ class Kept(Case):
     def made(self):
         made = store(day="2024-01-10", key="k")
         made.load("t", frame("c"), label="c, without a day")
-        made.update("t", "2024-02-01", None, {"n": 5}, {"k": "a"}, day="2024-02-10", label='"July"')
-        made.update("t", "2024-02-01", None, {"n": 6}, {"k": "a"}, day="2024-02-10")
-        made.update("t", "2024-02-01", None, {"n": 7}, {"k": "a"}, label="last")
+        update(made, 5, day="2024-02-10", label='"July"')
+        update(made, 6, day="2024-02-10")
+        update(made, 7, label="last")
         return made
 
     def test_the_table_has_a_row_for_each_label_and_each_day(self):
@@ -219,7 +186,7 @@ class Kept(Case):
     def test_of_several_commits_of_a_day_the_last_has_its_row(self):
         made = store(day="2024-01-10")
         for number in range(2, 6):
-            made.update("t", "2024-02-01", None, {"n": number}, {"k": "a"}, day="2024-02-10")
+            update(made, number, day="2024-02-10")
         self.assertEqual(made.diary()["newest"].tolist(), [2, 6])
         made.table("diary", made.diary())
         again = ruzgalt.Store.from_script(made.script(), diary="diary")
@@ -242,25 +209,6 @@ class Kept(Case):
         again.load("diary", again.diary(after="last"))
         third = ruzgalt.Store.from_script(again.script(), diary="diary")
         pd.testing.assert_frame_equal(third.diary(), again.diary())
-
-    def test_an_empty_one_is_kept_too(self):
-        made = store()
-        made.table("diary", made.diary())
-        again = ruzgalt.Store.from_script(made.script(), diary="diary")
-        self.assertEqual(len(again.diary()), 0)
-
-    def test_the_tools_read_its_days(self):
-        made = self.made()
-        made.table("diary", made.diary())
-        with tempfile.TemporaryDirectory() as folder:
-            path = Path(folder, "t.csv")
-            made.save(path)
-            command = [sys.executable, "tools/answers", "history", path, "t", "--diary", "diary"]
-            ran = subprocess.run([*map(str, command)], cwd=TOP, capture_output=True, text=True, check=True)
-        printed = pd.read_csv(io.StringIO(ran.stdout))
-        days = dict(printed[["commit", "entered"]].dropna().values.tolist())
-        self.assertEqual(days, {2: "2024-01-10", 3: "2024-02-10", 4: "2024-02-10", 5: "2024-02-10"})
-        self.assertIn("commits without a day, which --retroactive leaves out: 6", ran.stderr)
 
     def test_a_diary_that_somebody_made_is_read(self):
         made = self.made()

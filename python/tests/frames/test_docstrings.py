@@ -1,10 +1,11 @@
 """The docstrings of the calls: their examples run, they have what a signature has, and docs/API.md is made of them."""
+import contextlib
 import copy
 import doctest
 import inspect
 import sys
+import tempfile
 import unittest
-from collections import defaultdict
 from pathlib import Path
 
 import pandas as pd
@@ -20,8 +21,6 @@ from manual.numpydoc import Docstring  # noqa: E402
 SUBJECTS = dict(api.subjects())
 SECTIONS = ("Parameters", "Returns", "Raises", "Warns", "Examples")
 CALLS = {name: subject for name, subject in SUBJECTS.items() if inspect.isroutine(subject)}
-# Parameters whose description is the same in all calls, except for a store's table, which keeps them.
-OPTIONS = ("period", "right_period", "open_end", "last_day", "as_of", "function", "column", "by")
 
 
 def parameters(call):
@@ -45,7 +44,8 @@ class Docstrings(unittest.TestCase):
         of_store = self.run_example("Store", dict(first))
         for name in SUBJECTS:
             of_methods = {**of_store, "store": copy.copy(of_store["store"])}
-            with self.subTest(name):
+            # Some write files.
+            with self.subTest(name), tempfile.TemporaryDirectory() as folder, contextlib.chdir(folder):
                 self.run_example(name, of_methods if name.startswith("Store.") else dict(first))
 
     def test_they_have_each_parameter_and_the_answer(self):
@@ -62,17 +62,6 @@ class Docstrings(unittest.TestCase):
             with self.subTest(name):
                 [first] = inspect.getdoc(subject).split("\n\n")[0].splitlines()
                 self.assertTrue(first.endswith("."), first)
-
-    def test_an_option_is_described_alike_everywhere(self):
-        texts = defaultdict(set)
-        for call in (one for name, one in CALLS.items() if name != "Store.table"):
-            for entry in Docstring(call).entries("Parameters"):
-                for name in entry.names:
-                    texts[name, entry.kind].add(entry.text)
-        for name, kind in texts:
-            if name in OPTIONS:
-                with self.subTest(name, kind=kind):
-                    self.assertEqual(len(texts[name, kind]), 1, texts[name, kind])
 
     def test_api_is_made_of_them(self):
         page = Path(TOP, "docs/API.md").read_text(encoding="utf-8")

@@ -87,6 +87,7 @@ class Doubts(unittest.TestCase):
         floats, whole = (pay(pd.Series([1, 20], dtype=dtype).astype(str)) for dtype in ("float64", "int64"))
         self.warns(lambda: ruzgalt.anti(floats, whole, on="person"), "'1.0' and '1'", ".str.removesuffix('.0')")
         self.warns(lambda: ruzgalt.join(whole, floats, on="person"), "'1' and '1.0'")
+        self.warns(lambda: ruzgalt.join(pay(["Jose\u0301"]), pay(["Jos\u00e9"]), on="person"), ".str.normalize('NFKC')")
         halves = pay(["1.5", "2.50", "20"])
         self.assertEqual(self.reported(lambda: ruzgalt.join(halves, whole, on="person")), [])
 

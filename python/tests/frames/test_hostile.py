@@ -1,4 +1,4 @@
-"""Calls with names that answers have themselves, or hardly any, and options of wrong types.
+"""Calls with names that answers have themselves, or hardly any.
 
 Each either answers exactly the table that by_rows.py computes, or raises Refused or TypeError. hypothesis draws the
 frames, and makes small what fails; FRAMES_HOSTILE is how many for each test.

@@ -8,6 +8,7 @@ import importlib.util
 import os
 import unittest
 from collections import Counter
+from decimal import Decimal
 
 import pandas as pd
 
@@ -25,7 +26,7 @@ import hostile_stores as hostile  # noqa: E402
 
 EXAMPLES = int(os.environ.get("FRAMES_HOSTILE", "50"))
 MANY = settings(
-    max_examples=max(EXAMPLES // 10, 10), stateful_step_count=15, deadline=None, database=None,
+    max_examples=max(EXAMPLES // 10, 40), stateful_step_count=15, deadline=None, database=None,
     derandomize=EXAMPLES < 1000, suppress_health_check=list(HealthCheck),
 )
 TABLES = st.sampled_from(["t", "u"])
@@ -41,14 +42,19 @@ def outcome(call):
         return REFUSED
 
 
+def exact(cell):
+    """A script has no floats: they come back as Decimals."""
+    return Decimal(str(cell)) if isinstance(cell, float) else cell
+
+
 class Stores(stateful.RuleBasedStateMachine):
     def __init__(self):
         super().__init__()
         self.store, self.plain, self.forms = ruzgalt.Store(workers=1), plain_store.PlainStore(), {}
 
-    @stateful.initialize(first=st.sampled_from(hostile.FIRSTS))
-    def begins(self, first):
-        hostile.begin(first)
+    @stateful.initialize(first=st.sampled_from(hostile.FIRSTS), hours=st.sampled_from([24, 24, 8]))
+    def begins(self, first, hours):
+        hostile.begin(first, hours)
 
     # Changes.
 
@@ -162,6 +168,8 @@ class Stores(stateful.RuleBasedStateMachine):
             self.is_as(form, lambda: self.store.at(name, point, as_of), plain_store.rows(form.plain, shown))
         else:
             self.is_as(form, lambda: self.store.rows(name, as_of), plain_store.rows(form.plain, shown))
+            dtypes = [pd.Series([], dtype=form.dtypes[one]).dtype for one in form.names]
+            assert self.store.rows(name, as_of).dtypes.tolist()[3:] == dtypes, (self.store.rows(name).dtypes, dtypes)
 
     @precondition(lambda self: self.forms)
     @rule(data=DATA, first=st.integers(0, 9), more=st.integers(0, 5))
@@ -214,7 +222,7 @@ class Stores(stateful.RuleBasedStateMachine):
     @rule(data=DATA, function=st.sampled_from(["count", "sum", "min", "max"]))
     def counts(self, data, function):
         name, form = self.some_table(data)
-        numbers = [one for one in form.names if form.kinds[one] == "int" and one is not None]
+        numbers = [one for one in form.names if form.kinds[one] in ("int", "exact") and one is not None]
         column = data.draw(st.sampled_from(numbers)) if numbers and function != "count" else None
         function = function if column is not None else "count"
         by, as_of = hostile.some(data.draw, form.names), self.as_of(data)
@@ -275,7 +283,7 @@ class Stores(stateful.RuleBasedStateMachine):
             "where": lambda: store.delete(name, "2024-01-01", None, no_dict),
             "start": lambda: store.update(name, point, None, to),
             "end": lambda: store.delete(name, "2024-01-01", point if point is not None else "2024-01-01 "),
-            "value": lambda: store.update(name, "2024-01-01", None, {form.names[0]: 1.5}),
+            "value": lambda: store.update(name, "2024-01-01", None, {form.names[0]: [1]}),
             "load": lambda: store.load(name, spoiled), "there": lambda: store.table(name, form.frame(rows)),
             "name": lambda: store.table(bad, hostile.A_FRAME),
             "key": lambda: store.table("v", hostile.A_FRAME, key="T" if bad is None else bad),
@@ -291,12 +299,13 @@ class Stores(stateful.RuleBasedStateMachine):
         assert list(self.store.log().itertuples(index=False, name=None)) == self.plain.log
 
     def teardown(self):
-        again = ruzgalt.Store.from_script(self.store.script(), workers=1)
+        options = {name: {"decimals": form.options["decimals"]} for name, form in self.forms.items()}
+        again = ruzgalt.Store.from_script(self.store.script(), workers=1, options=options)
         assert again.script() == self.store.script()
         for name, form in self.forms.items():
             assert list(map(repr, again.tables[name].columns)) == list(map(repr, form.names))
             got = again.rows(name).iloc[:, [0, *range(3, 3 + len(form.names))]].values.tolist()
-            wanted = [[row["id"], *form.plain.cells(row)] for row in self.plain.tables[name].open()]
+            wanted = [[row["id"], *map(exact, form.plain.cells(row))] for row in self.plain.tables[name].open()]
             assert got == wanted, (got, wanted)
 
 

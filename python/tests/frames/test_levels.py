@@ -7,6 +7,7 @@ import pandas as pd
 
 import labels
 import ruzgalt
+from refusing import refused
 
 DAYS = pd.to_datetime
 LEFT = pd.DataFrame({
@@ -70,17 +71,21 @@ class Levels(unittest.TestCase):
             lambda: ruzgalt.agg(both, "count", by="k"), lambda: ruzgalt.agg(twice, "count", by="k"),
         ]
         for asked in asks:
-            with self.assertRaises(ruzgalt.Refused) as caught:
+            with refused(name="NoColumn", column="k"):
                 asked()
-            self.assertEqual((caught.exception.name, caught.exception.column), ("NoColumn", "k"))
         # Where it isn't compared, it is a column.
         self.assertEqual(len(ruzgalt.join(both, RIGHT, on="n")), 4)
 
+    def test_labels_of_several_levels(self):
+        left = in_index(LEFT, "k", "n")
+        self.assertEqual(ruzgalt.anti(left, LEFT[:1], on=[]).index.tolist(), [("a", 1)])
+        with refused(label=("a", 1)):
+            ruzgalt.dip(left.assign(to=pd.NaT))
+
     def test_an_index_without_a_name_is_none(self):
         for name in (None, "z"):
-            with self.assertRaises(ruzgalt.Refused) as caught:
+            with refused(name="NoColumn"):
                 ruzgalt.join(LEFT, RIGHT, on=[name])
-            self.assertEqual(caught.exception.name, "NoColumn")
 
     @unittest.skipUnless(importlib.util.find_spec("dask"), "Dask isn't here: apt-get install python3-dask")
     def test_frames_of_dask(self):

@@ -21,8 +21,9 @@ import ruzgalt
 from processes import children, is_running, wait_for
 from ruzgalt import which
 from ruzgalt.frames import worker
-from ruzgalt.store import live, store as stores
-from test_stores import frame, quietly, store
+from ruzgalt.kernel import live
+from ruzgalt.store import store as stores
+from store_case import frame, quietly, store
 
 DAYS = pd.to_datetime(["2024-01-01"]), pd.to_datetime(["2024-02-01"])
 
@@ -78,16 +79,28 @@ class Lives(unittest.TestCase):
 
     def test_copies_and_forks_have_programs_of_their_own(self):
         update(self.made, 5)
-        for other in (copy.copy(self.made), pickle.loads(pickle.dumps(self.made))):
+        others = copy.copy(self.made), copy.deepcopy(self.made), pickle.loads(pickle.dumps(self.made))
+        self.assertEqual({bytes(one.script()) for one in others}, {bytes(self.made.script())})
+        for other in others:
             for one in (self.made, other):
                 update(one, 6, "b")
             self.assertEqual(other.delete("t", "2024-01-01", None, {"k": "a"}).closed, 3)
             self.assertEqual((len(other.rows("t")), self.made.rows("t")["cents"].tolist().count(6)), (3, 1))
-        [child] = [os.fork()]
-        if not child:
-            os._exit(0 if update(self.made, 7).commit == self.made.log()["commit"].iloc[-1] else 1)
-        self.assertEqual(os.waitpid(child, 0)[1], 0)
+        self.is_right_in_a_child(lambda: update(self.made, 7).commit == self.made.log()["commit"].iloc[-1])
         self.assertEqual(self.made.rows("t")["cents"].tolist().count(7), 0)
+
+    def is_right_in_a_child(self, call):
+        """That the call is true in a forked process, which ends then."""
+        child = os.fork()
+        if not child:
+            is_right = False
+            try:
+                is_right = call()
+            finally:
+                os._exit(0 if is_right else 1)
+        if not wait_for(lambda: not is_running(child), 30):
+            os.kill(child, signal.SIGKILL)
+        self.assertEqual(os.waitpid(child, 0)[1], 0)
 
     def test_a_fork_while_another_thread_is_in_a_batch_has_the_store_as_it_was(self):
         before, begun, is_forked = self.made.script(), threading.Event(), threading.Event()
@@ -101,14 +114,9 @@ class Lives(unittest.TestCase):
         thread = threading.Thread(target=change)
         thread.start()
         begun.wait(30)
-        child = os.fork()
-        if not child:
-            is_right = self.made.script() == before and len(self.made.rows("t")) == 2
-            os._exit(0 if is_right and update(self.made, 6).commit == 3 else 1)
-        if not wait_for(lambda: not is_running(child), 30):
-            os.kill(child, signal.SIGKILL)
+        self.is_right_in_a_child(lambda: (
+            self.made.script() == before and len(self.made.rows("t")) == 2 and update(self.made, 6).commit == 3))
         is_forked.set()
-        self.assertEqual(os.waitpid(child, 0)[1], 0)
         thread.join()
         self.assertEqual(self.made.rows("t", as_of="whole")["cents"].tolist().count(5), 1)
 
@@ -221,7 +229,7 @@ class Faults(unittest.TestCase):
     def test_another_program_is_reported(self):
         for text in ("echo ok", "echo ok,1", "exit 1"):
             with self.subTest(text):
-                self.says("DIPQ names a dipq", text)
+                self.says("DIPQ_LIVE must name", text)
 
     def test_a_program_that_answers_nothing_is_reported_by_each_call(self):
         empty, whole = ruzgalt.Store(), store(frame())
@@ -236,7 +244,7 @@ class Faults(unittest.TestCase):
             named = mock.patch.dict(os.environ, DIPQ=program, DIPQ_LIVE=program)
             for place, call in enumerate(calls):
                 with self.subTest(program=program, call=place), named:
-                    with self.assertRaisesRegex(ruzgalt.Stopped, "DIPQ names a dipq"):
+                    with self.assertRaisesRegex(ruzgalt.Stopped, "DIPQ_LIVE must name"):
                         call()
 
     def test_a_program_that_is_not_there_is_reported(self):

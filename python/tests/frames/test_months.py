@@ -8,8 +8,10 @@ from random import Random
 
 import pandas as pd
 
+import by_rows
 import labels
 import ruzgalt
+from refusing import refused
 
 # The first year, and the number of months in a month, a quarter and a year.
 YEAR, MONTHS = 2023, {"M": 1, "Q": 3, "Y": 12}
@@ -33,21 +35,14 @@ def number(point):
 
 
 def joined(left, right):
-    return sorted(
-        [max(one[0], two[0]), min(one[1], two[1]), row, other] for row, one in enumerate(left)
-        for other, two in enumerate(right) if one[2] == two[2] and max(one[0], two[0]) <= min(one[1], two[1])
-    )
+    """First and last index, and the indices of each pair of rows that match, sorted."""
+    found = by_rows.joined(*([(first, last + 1, key) for first, last, key in rows] for rows in (left, right)))
+    return [[start, end - 1, *rows] for start, end, *rows in found]
 
 
 def runs(held):
-    """First and last index, and value, of each longest run of one value; 0 and None aren't values."""
-    found = []
-    for place, value in enumerate(held):
-        if value and found and found[-1][1:] == [place - 1, value]:
-            found[-1][1] = place
-        elif value:
-            found.append([place, place, value])
-    return found
+    """First and last index, and value, of each longest run of one value; 0 isn't a value."""
+    return [[start, end - 1, value] for start, end, value in by_rows.runs([value or None for value in held])]
 
 
 def rows_of(random):
@@ -99,9 +94,8 @@ class Months(unittest.TestCase):
         self.assertEqual(rows_in(got, "count"), [[0, 1, 1], [2, 3, 2], [4, None, 1]])
         for what, asked in (("end", lambda: ruzgalt.agg(one, "count")),
                             ("start", lambda: ruzgalt.agg(one, "count", period=("to", "from"), open_end=True))):
-            with self.subTest(what), self.assertRaises(ruzgalt.Refused) as caught:
+            with self.subTest(what), refused(name="BadPoint", label=0):
                 asked()
-            self.assertEqual((caught.exception.name, caught.exception.label), ("BadPoint", 0))
 
     def test_the_edges_of_time(self):
         for year, month in ((1, 1), (9999, 11), (9999, 12), (10000, 1), (0, 12)):
@@ -112,14 +106,12 @@ class Months(unittest.TestCase):
                     got = ruzgalt.agg(one, "count")
                     self.assertEqual((got["from"][0], got["to"][0]), (cells[0], cells[0]))
                     continue
-                with self.assertRaises(ruzgalt.Refused) as caught:
+                with refused(name="BadPoint", label=0):
                     ruzgalt.agg(one, "count")
-                self.assertEqual((caught.exception.name, caught.exception.label), ("BadPoint", 0))
 
     def test_an_end_before_its_start_is_refused(self):
-        with self.assertRaises(ruzgalt.Refused) as caught:
+        with refused(name="BadPeriod", label=1):
             ruzgalt.agg(frame([(2, 2, "a"), (2, 1, "a")], "M"), "count")
-        self.assertEqual((caught.exception.name, caught.exception.label), ("BadPeriod", 1))
 
     def test_a_store_takes_no_months_and_other_periods_are_refused(self):
         made, month = ruzgalt.Store(), pd.Period("2023-03", "M")
@@ -130,9 +122,8 @@ class Months(unittest.TestCase):
         made.table("u", days, last_day=True)
         asks += [lambda: made.at("u", month), lambda: made.delete("u", "2023-01-01", month)]
         for asked in asks:
-            with self.assertRaises(ruzgalt.Refused) as caught:
+            with refused(name="WrongKind"):
                 asked()
-            self.assertEqual(caught.exception.name, "WrongKind")
         self.assertEqual(str(made.rows("u")["to"][0]), "2023-03-31")
 
 

@@ -1,4 +1,4 @@
-"""Options of calls: each is accepted in its types, and refused by name in others."""
+"""Options of calls: each is accepted in its types, and refused by name in others; names of an answer's columns."""
 import functools
 import inspect
 import unittest
@@ -12,67 +12,67 @@ from ruzgalt.frames import options
 
 DAYS = pd.to_datetime
 FRAME = pd.DataFrame({"from": DAYS(["2024-01-01"]), "to": DAYS(["2024-02-01"]), "k": ["a"], "x": [1]})
-NO_FLAGS = ("no", "", 1, 0, None, (True, False), [], np.int64(1))
-NO_NAMES = (pd.Index(["k"]), {"k": 1}, {"k"}, FRAME["k"], FRAME[["k"]], (one for one in "k"), True, [["k"]])
-NO_PAIRS = (True, ("from",), ("from", "to", "k"), ["from", "from"], pd.Index(["from", "to"]), {"from": "to"})
+NO_FLAGS = ("no", "", 1, 0, None, (True, False), [], np.int64(1), np.array([True]))
+NO_NAMES = (
+    pd.Index(["k"]), {"k": 1}, {"k"}, FRAME["k"], FRAME[["k"]], FRAME, (one for one in "k"), True, [True], [["k"]],
+)
+NO_PAIRS = (
+    True, ("from",), ("from", "to", "k"), ["from", "from"], ("from", ["to"]), pd.Index(["from", "to"]),
+    {"from": "to"},
+)
 WRONG = {
-    "on": NO_NAMES, "left_on": NO_NAMES, "right_on": NO_NAMES, "by": NO_NAMES, "period": (*NO_PAIRS, None),
-    **dict.fromkeys(("left_period", "right_period"), NO_PAIRS), "keep_periods": NO_FLAGS,
-    "open_end": NO_FLAGS, "last_day": NO_FLAGS,
-    "suffixes": (("_l",), "", (), "_l", ("_l", "_r", "_s"), (1, 2), None, {"_l": "_r"}),
-    "workers": (0, -1, 65, 1.0, "4", True, None),
-    "decimals": (2, "k", None, [("k", 2)], {"k": 2.0}, {"k": -1}, {"k": 19}, {"k": True}),
-    "how": ("", "Left", "cross", True, None, ["left"]),
+    **dict.fromkeys(("on", "left_on", "right_on", "by"), NO_NAMES), "period": (*NO_PAIRS, None),
+    **dict.fromkeys(("left_period", "right_period"), NO_PAIRS),
+    **dict.fromkeys(("keep_periods", "open_end", "last_day", "exact"), NO_FLAGS),
+    "suffixes": (("_l",), "", (), "_l", ("_l", "_r", "_s"), (1, 2), None, {"_l": "_r"}, (b"_l", "_r")),
+    "workers": (0, -1, 65, 1.0, "4", True, None, [4]),
+    "decimals": (2, "k", None, [("k", 2)], {"k": 2.0}, {"k": -1}, {"k": 19}, {"k": True}, {"k": None}),
+    "how": ("", "Left", "cross", True, None, ["left"], 1),
     "within": ("2024", 5, ("2024-01-01",), {"2024-01-01": "2025-01-01"}),
-    "amount": ("month", "", None, ["per month"]), "each": ("month", "", "m", None, ["M"]), "exact": NO_FLAGS,
-    "progress": [one for one in NO_FLAGS if one is not None],
+    "amount": ("", None, "total", "month", "per Month", "per decade", 1, ["in total"]),
+    "each": ("", "month", "m", "MQ", None, ["M"]), "progress": [one for one in NO_FLAGS if one is not None],
 }
-OF_AGG = ("by", "period", "open_end", "last_day", "workers", "decimals", "progress")
-OF_DIP = ("period", "open_end", "last_day", "workers", "progress")
-# Of a frame's groups.
-SPREAD = functools.partial(ruzgalt.spread, column="x", amount="per month")
-CALLS = (ruzgalt.coalesce, ruzgalt.gaps, ruzgalt.overlaps, SPREAD)
-NO_FRAMES = (FRAME["k"], [1], {"from": [1]}, "pay.csv", Path("pay.csv"), None, FRAME.to_numpy())
+SPREAD = functools.partial(ruzgalt.spread, amount="per month")
+CALLS = [
+    (ruzgalt.join, FRAME, FRAME), (ruzgalt.anti, FRAME, FRAME), (ruzgalt.agg, FRAME, "count"), (ruzgalt.dip, FRAME),
+    (ruzgalt.coalesce, FRAME), (ruzgalt.gaps, FRAME), (ruzgalt.overlaps, FRAME), (SPREAD, FRAME, "x"),
+    (ruzgalt.at, FRAME, "2024-01-01"), (ruzgalt.during, FRAME, "2024-01-01", None), (ruzgalt.check, FRAME, "k"),
+]
+# Functions and columns of an aggregate, and how the reason begins.
+FUNCTIONS = [
+    ("summ", "x", "function='summ': must be one of count, sum,"), (None, None, "function=None: must be one of count"),
+    ("Count", None, "function='Count'"), (["sum"], "x", "function=['sum']"), ("sum", None, "sum needs a column"),
+    ("count", "x", "column='x': a count is of rows"), ("sum", ["x"], "column=['x']"), ({}, None, "function={}"),
+    ({"x": "sum"}, "x", "column='x'"), ({"x": ["sum", "sum"]}, None, "function="), ({"x": []}, None, "function={'x'"),
+    ({"x": {"sum"}}, None, "function={'sum'}"), ({None: "count"}, None, "column=None"),
+]
+NO_FRAMES = (FRAME["k"], [1], {"from": [1]}, "pay.csv", Path("pay.csv"), None, 5, FRAME.to_numpy(), FRAME.index)
 
 
 class Types(unittest.TestCase):
-    def refuses(self, what, asked, start=""):
-        with self.subTest(what), self.assertRaises(ruzgalt.Refused) as caught:
-            asked()
+    def refuses(self, start, call, *given, **words):
+        with self.subTest(call=call, given=given, **words), self.assertRaises(ruzgalt.Refused) as caught:
+            call(*given, **words)
         self.assertEqual(caught.exception.name, "BadCommand")
         self.assertTrue(caught.exception.reason.startswith(start), caught.exception.reason)
         self.assertNotIn("\n", caught.exception.reason)
 
     def test_wrong_types_are_refused_by_the_option_s_name(self):
-        for name, values in WRONG.items():
-            for value in values:
-                words, start = {name: value}, f"{name}["[:-1]
-                if name in OF_AGG:
-                    self.refuses((name, value), lambda: ruzgalt.agg(FRAME, "count", **words), start)
-                for call in CALLS:
-                    if name in inspect.signature(call).parameters:
-                        self.refuses((call, name, value), lambda: call(FRAME, **words), start)
-                if name in OF_DIP:
-                    self.refuses((name, value), lambda: ruzgalt.dip(FRAME, **words), start)
-                if name in inspect.signature(ruzgalt.join).parameters:
-                    self.refuses((name, value), lambda: ruzgalt.join(FRAME, FRAME, **words), start)
-                if name in inspect.signature(ruzgalt.anti).parameters:
-                    self.refuses((name, value), lambda: ruzgalt.anti(FRAME, FRAME, **words), start)
+        for call, *given in CALLS:
+            for name in WRONG.keys() & inspect.signature(call).parameters.keys():
+                for value in WRONG[name]:
+                    self.refuses(name, call, *given, **{name: value})
 
     def test_other_things_than_frames_are_refused(self):
-        for one in NO_FRAMES:
-            self.refuses(one, lambda: ruzgalt.join(one, FRAME, on="k"), "left=")
-            self.refuses(one, lambda: ruzgalt.anti(FRAME, one, on="k"), "right=")
-            self.refuses(one, lambda: ruzgalt.agg(one, "count"), "frame=")
-            self.refuses(one, lambda: ruzgalt.dip(one), "frame=")
+        for call, _, *given in CALLS:
+            name = "left" if call in (ruzgalt.join, ruzgalt.anti) else "frame"
+            for one in NO_FRAMES:
+                self.refuses(f"{name}=", call, one, *given)
+        self.refuses("right=", ruzgalt.anti, FRAME, FRAME["k"], on="k")
 
     def test_functions_and_columns_of_an_aggregate(self):
-        self.refuses("misspelt", lambda: ruzgalt.agg(FRAME, "summ", "x"), "function='summ': must be one of count, sum,")
-        self.refuses("none", lambda: ruzgalt.agg(FRAME, None), "function=None: must be one of count")
-        self.refuses("a list", lambda: ruzgalt.agg(FRAME, ["sum"], "x"), "function=['sum']")
-        self.refuses("a sum of nothing", lambda: ruzgalt.agg(FRAME, "sum"), "sum needs a column")
-        self.refuses("a count of a column", lambda: ruzgalt.agg(FRAME, "count", "x"), "column='x': a count is of rows")
-        self.refuses("columns", lambda: ruzgalt.agg(FRAME, "sum", ["x"]), "column=['x']")
+        for function, column, start in FUNCTIONS:
+            self.refuses(start, ruzgalt.agg, FRAME, function, column)
 
     def test_each_right_type_is_taken(self):
         words = {"on": ("k",), "period": ["from", "to"], "open_end": np.bool_(True)}
@@ -90,13 +90,13 @@ class Types(unittest.TestCase):
 
 class Signatures(unittest.TestCase):
     def test_each_option_is_a_keyword_that_is_checked(self):
-        for call in (*CALLS, ruzgalt.join, ruzgalt.anti, ruzgalt.agg, ruzgalt.dip):
+        for call, *_ in CALLS:
             with self.subTest(call):
                 kinds = {name: one.kind for name, one in inspect.signature(call).parameters.items()}
                 self.assertNotIn(inspect.Parameter.VAR_KEYWORD, kinds.values())
                 named = {name for name, kind in kinds.items() if kind is inspect.Parameter.KEYWORD_ONLY}
-                self.assertLessEqual({"period", "open_end", "last_day", "workers"}, named)
-                self.assertLessEqual(named, {"column", *options.OPTIONS})
+                self.assertLessEqual({"period", "open_end", "last_day"}, named)
+                self.assertLessEqual(named, set(options.OPTIONS))
         of_table = inspect.signature(ruzgalt.Store.table).parameters
         self.assertLessEqual(set(options.OF_TABLE), set(of_table))
 
@@ -132,11 +132,6 @@ class Suffixes(unittest.TestCase):
                 ruzgalt.join(left, right, **words)
             self.assertEqual((caught.exception.name, caught.exception.column), ("TwiceNamed", column))
 
-    def test_words_of_the_answer_stay_and_columns_move(self):
-        other = FRAME.rename(columns={"from": "start", "to": "end", "x": "from"})
-        got = ruzgalt.join(FRAME, other, on="k", right_period=("start", "end"))
-        self.assertEqual(list(got.columns), ["from", "to", "k", "x", "from_right"])
-
     def test_names_that_are_no_texts_stay_what_they_are(self):
         names = ["from", "to", None, 1]
         one = FRAME.set_axis(pd.Index(names, dtype=object), axis=1)
@@ -155,17 +150,6 @@ class Suffixes(unittest.TestCase):
         self.assertEqual(list(got.columns)[2:], [("b", "x"), "('b', 'y')_left", "('b', 'y')_right"])
         self.assertEqual(list(ruzgalt.agg(levels, "count", by=words["on"], period=words["period"]).columns)[3], "count")
         self.assertEqual(len(ruzgalt.anti(levels, levels, **words)), 0)
-
-    def test_an_aggregate_has_no_suffixes(self):
-        frame = FRAME.assign(sum_x=1, count=1)
-        asks = [
-            lambda: ruzgalt.agg(frame, "sum", "x", by="sum_x"), lambda: ruzgalt.agg(frame, "count", by=["k", "count"]),
-            lambda: ruzgalt.agg(frame, "count", by=["k", "k"]),
-        ]
-        for asked in asks:
-            with self.assertRaises(ruzgalt.Refused) as caught:
-                asked()
-            self.assertEqual(caught.exception.name, "TwiceNamed")
 
 
 if __name__ == "__main__":

@@ -110,7 +110,7 @@ class Page(unittest.TestCase):
             '`check(frame, part="bed")`': lambda: [
                 bool(ruzgalt.check(left.assign(bed=beds), part="bed")) for beds in ([1, 1], [1, 2])
             ] == [True, True],
-            "`dip(frame)`": lambda: (lambda division: (
+            "`dip(frame, by=..)`": lambda: (lambda division: (
                 division.parts.tolist(), division.count, str(division.instant),
             ))(ruzgalt.dip(left)) == ([0, 0], 1, "2024-01-01 00:00:00"),
         })
@@ -150,13 +150,13 @@ class Page(unittest.TestCase):
             "keys of both": lambda: warns(lambda: ruzgalt.join(none, none, on="k")),
             "ends that": lambda: warns(lambda: ruzgalt.join(months, other, on="k")),
             "ends at 23:59": lambda: warns(lambda: ruzgalt.dip(late)),
-            "ends after 2098": lambda: warns(lambda: ruzgalt.dip(frame().assign(to=pd.Timestamp("2199-12-31")))),
+            "ends from 2099": lambda: warns(lambda: ruzgalt.dip(frame().assign(to=pd.Timestamp("2199-12-31")))),
             "no `on=`": lambda: warns(lambda: ruzgalt.join(one, one)),
             "`decimals=`": lambda: warns(lambda: ruzgalt.agg(one, "count", decimals={"eur": 2})),
-            "a store's load": lambda: warns(lambda: store.load("u", other)),
+            "a store's rows": lambda: warns(lambda: store.load("u", other)),
             "a store's change": lambda: warns(lambda: store.update("t", FIRST, None, {"k": "b"}, {"k": "hill"})),
             "rows of `update_rows`": lambda: warns(lambda: store.update_rows("t", raises)),
-            "a portion's end": lambda: warns(lambda: store.delete("t", FIRST, "2024-01-31", {"k": "a"})),
+            "a change's end": lambda: warns(lambda: store.delete("t", FIRST, "2024-01-31", {"k": "a"})),
             "refused changes": lambda: warns(lambda: ruzgalt.Store.from_script(b"load,t\nend\n")),
             "a time that a diary": lambda: warns(lambda: ruzgalt.Store.from_script(DIARY, diary="d")),
         })

@@ -5,12 +5,12 @@ import subprocess
 import sys
 import tempfile
 import unittest
-import warnings
 from pathlib import Path
 
 import pandas as pd
 
 import ruzgalt
+from store_case import Case, quietly
 
 TOP = Path(__file__).resolve().parents[3]
 DAY = pd.to_datetime
@@ -30,24 +30,11 @@ def store():
     return made
 
 
-def doubts_of(call):
-    with warnings.catch_warnings(record=True) as caught:
-        warnings.simplefilter("always", ruzgalt.Doubt)
-        answer = call()
-    return answer, [str(one.message) for one in caught]
-
-
 def texts(frame):
     return [[str(cell).removesuffix(" 00:00:00") for cell in row] for row in frame.values.tolist()]
 
 
-class Past(unittest.TestCase):
-    def refuses(self, call, name, word=""):
-        with self.assertRaises(ruzgalt.Refused) as caught:
-            call()
-        self.assertEqual(caught.exception.name, name, caught.exception)
-        self.assertIn(word, caught.exception.reason)
-
+class Past(Case):
     def printed(self, made, *words):
         """What tools/answers prints of the store, whose diary is kept in it."""
         made.table("diary", made.diary())
@@ -59,7 +46,7 @@ class Past(unittest.TestCase):
 
     def test_history_is_as_of_the_tools(self):
         made = store()
-        got, doubts = doubts_of(lambda: made.history("t"))
+        got, doubts = quietly(lambda: made.history("t"))
         self.assertEqual((list(got), doubts), (
             ["commit", "entered", "change", "from", "to", "Löhne €", "change_"], []))
         self.assertEqual([str(one) for one in got.dtypes[:4]], ["int64", "datetime64[ns]", "object", "datetime64[ns]"])
@@ -70,11 +57,11 @@ class Past(unittest.TestCase):
 
     def test_the_retroactive_part_is_as_of_the_tools(self):
         made = store()
-        got, doubts = doubts_of(lambda: made.history("t", {"Löhne €": "a,b"}, retroactive=True))
+        got, doubts = quietly(lambda: made.history("t", {"Löhne €": "a,b"}, retroactive=True))
         wanted = [[commit, *more] for commit, _, *more in self.printed(
             made, "history", "t", "--diary", "diary", "--retroactive", "--where", "lohne=a,b")]
         self.assertEqual((texts(got), doubts), (wanted, []))
-        _, doubts = doubts_of(lambda: made.history("t", retroactive=True))
+        _, doubts = quietly(lambda: made.history("t", retroactive=True))
         self.assertEqual(doubts, ["history of t: commits without a day, which retroactive=True leaves out: 9"])
 
     def test_changed_is_as_of_the_tools(self):
@@ -84,7 +71,7 @@ class Past(unittest.TestCase):
         self.assertEqual(texts(got), wanted)
         self.assertEqual(list(got), ["change", "from", "to", "Löhne €", "change_"])
         pd.testing.assert_frame_equal(made.changed("t", 8), made.changed("t", 8, 9))
-        back, doubts = doubts_of(lambda: made.changed("t", 3, 2))
+        back, doubts = quietly(lambda: made.changed("t", 3, 2))
         self.assertEqual(back["change"].tolist(), ["-+"["+-".index(sign)] for sign in got["change"]])
         self.assertIn("later", doubts[0])
         self.assertEqual(len(made.changed("t", 8, 8)), 0)
@@ -104,18 +91,17 @@ class Past(unittest.TestCase):
 
     def test_refusals(self):
         made, bare = store(), ruzgalt.Store()
-        bare.table("t", store().rows("t")[["from", "to"]])
-        self.refuses(lambda: bare.history("t", retroactive=True), "NoDay", "day=")
+        bare.table("t", made.rows("t")[["from", "to"]])
         self.assertEqual(list(bare.history("t")), ["commit", "change", "from", "to"])
-        self.refuses(lambda: made.history("t", first=5, last=4), "BadPeriod")
-        self.refuses(lambda: made.history("t", last=10), "Future")
-        self.refuses(lambda: made.history("t", {"k": 1}), "NoColumn")
-        self.refuses(lambda: made.history("t", retroactive=1), "BadCommand")
-        self.refuses(lambda: made.history("v"), "NoTable")
-        self.refuses(lambda: made.changed("v", 1), "NoTable")
-        self.refuses(lambda: made.changed("t", None), "BadNumber")
-        self.refuses(lambda: made.changed("t", 1, "third"), "NoLabel")
-        got, doubts = doubts_of(lambda: made.history("t", {"change": 99}))
+        for call, name in (
+            (lambda: bare.history("t", retroactive=True), "NoDay"), (lambda: made.history("t", last=10), "Future"),
+            (lambda: made.history("t", first=5, last=4), "BadPeriod"), (lambda: made.history("v"), "NoTable"),
+            (lambda: made.history("t", {"k": 1}), "NoColumn"), (lambda: made.changed("v", 1), "NoTable"),
+            (lambda: made.history("t", retroactive=1), "BadCommand"), (lambda: made.changed("t", None), "BadNumber"),
+            (lambda: made.changed("t", 1, "third"), "NoLabel"),
+        ):
+            self.refuses(call, name)
+        got, doubts = quietly(lambda: made.history("t", {"change": 99}))
         self.assertEqual((len(got), doubts), (0, ["history of t: no row ever had the values of where="]))
 
 

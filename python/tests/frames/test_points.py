@@ -7,10 +7,11 @@ import numpy as np
 import pandas as pd
 
 import ruzgalt
+from refusing import refused
 from random_frames import period
 from ruzgalt.convert import points, values
 from ruzgalt.convert.kinds import Kind, joint_kind
-from ruzgalt.store import live as answers
+from ruzgalt.store import lists as answers
 
 FIRST, LAST = datetime.datetime(1, 1, 1), datetime.datetime(9999, 12, 31, 23, 59, 59)
 
@@ -40,32 +41,12 @@ class Points(unittest.TestCase):
                 self.assertEqual(found, Kind(kind))
                 pd.testing.assert_series_equal(points.series_of(seconds, found), column)
 
-    def test_missing_ends_come_back_as_missing(self):
-        form = points.Form(is_open=True)
-        for kind, column in EDGES.items():
-            with self.subTest(kind):
-                missing = column.copy()
-                missing.iloc[1] = None
-                seconds, found = form.ends_of(missing)
-                self.assertEqual((found, seconds[1]), (Kind(kind), points.NO_END))
-                got = form.restored_ends(seconds, found)
-                self.assertTrue(pd.isna(got.iloc[1]))
-                self.assertEqual(got.dtype, column.dtype)
-
-    def test_other_units_of_datetime64(self):
-        for unit in ("us", "ms", "s"):
-            cells = np.array(["0001-01-01", "9999-12-31T23:59:59"], f"M8[{unit}]")
-            with self.subTest(unit):
-                numbers = np.array([points.FIRST, points.LAST], np.int64)
-                found = points.datetimes_of(numbers, np.zeros(2, bool), unit)
-                self.assertEqual((found.dtype, found.tolist()), (cells.dtype, cells.tolist()))
-
     def test_texts_are_read_as_they_are_written(self):
         texts = points.texts_of(SECONDS)
         self.assertEqual(texts[0], "0001-01-01")
         self.assertEqual(texts[-2:], ["9999-12-31", "9999-12-31T23:59:59"])
         answered = "".join(f"row,{text}\n" for text in texts) + f"end,{len(texts)}\n"
-        got = answers.Output(np.frombuffer(answered.encode(), np.uint8)).block("p")
+        got = answers.columns_of(answered.encode(), "p")
         self.assertEqual([column.tolist() for column in got], [SECONDS.tolist()])
 
     def test_kinds_of_two_frames(self):
@@ -104,10 +85,8 @@ class Points(unittest.TestCase):
     def test_an_end_that_is_no_midnight_has_no_last_day(self):
         form = points.Form(has_last_days=True)
         ends = np.array([86_400, 2 * 86_400 + 43_200], np.int64)
-        with self.assertRaises(ruzgalt.Refused) as caught:
+        with refused("1970-01-03T12:00:00", name="BadPoint"):
             form.restored_ends(ends, Kind("S"))
-        self.assertEqual(caught.exception.name, "BadPoint")
-        self.assertIn("1970-01-03T12:00:00", caught.exception.reason)
         self.assertEqual(list(map(str, form.restored_ends(ends[:1], Kind("D")))), ["1970-01-01"])
 
 

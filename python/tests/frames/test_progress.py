@@ -14,9 +14,9 @@ from unittest import mock
 import pandas as pd
 
 import ruzgalt
+from refusing import refused
 from ruzgalt.frames import progress
-from ruzgalt.store import live
-from ruzgalt.kernel import library
+from ruzgalt.kernel import library, live
 from ruzgalt.progress import Progress
 
 DAYS = pd.date_range("2024-01-02", periods=40)
@@ -92,9 +92,8 @@ class Calls(Watched):
             with self.slow():
                 asked()
             self.is_gone(r"ruzgalt\.Store: \d+ s")
-        with self.assertRaises(ruzgalt.Refused) as caught:
+        with refused(name="BadCommand"):
             ruzgalt.Store(progress="yes")
-        self.assertEqual(caught.exception.name, "BadCommand")
 
     def test_nothing_is_shown_unasked_but_on_a_terminal(self):
         with self.slow(is_shown=False):

@@ -83,11 +83,9 @@ class Raises(unittest.TestCase):
         store.raise_by("pay", "cents", 50, "2024-07-01", "2024-08-01", again=True)
         self.assertEqual(store.at("pay", "2024-07-01").sort_values("k")["cents"].tolist(), [165, 330])
 
-    def test_a_percentage_that_looks_like_a_fraction_is_doubted(self):
+    def test_a_small_percentage_is_doubted_and_a_batch_has_raises_too(self):
         with self.assertWarnsRegex(ruzgalt.Doubt, "percent=0.025 .* 2.5 raises 1000 to 1025"):
             store_of(cents=[1000]).raise_by("pay", "cents", 0.025, "2024-07-01", round="up")
-
-    def test_a_batch_has_raises_too(self):
         store = store_of(cents=[100])
         with store.batch() as changed:
             store.raise_by("pay", "cents", 10, "2024-07-01")

@@ -1,4 +1,4 @@
-"""join, anti, agg and dip of random frames, compared with plainly.py."""
+"""join, anti, agg and dip of random frames, compared with by_rows.py and plainly.py."""
 import datetime
 import os
 import unittest
@@ -7,9 +7,10 @@ from unittest import mock
 
 import pandas as pd
 
+import by_rows
+import labels
 import plainly
 import random_frames
-import labels
 import ruzgalt
 from ruzgalt.frames import split
 
@@ -58,7 +59,15 @@ class Case:
         self.times = [
             plainly.periods(frame, period, self.is_last_day) for frame, period in zip(self.frames, self.periods)
         ]
-        self.keys = [plainly.keys(frame, names) for frame, names in zip(self.frames, self.names)]
+        # by_rows.py counts days; here a day is the index of a point among all.
+        self.points = sorted({point for times in self.times for column in times for point in column.tolist()})
+        self.held = [
+            list(zip(zip(*(map(self.points.index, column.tolist()) for column in times)), self.keys(frame, names)))
+            for times, frame, names in zip(self.times, self.frames, self.names)
+        ]
+
+    def keys(self, frame, names):
+        return list(zip(*(frame[name].tolist() for name in names))) if names else [()] * len(frame)
 
     @property
     def common(self):
@@ -97,7 +106,7 @@ class RandomFrames(unittest.TestCase):
             self.assertTrue(is_same(one, cells[place]), (name, one, cells[place]))
 
     def joins(self, case):
-        wanted = plainly.join(*case.times, *case.keys)
+        wanted = [(*map(case.points.__getitem__, row[:2]), *row[2:]) for row in sorted(by_rows.pairs(*case.held))]
         got = labels.join(*case.frames, **case.words)
         self.has_points(case, got["from"], [row[0] for row in wanted])
         self.has_points(case, got["to"], [row[1] for row in wanted], is_end=True)
@@ -110,7 +119,7 @@ class RandomFrames(unittest.TestCase):
                 self.has_cells(got[name + suffix if name in kept[1 - side] else name], frame, name, places)
 
     def anti_joins(self, case):
-        wanted = plainly.anti(*case.times, *case.keys)
+        wanted = [(row, *map(case.points.__getitem__, times)) for row, *times in by_rows.unmet(*case.held)]
         got, frame = ruzgalt.anti(*case.frames, **case.words), case.frames[0]
         self.has_points(case, got["from"], [row[1] for row in wanted])
         self.has_points(case, got["to"], [row[2] for row in wanted], is_end=True)
@@ -131,7 +140,9 @@ class RandomFrames(unittest.TestCase):
             self.assertEqual((refused.name, case.rows < 20), ("Full", True), refused)
             return
         amounts = [1] * len(frame) if column is None else frame[column].tolist()
-        wanted = plainly.agg(case.times[0], case.keys[0], function, amounts)
+        held = [(*row, amount) for row, amount in zip(case.held[0], amounts)]
+        wanted = [(*row[:-3], *map(case.points.__getitem__, row[-3:-1]), row[-1])
+                  for row in by_rows.by_group(held, by_rows.FUNCTIONS[function])]
         if case.kinds[0] == case.kinds[1]:
             self.has_points(case, got["from"], [row[-3] for row in wanted])
             self.has_points(case, got["to"], [row[-2] for row in wanted], is_end=True)

@@ -108,11 +108,8 @@ CALLS = [
     ("left_on without right_on", lambda: ruzgalt.join(OK, OK, left_on="k"), "BadCommand", None, None),
     ("on and left_on", lambda: ruzgalt.anti(OK, OK, on="k", left_on="k"), "BadCommand", None, None),
     ("the sum of texts", lambda: ruzgalt.agg(OK, "sum", "k"), "WrongKind", "k", None),
-    ("avg", lambda: ruzgalt.agg(OK, "avg", "k"), "BadCommand", None, None),
     ("the greatest of an order", lambda: ruzgalt.agg(frame(k=RANKS), "max", "k"), "WrongKind", "k", None),
-    ("a sum of nothing", lambda: ruzgalt.agg(OK, "sum"), "BadCommand", None, None),
     ("a count by count", lambda: ruzgalt.agg(frame(count=[1, 2]), "count", by="count"), "TwiceNamed", "count", None),
-    ("a period of three", lambda: ruzgalt.join(OK, OK, on="k", period=("from", "to", "k")), "BadCommand", None, None),
     ("two kinds, the other way round", lambda: ruzgalt.anti(frame(k=[1, 2]), OK, on="k"), "WrongKind", "k", None),
     ("a time and last days", lambda: ruzgalt.join(OK, TIMES, on="k", last_day=True), "BadPoint", "to", "x"),
     ("a division of 1,000,001 rows", lambda: ruzgalt.dip(MANY), "Full", None, None),
@@ -153,11 +150,25 @@ class Refusals(unittest.TestCase):
             (lambda: ruzgalt.join(frame(k=[1, 2]), OK, on="k"), "makes numbers of texts such as '001'"),
             (lambda: ruzgalt.join(floats, frame(k=[1, 2]), on="k"), "float64, but 'k' of the right frame is int64"),
             (lambda: ruzgalt.anti(frame(k=[1, 2]), floats, on="k", decimals={"k": 2}), "it is int64, but 'k' of the"),
+            (lambda: ruzgalt.agg(OK, "max", "k"), ".astype('int64') makes numbers"),
+            (lambda: ruzgalt.dip(frame(**{"from": DAYS([None, "2024-01-02"])})), ".dropna(subset=['from'])"),
+            (lambda: ruzgalt.dip(frame(to=[20240201, 20240202])), "format='%Y%m%d'"),
+            (lambda: ruzgalt.dip(frame(to=frame()["from"])), "last_day=True"),
+            (lambda: ruzgalt.gaps(OK, within=("2024-01-01", None)), "open_end=True returns it as missing"),
+            (lambda: ruzgalt.check(OK, []), "part=[]: must be"),
+            (lambda: store(OK).at("t", pd.Timestamp("2024-01-01", tz="UTC")), ".replace(tzinfo=None) removes"),
+            (lambda: store(OK).rows("t", NOON.replace(tzinfo=UTC)), ".replace(tzinfo=None) removes"),
+            (lambda: store(OK).update("t", NOON, None, {"k": None}), "str(..) makes a text of a number"),
+            (lambda: store(frame(k=[1, 2])).update("t", NOON, None, {"k": "1"}), "int(..) makes one of a text"),
+            (lambda: ruzgalt.Store.from_script(store(OK).script(), options={"t": {"key": "k"}}), "of t has 'key', but"),
         ]
         for asked, wanted in cases:
             with self.subTest(wanted), self.assertRaises(ruzgalt.Refused) as caught:
                 asked()
             self.assertIn(wanted, caught.exception.reason)
+        with self.assertRaises(ruzgalt.Refused) as caught:
+            ruzgalt.dip(OK, period=("to", "from"))
+        self.assertNotIn("last_day", caught.exception.reason)
 
     def test_a_level_of_the_index_is_no_period(self):
         with self.assertRaises(ruzgalt.Refused) as caught:
@@ -178,11 +189,6 @@ class Refusals(unittest.TestCase):
                 ruzgalt.join(frame(k=cells), OK, on="k")
             self.assertIn("no value is given; .dropna(subset=['k'])", caught.exception.reason)
             self.assertNotIn("fillna", caught.exception.reason)
-
-    def test_an_option_of_another_call_is_a_type_error(self):
-        self.assertRaises(TypeError, lambda: ruzgalt.anti(OK, OK, suffixes=True))
-        self.assertRaises(TypeError, lambda: ruzgalt.dip(OK, how="left"))
-        self.assertRaises(TypeError, lambda: ruzgalt.join(OK, OK, onn="k"))
 
     def test_refusals_of_decimals(self):
         """A missing cell, a float, a category of floats, and a sum that the column's floats can't have."""

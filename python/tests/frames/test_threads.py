@@ -1,6 +1,5 @@
 """Calls on several threads: they give the answers of one call, and each lot has whole classes."""
 import unittest
-from concurrent.futures import ThreadPoolExecutor
 from unittest import mock
 
 import numpy as np
@@ -51,13 +50,6 @@ class Threads(unittest.TestCase):
             wanted, count, instant = library.dip(start, end)
             self.assertEqual((part[own].tolist(), parts[number], instants[number]), (wanted.tolist(), count, instant))
             self.assertEqual(library.check(start, end, wanted, count, instant), (0, 0, 0))
-
-    def test_many_threads_at_once_have_answers_of_their_own(self):
-        given = [rows(seed, 50 * seed, 5) for seed in range(1, 40)]
-        wanted = [library.join(one, one) for one in given]
-        with ThreadPoolExecutor(8) as pool:
-            for found, one in zip(pool.map(lambda one: library.join(one, one), given), wanted):
-                self.same(found, one)
 
     @given(COUNTS, COUNTS, st.integers(1, 8), st.integers(1, 40))
     def test_lots_have_whole_classes_each_row_once(self, lefts, rights, wanted, most):

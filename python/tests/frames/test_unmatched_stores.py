@@ -18,7 +18,7 @@ def frame(starts, ends, **cells):
 LEFT = frame(["2024-01-01", "2024-02-01", "2024-01-01"], ["2024-03-01", "2024-06-01", "2024-02-01"], k=["a", "b", "c"],
              n=[1, 2, 2**53 + 2], note=["x", None, "z"], price=[1.25, 2.5, 3.0], q=pd.array([1, None, 3], "Int64"))
 RIGHT = frame(["2024-02-01", "2024-05-01", "2024-01-01"], ["2024-04-01", None, "2024-01-02"], k=["a", "b", "d"],
-              n=[7, 8, 9], euros=pd.Series(["1.5", "2.5", "3.0"], dtype=object).map(decimal.Decimal))
+              n=[7, 2, 9], euros=pd.Series(["1.5", "2.5", "3.0"], dtype=object).map(decimal.Decimal))
 OPTIONS = {"decimals": {"price": 2}, "missing": {"note": "none", "q": -1}}
 
 

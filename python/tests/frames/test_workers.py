@@ -38,10 +38,6 @@ def frame(seed):
     return pd.DataFrame({"from": start.astype("M8[ns]"), "to": end.astype("M8[ns]"), "k": values})
 
 
-def in_order(made):
-    return made.sort_values(list(made.columns)).reset_index(drop=True)
-
-
 class Workers(unittest.TestCase):
     @classmethod
     def setUpClass(cls):

@@ -12,13 +12,14 @@ from pathlib import Path
 import pandas as pd
 
 import ruzgalt
+from store_case import Case
 
 DAY = pd.to_datetime
 QUESTIONS = ["rows,pay", "dip,pay", "agg,pay,sum,cents", "agg,pay,count,by,person", "join,pay,pay"]
 NO_QUESTIONS = ["", "delete,pay,2024-01-01,2024-02-01", "rows,pay\nrows,pay", 'rows,"pay', "rows", "rows,none", "log"]
 
 
-class Written(unittest.TestCase):
+class Written(Case):
     def setUp(self):
         pay = pd.DataFrame({"from": DAY(["2024-01-01", "2024-03-01"]), "to": DAY(["2024-07-01", "2024-10-01"]),
                             "person": ["Ada <b>", "Grace"], "cents": [5000, 4800]})
@@ -110,14 +111,13 @@ class Written(unittest.TestCase):
         for answered in ("<!DOCTYPE html>", "rows,pay", "agg,pay,sum,cents", "Grace", "pay.csv", "Wages", "cost"):
             self.assertIn(answered.lower(), page.lower())
         self.assertNotIn("Ada <b>", page)
-        for asked in (["rows,none"], ["rows,pay", "delete,pay,2024-01-01,2024-02-01"], "rows,pay"):
-            with self.subTest(asked), self.assertRaises(ruzgalt.Refused):
-                self.store.page(self.folder / "other.html", asked)
-        for words in ({"title": None}, {"title": 5}, {"note": ["x"]}, {"diary": 5}):
-            with self.subTest(words), self.assertRaises(ruzgalt.Refused):
-                self.store.page(self.folder / "other.html", **words)
-        with self.assertRaises(ruzgalt.Refused):
-            ruzgalt.Store().page(self.folder / "other.html")
+        other = self.folder / "other.html"
+        for given, words in ((["rows,none"], {}), (["rows,pay", NO_QUESTIONS[1]], {}), ("rows,pay", {}),
+                             ([], {"title": None}), ([], {"title": 5}), ([], {"note": ["x"]}),
+                             ([], {"diary": 5}), ([], {"diary": "none"}), ([], {"diary": "pay"})):
+            with self.subTest(given, **words), self.assertRaises(ruzgalt.Refused):
+                self.store.page(other, given, **words)
+        self.refuses(lambda: ruzgalt.Store().page(other), "NoTable", "empty")
         self.assertEqual(os.listdir(self.folder), ["pay.html"])
 
     def test_pictures_are_of_each_answer_that_has_one(self):
@@ -141,11 +141,8 @@ class Written(unittest.TestCase):
             self.store.update("pay", "2024-01-01", None, {"cents": 77777}, {"person": "Grace"})
             words = {"label": "cents", "where": {"person": "Grace"}}
             self.assertIn("77777", self.store.picture("rows,pay", **words).svg)
-        with self.assertRaises(ruzgalt.Refused) as caught, self.store.batch():
+        with self.assertRaisesRegex(ruzgalt.Refused, "both hold at"), self.store.batch():
             self.store.load("pay", self.store.rows("pay").drop(columns="row_id"))
-            self.store.picture("rows,pay", by="person")
-        self.assertEqual(caught.exception.name, "KeyOverlap")
-        self.assertIn("both hold at", caught.exception.reason)
 
     def test_in_a_batch_no_file_is_written(self):
         """Files would have another state than questions, or changes that are refused later."""
@@ -155,9 +152,7 @@ class Written(unittest.TestCase):
             for call in (lambda: self.store.save(file), lambda: self.store.page(page), self.store.script,
                          lambda: self.store.page(page, ["rows,pay"]), lambda: copy.copy(self.store),
                          lambda: pickle.dumps(self.store)):
-                with self.assertRaises(ruzgalt.Refused) as caught:
-                    call()
-                self.assertIn("after its end", str(caught.exception))
+                self.refuses(call, "BadCommand", "after its end")
             self.assertEqual(repr(self.store), "<Store of 3 commits, tables: pay>")
         self.store.save(file)
         self.store.page(page, ["rows,pay"])
@@ -168,9 +163,7 @@ class Written(unittest.TestCase):
         for question in (*NO_QUESTIONS, 5):
             with self.subTest(question), self.assertRaises(ruzgalt.Refused):
                 self.store.picture(question)
-        with self.assertRaises(ruzgalt.Refused) as caught:
-            self.store.picture("between,pay,0,9")
-        self.assertIn("where=", str(caught.exception))
+        self.refuses(lambda: self.store.picture("between,pay,0,9"), "BadCommand", "where=")
         for words in ({"by": "none"}, {"width": 5}, {"start": "x"}, {"where": {"none": 1}}, {"where": "cents"},
                       {"where": {"cents": 4800.5}}, {"where": {"person": None}}):
             with self.subTest(words), self.assertRaises(ruzgalt.Refused):

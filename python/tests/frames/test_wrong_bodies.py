@@ -6,12 +6,13 @@ from unittest import mock
 import numpy as np
 import pandas as pd
 
+import test_hostile_stores  # Without hypothesis it leaves this module out too.
 import test_random_frames
-import test_random_stores
+from hypothesis import Phase, settings
 from ruzgalt.convert import instants, kinds, points, values
 from ruzgalt.frames import sides as rows, split
 from ruzgalt.script import naming
-from ruzgalt.store import live as answers
+from ruzgalt.store import lists as answers
 
 # So many seeds are tried until a wrong body is noticed.
 SEEDS = 400
@@ -36,10 +37,6 @@ def factorized(cells):
 
 def quoted(data, start, stop):
     return answers.of_objects([data[low:high].tobytes().decode() for low, high in zip(start, stop)])
-
-
-def closed(data, start, stop):
-    return np.maximum(answers.commits(data, start, stop), 0)
 
 
 def unclipped(side, low, high):
@@ -70,7 +67,7 @@ def first_alone(one, other, sort):
     return one
 
 
-FRAMES, STORES = test_random_frames.RandomFrames, test_random_stores.RandomStores
+FRAMES, STORES = test_random_frames.RandomFrames, test_hostile_stores.Hostile
 # A name, the object and its attribute, the value that replaces it, and the tests that must notice.
 WRONG = [
     ("halves of what goes on over a cut", split, "closed_up", unglued, FRAMES),
@@ -86,20 +83,19 @@ WRONG = [
     ("quotes that stay", answers, "READERS", {**answers.READERS, "t": quoted}, STORES),
     ("names of tables that stay", naming, "apart", list, STORES),
     ("ends of changes as they are given", instants, "portion", unmoved, STORES),
-    ("open versions as closed ones", answers, "READERS", {**answers.READERS, "c": closed}, STORES),
 ]
 
 
 def is_noticed(tests):
-    """Whether a test fails of some seed."""
-    result = unittest.TestResult()
-    module = {FRAMES: test_random_frames, STORES: test_random_stores}[tests]
-    name = "PAIRS" if tests is FRAMES else "STORES"
-    for seed in range(1, SEEDS, 20):
-        with mock.patch.object(module, "SEED", seed), mock.patch.object(module, name, 20):
-            unittest.defaultTestLoader.loadTestsFromTestCase(tests).run(result)
-        if result.failures or result.errors:
-            return True
+    """Whether a test fails: random frames of some seed, or some of a thousand stores, which aren't shortened."""
+    many = settings(test_hostile_stores.MANY, max_examples=1000, derandomize=False, phases=[Phase.generate])
+    with mock.patch.object(test_random_frames, "PAIRS", 20), mock.patch.object(test_hostile_stores, "MANY", many):
+        for seed in range(1, SEEDS, 20) if tests is FRAMES else [0]:
+            result = unittest.TestResult()
+            with mock.patch.object(test_random_frames, "SEED", seed):
+                unittest.defaultTestLoader.loadTestsFromTestCase(tests).run(result)
+            if result.failures or result.errors:
+                return True
     return False
 
 
