@@ -25,13 +25,13 @@ class Browser:
     """One window, which is closed at the end of a `with`. What the page says on its console is kept."""
 
     def __init__(self) -> None:
-        self.folder = tempfile.TemporaryDirectory(prefix="browser")
+        self.folder = tempfile.mkdtemp(prefix="browser")
         given, self.writes = os.pipe()
         self.reads, printed = os.pipe()
         # The browser reads from 3 and writes to 4, whichever these are here.
         words = ["bash", "-c", f'exec "$0" "$@" 3<&{given} 4>&{printed}', str(PROGRAM), *WORDS]
         self.process = subprocess.Popen(
-            [*words, f"--user-data-dir={self.folder.name}", "about:blank"], pass_fds=(given, printed),
+            [*words, f"--user-data-dir={self.folder}", "about:blank"], pass_fds=(given, printed),
             stderr=subprocess.DEVNULL, stdout=subprocess.DEVNULL,
         )
         os.close(given)
@@ -53,7 +53,7 @@ class Browser:
         self.process.wait()
         os.close(self.reads)
         os.close(self.writes)
-        shutil.rmtree(self.folder.name, ignore_errors=True)
+        shutil.rmtree(self.folder, ignore_errors=True)
 
     def ask(self, method: str, **words: Any) -> Dict[str, Any]:
         """The answer to a message; what comes before it are events."""
@@ -98,10 +98,11 @@ class Browser:
         return found["result"].get("value")
 
     def faults(self) -> List[str]:
-        """Returns the console's errors, and all that the page requested besides itself."""
-        wrong = [event for event in self.events if event["method"] in ("Runtime.exceptionThrown", "Log.entryAdded")]
-        asked = [event["params"]["request"]["url"] for event in self.events if event["method"] == WILL_ASK]
-        return [json.dumps(event["params"]) for event in wrong] + [url for url in asked[1:] if is_asked(url)]
+        """Returns the errors of the console, and the addresses that the page requested, without saved files."""
+        wrong = [one for one in self.events if one["method"] in ("Runtime.exceptionThrown", "Log.entryAdded")]
+        asked = [one for one in self.events if one["method"] == "Network.requestWillBeSent"]
+        urls = [one["params"]["request"]["url"] for one in asked[1:]]
+        return [json.dumps(one["params"]) for one in wrong] + [url for url in urls if not url.startswith("blob:")]
 
     def press(self, key: str, code: int, text: str = "") -> None:
         words: Dict[str, Any] = {"key": key, "code": key, "windowsVirtualKeyCode": code}
@@ -126,10 +127,3 @@ class Browser:
         self.ask("Emulation.setEmulatedMedia", media="")
         found = self.ask("Page.printToPDF", preferCSSPageSize=True, printBackground=False)
         return base64.b64decode(found["data"])
-
-
-WILL_ASK = "Network.requestWillBeSent"
-
-
-def is_asked(url: str) -> bool:
-    return not url.startswith("blob:")

@@ -8,11 +8,11 @@ import unittest
 from tests.support import PROGRAM
 
 try:
-    from hypothesis import example, given, settings, strategies as st
+    from hypothesis import assume, example, given, settings, strategies as st
 except ModuleNotFoundError as error:
     raise unittest.SkipTest("what hypothesis draws for the tools") from error
 
-__all__ = ["drawn", "example", "given", "needs_program", "st"]
+__all__ = ["assume", "drawn", "example", "given", "needs_program", "st"]
 
 
 def drawn(count: int = 150) -> settings:

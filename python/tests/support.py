@@ -2,12 +2,14 @@
 import contextlib
 import io
 import os
+import re
+import shlex
 import sys
 import tempfile
 import unittest
 from importlib.util import find_spec
 from pathlib import Path
-from typing import Iterator, List, Tuple
+from typing import Iterator, List, Mapping, Tuple
 from unittest import mock
 
 from ruzgalt.cli import answers as answers_tool, load as load_tool
@@ -16,6 +18,11 @@ TOP = Path(__file__).resolve().parents[2]
 # The program that answers, as tests of both suites are given it.
 PROGRAM = Path(os.environ.get("DIPQ", TOP / "crates/dipq/out/dipq")).resolve()
 EXAMPLE = "examples/pay.csv"
+# Each example's script with its answers, by its name in capitals.
+EXAMPLES = {
+    file.stem.upper(): f"examples/{file.name} --answers examples/{file.name}.stdout"
+    for file in TOP.glob("examples/*.csv")
+}
 NEEDS_PANDAS = unittest.skipUnless(find_spec("pandas"), "pandas isn't installed: apt-get install python3-pandas")
 TOOLS = {"tools/answers": answers_tool.main, "tools/csv-to-load": load_tool.main}
 
@@ -69,3 +76,12 @@ class ToolCase(unittest.TestCase):
                 # Instead of a load it prints a record that the store refuses.
                 nothing = "csv-to-load failed\n" if words[0] == "tools/csv-to-load" else ""
                 self.assertEqual((said.count("\n"), printed), (1, nothing))
+
+    def ends(self, status: int, parts: Mapping[str, str], given: str = "") -> None:
+        """Each command line of tools/answers ends with the status, and prints or reports its part.
+
+        An example's name in capitals, such as PAY, stands for the script and its answers.
+        """
+        for words, part in parts.items():
+            line = re.sub(r"\b[A-Z]+\b", lambda name: EXAMPLES.get(name[0], name[0]), words)
+            self.check(["tools/answers", *shlex.split(line)], given, status, part)

@@ -1,52 +1,21 @@
-"""The words of tools/answers, by scripts and the program's answers to them, which are given here."""
+"""What tools/answers finds in scripts: possible mistakes, tables, ends of lists, and the line on a terminal."""
 import contextlib
 import io
 import os
-import sys
 import tempfile
 import time
 import unittest
 from pathlib import Path
-from typing import Iterator, List, Tuple
+from typing import Iterator
 from unittest import mock
 
 from ruzgalt import progress, which
-from ruzgalt.cli import answers as answers_tool, streams
+from ruzgalt.cli import streams
 from ruzgalt.progress import Progress
 from ruzgalt.script import records
-from tests.support import NEEDS_PANDAS, run as run_tool
+from tests.support import NEEDS_PANDAS, ToolCase, run
 
 PAY = "table,pay,person,text,euros,int\nload,pay\nrow,2024-01-01,2024-03-01,A,5\nrow,2024-04-01,2024-06-01,A,6\nend\n"
-ROWS = "row,1,2024-01-01,2024-03-01,A,5\nrow,2,2024-04-01,2024-06-01,A,6\nend,2\n"
-FAKE = """#!/usr/bin/env python3
-import sys
-sys.stdin.read()
-sys.stdout.write({!r})
-"""
-
-
-def answers(words: str, script: str, answered: str, is_faked: bool = False) -> Tuple[int, str, str]:
-    """Returns the status of a command and its two outputs; $S is the script, and $A its answers, or a fake's."""
-    with tempfile.TemporaryDirectory() as folder:
-        files = {"$S": Path(folder, "script.csv"), "$A": Path(folder, "answers.csv"), "$P": Path(folder, "program")}
-        for file, text in zip(files.values(), (script, answered, FAKE.format(answered))):
-            file.write_bytes(text.encode())
-        files["$P"].chmod(0o700)
-        split = words.split(" ")
-        for name, file in files.items():
-            split = [one.replace(name, str(file)) for one in split]
-        with mock.patch.dict(os.environ, {"DIPQ": str(files["$P"])} if is_faked else {}):
-            return run(split)
-
-
-def run(words: List[str]) -> Tuple[int, str, str]:
-    printed, said = io.TextIOWrapper(io.BytesIO(), "utf-8"), io.StringIO()
-    with mock.patch.object(sys, "stdout", printed), contextlib.redirect_stderr(said):
-        status = answers_tool.main(words)
-        printed.flush()
-    data = printed.buffer
-    assert isinstance(data, io.BytesIO)
-    return status, data.getvalue().decode(), said.getvalue()
 
 
 OTHER = "table,of,name,text\nload,of\nrow,2024-01-01,{},{}\nend\n"
@@ -71,6 +40,8 @@ MARKS = [
      + LOADED.format("2024-07-01,2024-08-01"), "1 of its other rows are in no later load"),
     (OTHER.format("2024-03-01", "a") + "join,pay,of,on,person,name\n",
      "no value of these columns in common, so no row matches: 'A' and 'a' look alike"),
+    (OTHER.format("2024-03-01", "a") + "load,of\nrow,2024-01-01,2024-03-01,A \nend\njoin,pay,of,on,person,name\n",
+     "so no row matches: 'A' and 'a' look alike"),
     ("anti,pay,pay,on,person,person\n", "without one of pay, ask by anti,pay,pay"),
     ("table,of,name,text\nanti,of,pay,on,name,person\n", ""),
     ('update,pay,2024-01-01,2024-12-01,set,euros,7,where,person,"A\nrows,pay\n',
@@ -86,7 +57,7 @@ MARKS = [
 
 class Lists(unittest.TestCase):
     def noted(self, script: str, tool: str = "list") -> str:
-        return run_tool(["tools/answers", tool, "-", "--go-on"], script)[2]
+        return run(["tools/answers", tool, "-", "--go-on"], script)[2]
 
     def is_marked(self, script: str, part: str) -> None:
         with self.subTest(script):
@@ -171,126 +142,99 @@ class Lists(unittest.TestCase):
             self.is_marked(f"table,diary,newest,int\nload,diary\n{rows}end\n", "")
 
 
-class Tables(unittest.TestCase):
-    def prints(self, wanted: str, words: str, script: str, answered: str) -> None:
-        status, printed, said = answers(words, script, answered)
-        self.assertEqual((status, printed, said), (0, wanted, ""))
+DIARY = "table,diary,newest,int\nload,diary\nrow,2024-01-01,{}\nrow,{}\nend\n"
 
-    @NEEDS_PANDAS
-    def test_gaps_are_the_times_between_rows_of_one_value(self) -> None:
-        wanted = "valid_from,valid_to,person\n2024-03-01,2024-04-01,A\n"
-        self.prints(wanted, "gaps $S person --answers $A", PAY + "rows,pay\n", f"ok,1\nok,2\n{ROWS}")
 
+class Tables(ToolCase):
     @NEEDS_PANDAS
     def test_overlaps_and_gaps_are_by_the_size_of_numbers(self) -> None:
         periods = "2024-01-01,2024-02-01", "2024-03-01,2024-04-01"
         rows = [f"{period},{number}" for number in (10, 9) for period in periods]
         script = "table,t,desk,int\nload,t\n" + "".join(f"row,{row}\n" for row in rows * 2) + "end\nrows,t\n"
-        listed = "".join(f"row,{number},{row}\n" for number, row in enumerate(rows * 2, 1))
         for command, heads in (("gaps", "valid_from,valid_to,desk"), ("overlaps", "row_id,other_row_id,valid_from,")):
-            _, printed, _ = answers(f"{command} $S desk --answers $A", script, f"ok,1\nok,2\n{listed}end,8\n")
-            first, *records = printed.splitlines()
+            first, *records = run(["tools/answers", command, "-", "desk"], script)[1].splitlines()
             self.assertTrue(first.startswith(heads))
             numbers = [int(record.split(",")[-1]) for record in records]
             self.assertEqual((numbers, set(numbers)), (sorted(numbers), {9, 10}))
 
     @NEEDS_PANDAS
-    def test_overlaps_are_those_of_the_answer_s_own_commit(self) -> None:
+    def test_gaps_and_overlaps_are_those_of_the_answer_s_own_commit(self) -> None:
+        self.ends(0, {"gaps - person": "valid_from,valid_to,person\n2024-03-01,2024-04-01,A\n"}, PAY + "rows,pay\n")
         script = PAY.replace("2024-04-01", "2024-02-01") + "rows,pay\ndelete,pay,2024-01-01,2024-02-10\nrows,pay\n"
         heads = "row_id,other_row_id,valid_from,valid_to,person\n"
-        for pick, start, ids in (("3", "2024-02-01", "1,2"), ("5", "2024-02-10", "3,4")):
-            self.prints(f"{heads}{ids},{start},2024-03-01,A\n", f"overlaps $S person --of {pick}", script, "")
+        self.ends(0, {
+            "overlaps - person --of 3": f"{heads}1,2,2024-02-01,2024-03-01,A\n",
+            "overlaps - person --of 5": f"{heads}3,4,2024-02-10,2024-03-01,A\n",
+        }, script)
 
     def test_history_tells_what_each_commit_changed_of_a_fact(self) -> None:
         script = PAY + "update,pay,2024-05-01,2024-06-01,set,euros,9,where,person,A\n"
         wanted = "commit,place,change,valid_from,valid_to,person,euros\n3,line 6,-,2024-05-01,2024-06-01,A,6\n"
         wanted += "3,line 6,+,2024-05-01,2024-06-01,A,9\n"
-        words = "history $S pay --answers $A --where person=A --commit 3"
-        self.prints(wanted, words, script, "ok,1\nok,2\nok,3\n")
-
-    def test_history_tells_the_past_that_a_commit_changed_by_a_diary(self) -> None:
-        script = PAY + "update,pay,2024-05-01,2024-06-01,set,euros,9,where,person,A\n"
-        script += "table,diary,newest,int\nload,diary\nrow,2024-01-01,2024-05-11,2\nrow,2024-05-11,9999-12-31,3\nend\n"
+        self.ends(0, {"history - pay --where person=A --commit 3": wanted}, script)
+        # By a diary, the past that a commit changed.
+        script += DIARY.format("2024-05-11,2", "2024-05-11,9999-12-31,3")
         wanted = "commit,place,entered,change,valid_from,valid_to,person,euros\n"
         wanted += "3,line 6,2024-05-11,-,2024-05-01,2024-05-11,A,6\n3,line 6,2024-05-11,+,2024-05-01,2024-05-11,A,9\n"
-        words = "history $S pay --answers $A --diary diary --retroactive --commit 3"
-        answered = "".join(f"ok,{number}\n" for number in range(1, 6))
-        self.prints(wanted, words, script, answered)
-        self.prints(wanted, f"{words}-", script, answered)
-        self.prints(wanted, f"{words}-4", script, answered)
+        words = "history - pay --diary diary --retroactive --commit"
+        self.ends(0, {f"{words} {commits}": wanted for commits in ("3", "3-", "3-4")}, script)
 
     def test_a_diary_of_commits_that_aren_t_there_is_reported(self) -> None:
-        script = PAY + "table,diary,newest,int\nload,diary\nrow,2024-01-01,2024-02-01,1\n"
-        script += "row,2024-02-01,2024-03-01,9\nend\n"
-        answered = "".join(f"ok,{number}\n" for number in range(1, 5))
-        _, _, said = answers("history $S pay --answers $A --diary diary", script, answered)
-        self.assertEqual(said, "answers: --diary diary: it names commit 9, which doesn't exist: the newest is 4\n")
-        _, printed, _ = answers("page $S --answers $A --diary diary", script, answered)
-        self.assertIn("it names commit 9, which doesn't exist", printed)
-        _, _, said = answers("history $S pay --answers $A --diary diary", script.replace(",9\n", ",1\n"), answered)
-        self.assertIn("commits without a day, which --retroactive leaves out: 2", said)
+        strange = "it names commit 9, which doesn't exist"
+        script = PAY + DIARY.format("2024-02-01,1", "2024-02-01,2024-03-01,9")
+        note = f"answers: --diary diary: {strange}: the newest is 4\n"
+        self.ends(0, {"history - pay --diary diary": note, "page - --diary diary": strange}, script)
+        without = "commits without a day, which --retroactive leaves out: 2"
+        self.ends(0, {"history - pay --diary diary": without}, script.replace(",9\n", ",1\n"))
 
     def test_history_without_rows_or_commits_is_reported(self) -> None:
-        _, _, said = answers("history $S pay --answers $A --where person=a", PAY, "ok,1\nok,2\n")
-        self.assertIn("no row of pay ever had the values of --where", said)
-        status, _, said = answers("history $S pay --answers $A --commit 3", PAY, "ok,1\nok,2\n")
-        self.assertEqual((status, "no such commit; the newest is 2" in said), (1, True))
-        for word, wanted in {"2-3": "2-3: no such commits", "2-1": "2-1: no such commits", "3-": "3-2: no"}.items():
-            status, _, said = answers(f"history $S pay --answers $A --commit {word}", PAY, "ok,1\nok,2\n")
-            self.assertEqual((status, wanted in said), (1, True), said)
-
-    def test_a_name_of_a_question_is_that_of_its_table(self) -> None:
-        words = "sqlite $S :memory: --answers $A --ask all=rows,pay"
-        self.prints("table,rows\nall,2\n", words, PAY, f"ok,1\nok,2\n{ROWS}")
+        self.ends(0, {"history - pay --where person=a": "no row of pay ever had the values of --where"}, PAY)
+        self.ends(1, {
+            "history - pay --commit 3": "no such commit; the newest is 2",
+            "history - pay --commit 2-3": "2-3: no such commits", "history - pay --commit 2-1": "2-1: no such commits",
+            "history - pay --commit 3-": "3-2: no",
+        }, PAY)
 
     def test_open_ends_are_null_and_a_day_is_a_view_where_asked(self) -> None:
-        script = PAY.replace("2024-06-01", "9999-12-31")
-        words = "sqlite $S :memory: --answers $A --open-null --day 2030-01-01 --ask all=rows,pay --query"
+        words = "sqlite - :memory: --open-null --day 2030-01-01 --ask all=rows,pay --query 'select * from all_day'"
         wanted = "row_id,valid_from,valid_to,person,euros\n2,2024-04-01,,A,6\n"
-        answered = f"ok,1\nok,2\n{ROWS}".replace("2024-06-01", "9999-12-31")
-        self.prints(wanted, f"{words}=select\t*\tfrom\tall_day".replace("--query=", "--query="), script, answered)
+        self.ends(0, {words: wanted}, PAY.replace("2024-06-01", "9999-12-31"))
 
-
-@contextlib.contextmanager
-def pieces_of(size: int) -> Iterator[None]:
-    with mock.patch.object(records, "PIECE", size):
-        yield
-
-
-class Mistakes(unittest.TestCase):
     def test_possible_mistakes_come_after_a_table_too(self) -> None:
         changes = "".join(
-            f"update,pay,2024-0{number}-01,2024-0{number}-02,set,euros,7,where,person,A\n" for number in range(1, 4)
+            f"update,pay,2024-0{number}-01,2024-0{number}-02,set,euros,7,where,person,a\n" for number in range(1, 4)
         )
         wrong = "update,pay,2024-01-01,2024-06-30,set,euros,7\ndelete,pay,2030-01-01,2030-01-02\n"
-        script = PAY + changes.replace("person,A", "person,a") + wrong + "rows,pay\nat,pay,2024-01-05\n"
-        status, _, said = answers("csv $S", script, "")
+        script = PAY + changes + wrong + "rows,pay\nat,pay,2024-01-05\n"
+        status, _, said = run(["tools/answers", "csv", "-"], script)
         self.assertEqual((status, said.count("\n")), (0, 3), said)
         self.assertIn("so nothing was changed (likewise line 7, line 8, line 10)", said)
-        load = "load,pay\nrow,2024-07-0{0},2024-07-0{0}T23:59:59,'B{0}',1\nend\n"
-        more = script + load.format(1) + "rows,pay,asof,1\njoin,pay,pay,on,euros,euros,asof,1\nat,pay,2024-01-05\n"
-        status, _, said = answers("csv $S", more, "")
+        script += "load,pay\nrow,2024-07-01,2024-07-01T23:59:59,'B1',1\nend\n"
+        script += "rows,pay,asof,1\njoin,pay,pay,on,euros,euros,asof,1\nat,pay,2024-01-05\n"
+        status, _, said = run(["tools/answers", "csv", "-"], script)
         self.assertEqual((status, said.count("\n")), (0, 6), said)
         self.assertRegex(said, r"answers: \d+ more possible mistakes: `tools/answers list` has all\n$")
 
 
-class LongLists(unittest.TestCase):
+class LongLists(ToolCase):
+    TEXT = '"A\nend,9\n"'
+    SCRIPT = PAY.replace("A,6", f"{TEXT},6").replace("euros,int", "euros,int,key,person") + "rows,pay\nlog\n"
+    ROWS = f"1,2024-01-01,2024-03-01,A,5\n2,2024-04-01,2024-06-01,{TEXT},6\n"
+
     def test_an_end_in_a_text_is_no_end_of_the_list(self) -> None:
-        text = '"A\nend,9\n"'
-        script = PAY.replace("A,6", f"{text},6").replace("euros,int", "euros,int,key,person") + "rows,pay\nlog\n"
-        rows = ROWS.replace("A,6", f"{text},6")
-        answered = f"ok,1\nok,2\n{rows}commit,1,1,table,pay,0,0\ncommit,2,1,load,pay,2,0\nend,2\n"
         for size in (1, 2, 3):
-            with self.subTest(size), pieces_of(size):
-                status, printed, _ = answers("csv $S 3", script, answered, is_faked=True)
-                self.assertEqual((status, printed.partition("\n")[2]), (0, rows.replace("row,", "")[:-len("end,2\n")]))
-                status, printed, _ = answers("csv $S 4", script, answered, is_faked=True)
-                self.assertEqual((status, printed.count("\n")), (0, 3))
+            with self.subTest(size), mock.patch.object(records, "PIECE", size):
+                self.ends(0, {"csv - 3": f"row_id,valid_from,valid_to,person,euros\n{self.ROWS}"}, self.SCRIPT)
+                self.ends(0, {"csv - 4": "\n2,1,load,pay,2,0\n"}, self.SCRIPT)
 
     def test_a_list_without_its_end_is_reported(self) -> None:
-        with pieces_of(1):
-            status, _, said = answers("csv $S", PAY + "rows,pay\n", "ok,1\nok,2\n" + ROWS[:-6], is_faked=True)
-        self.assertEqual((status, "the answers end before the list's end" in said), (1, True))
+        output = "ok,1\nok,2\nrow,1,2024-01-01,2024-03-01,A,5\nrow,2,2024-04-01,2024-06-01,A,6\n"
+        with tempfile.TemporaryDirectory() as folder, mock.patch.object(records, "PIECE", 1):
+            program = Path(folder, "program")
+            program.write_text(f"#!/bin/sh\ncat >/dev/null\nprintf '{output}'\n")
+            program.chmod(0o700)
+            with mock.patch.dict(os.environ, DIPQ=str(program)):
+                self.ends(1, {"csv -": "the answers end before the list's end"}, PAY + "rows,pay\n")
 
 
 class Terminals(unittest.TestCase):
@@ -338,21 +282,7 @@ class Terminals(unittest.TestCase):
         self.assertEqual(said.getvalue(), "")
 
 
-class Hints(unittest.TestCase):
-    def test_words_of_other_languages_are_answered_by_what_to_write(self) -> None:
-        for record, part in [
-            ("select * from pay", "the commands are table, load, "), ("# a comment", "a script has no comments"),
-            ("sep=;", "a spreadsheet's first line"), ("hello", "the commands are table, load, "),
-        ]:
-            with self.subTest(record):
-                _, printed, _ = answers("refusals $S --answers $A", record + "\n", "error,1,BadCommand\n")
-                self.assertIn(part, printed)
-
-    def test_two_columns_after_by_are_reported(self) -> None:
-        script = PAY + "agg,pay,count,by,person,euros\n"
-        _, printed, _ = answers("refusals $S --answers $A", script, "ok,1\nok,2\nerror,6,BadCommand\n")
-        self.assertIn("`by` takes one column", printed)
-
+class Programs(ToolCase):
     def test_the_program_is_named_or_in_the_package_or_next_to_it_or_on_the_path(self) -> None:
         with tempfile.TemporaryDirectory() as name:
             folder = Path(name)
@@ -380,9 +310,7 @@ class Hints(unittest.TestCase):
 
     def test_a_program_that_is_missing_is_reported_with_its_name_in_the_environment(self) -> None:
         with mock.patch.dict(os.environ, DIPQ="/none/dipq"):
-            status, _, said = answers("csv $S", PAY, "")
-        self.assertEqual(status, 1)
-        self.assertIn("DIPQ in the environment", said)
+            self.ends(1, {"csv -": "DIPQ in the environment"}, PAY)
 
 
 if __name__ == "__main__":

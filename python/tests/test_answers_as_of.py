@@ -1,13 +1,10 @@
 """Questions as of a day, by a diary of the script, compared with questions as of the newest commit then."""
-import os
 import unittest
-from pathlib import Path
 from typing import NamedTuple
 
 from ruzgalt.script import run as program
-from tests.support import TOP, run
+from tests.support import run
 
-PROGRAM = Path(os.environ.get("DIPQ", TOP / "crates/dipq/out/dipq")).resolve()
 PAY = """table,pay,person,text,euros,int,key,person
 load,pay
 row,2024-01-01,9999-12-31,Ada,5000
@@ -51,7 +48,6 @@ def named(tool: str, question: str) -> str:
     return f"a={question}" if tool in ("json", "sqlite", "page") else question
 
 
-@unittest.skipUnless(PROGRAM.exists(), "questions as of a day, since no program is built")
 class AsOf(unittest.TestCase):
     def is_refused(self, why: str, *words: str, script: str = PAY + DIARY) -> None:
         with self.subTest(why):

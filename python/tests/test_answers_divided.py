@@ -61,22 +61,22 @@ class Divided(unittest.TestCase):
 
 class Words(ToolCase):
     def test_only_a_division_has_parts(self) -> None:
-        pay = ["tools/answers", "csv", "examples/pay.csv", "--answers", "examples/pay.csv.stdout"]
-        self.check([*pay, "4", "--rows"], "", 1, "line 7: at,pay,2024-08-15: not a division: ask by `dip`")
-        self.check([*pay, "4", "--by", "person"], "", 1, "line 7: at,pay,2024-08-15: not a division: ask by `dip`")
-        self.check([*pay, "4", "--counts"], "", 1, "line 7: at,pay,2024-08-15: not a division: ask by `dip`")
-        self.check([*pay, "4", "--rows", "--folder", "x"], "", 1, "--by and --counts can't be given with --folder")
-        self.check([*pay, "4", "--rows", "--counts"], "", 1, "--rows can't be given with --counts")
+        self.ends(1, dict.fromkeys(
+            ("csv PAY 4 --rows", "csv PAY 4 --by person", "csv PAY 4 --counts"),
+            "line 7: at,pay,2024-08-15: not a division: ask by `dip`",
+        ))
+        self.ends(1, {
+            "csv PAY 4 --rows --folder x": "--by and --counts can't be given with --folder",
+            "csv PAY 4 --rows --counts": "--rows can't be given with --counts",
+        })
 
-    def test_a_division_is_counted(self) -> None:
-        posts = ["tools/answers", "csv", "examples/posts.csv", "--answers", "examples/posts.csv.stdout", "--counts"]
-        self.check(posts, "", 0, "rows,parts,instant\n7,3,2024-02-05\n")
-
-    def test_a_division_has_its_rows(self) -> None:
-        posts = ["tools/answers", "csv", "examples/posts.csv", "--answers", "examples/posts.csv.stdout", "--rows"]
-        head = "part,row_id,instant,valid_from,valid_to\n0,1,2024-02-05,2024-01-08,2024-03-01\n"
-        self.check(posts, "", 0, head)
-        self.check([*posts, "--last-day"], "", 0, "0,1,2024-02-05,2024-01-08,2024-02-29\n")
+    def test_a_division_has_its_counts_or_rows(self) -> None:
+        self.ends(0, {
+            "csv POSTS --counts": "rows,parts,instant\n7,3,2024-02-05\n",
+            "csv POSTS --rows":
+            "part,row_id,instant,valid_from,valid_to\n0,1,2024-02-05,2024-01-08,2024-03-01\n",
+            "csv POSTS --rows --last-day": "0,1,2024-02-05,2024-01-08,2024-02-29\n",
+        })
 
 
 if __name__ == "__main__":

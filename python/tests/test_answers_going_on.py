@@ -9,7 +9,7 @@ from datetime import date, timedelta
 from typing import Any, Counter as Counts, List, Tuple
 
 from tests.by_hypothesis import drawn, given, needs_program, st
-from tests.support import EXAMPLE, ToolCase, kept, run
+from tests.support import ToolCase, kept, run
 from tests.test_answers_hostile import printed
 from tests.test_answers_over_time import START, Case, cases, read
 
@@ -121,56 +121,50 @@ class GoingOn(unittest.TestCase):
 
 class Words(ToolCase):
     def test_what_can_t_be_raised_is_refused(self) -> None:
-        pay = ["tools/answers", "raise", EXAMPLE, "pay", "euros", "--answers", EXAMPLE + ".stdout"]
-        more = ["--percent", "2.5", "--from", "2024-07-01"]
-        for words, reason in [
-            (["--percent", "2,5", "--from", "2024-07-01"], "--percent 2,5: not a number such as 2.5 or -3"),
-            (["--percent", "0.0", "--from", "2024-07-01"], "--percent 0.0: nothing is raised"),
-            (["--percent", "-100.1", "--from", "2024-07-01"], "more than all is taken"),
-            (["--percent", "2.5", "--from", "1.7.2024"], "--from 1.7.2024: not a date or time"),
-            ([*more, "--to", "2024-07-01T00:00:00"], "isn't before --to"),
-            ([*more, "--where", "name=A"], "the table pay has no column name; its columns are person, euros"),
-            ([*more, "--where", "euros=05"], "--where euros=05: not a whole number in digits only"),
-        ]:
-            self.check([*pay, *words], "", 1, reason)
-        wrong = ["tools/answers", "raise", EXAMPLE, "pay", "person", "--answers", EXAMPLE + ".stdout", *more]
-        self.check(wrong, "", 1, "person: a column of texts")
-        self.check([*wrong[:3], "salary", *wrong[4:]], "", 1, "salary: no such table; the tables are pay")
-        self.check([*pay, *more, "--round", "nearest"], "", 2, "invalid choice: 'nearest'")
+        pay, more = "raise PAY pay euros", "--percent 2.5 --from 2024-07-01"
+        self.ends(1, {
+            f"{pay} --percent 2,5 --from 2024-07-01": "--percent 2,5: not a number such as 2.5 or -3",
+            f"{pay} --percent 0.0 --from 2024-07-01": "--percent 0.0: nothing is raised",
+            f"{pay} --percent -100.1 --from 2024-07-01": "more than all is taken",
+            f"{pay} --percent 2.5 --from 1.7.2024": "--from 1.7.2024: not a date or time",
+            f"{pay} {more} --to 2024-07-01T00:00:00": "isn't before --to",
+            f"{pay} {more} --where name=A": "the table pay has no column name; its columns are person, euros",
+            f"{pay} {more} --where euros=05": "--where euros=05: not a whole number in digits only",
+            f"raise PAY pay person {more}": "person: a column of texts",
+            f"raise PAY salary person {more}": "salary: no such table; the tables are pay",
+        })
+        self.ends(2, {f"{pay} {more} --round nearest": "invalid choice: 'nearest'"})
 
     def test_a_raise_says_how_it_rounds(self) -> None:
-        pay = ["tools/answers", "raise", EXAMPLE, "pay", "euros", "--answers", EXAMPLE + ".stdout"]
-        more = ["--from", "2024-07-01", "--dry-run"]
+        pay = "raise PAY pay euros --from 2024-07-01 --dry-run --percent"
         half = "4800 becomes 4800.048, which isn't a whole number: say how it is rounded"
-        self.check([*pay, *more, "--percent", "0.001", "--where", "euros=4800"], "", 1, half)
-        table = "rows,euros,exact,raised\n1,5400,5535,5535\n1,4800,4920,4920\n"
-        self.check([*pay, *more, "--percent", "2.5"], "", 0, table)
+        self.ends(1, {f"{pay} 0.001 --where euros=4800": half})
         note = "--to 2024-12-31: amounts of that day stay as they are; --to 2025-01-01 raises the amounts of the last"
-        self.check([*pay, *more, "--percent", "2.5", "--to", "2024-12-31"], "", 0, note)
-        self.check([*pay, *more, "--percent", "0.001", "--round", "down"], "", 0, "1,5400,5400.054,5400\n")
+        self.ends(0, {
+            f"{pay} 2.5": "rows,euros,exact,raised\n1,5400,5535,5535\n1,4800,4920,4920\n",
+            f"{pay} 2.5 --to 2024-12-31": note, f"{pay} 0.001 --round down": "1,5400,5400.054,5400\n",
+        })
 
     def test_what_can_t_go_on_is_refused(self) -> None:
-        pay = ["tools/answers", "next", EXAMPLE, "--answers", EXAMPLE + ".stdout"]
-        self.check([*pay, "7", "--table", "t"], "", 1, "its records aren't rows of one commit")
-        self.check([*pay, "6", "--table", "t"], "", 1, "its records aren't rows of one commit")
-        self.check([*pay, "4", "--table", "T"], "", 1, "--table T: not a table's name")
-        self.check([*pay, "4", "--table", "t", "--key", "who"], "", 1, "who: not one of the table's columns person")
-        self.check([*pay, "4", "--table", "t", *["--key", "person"] * 2], "", 1, "--key person: given twice")
-        both = ["--ids", "--column", "euros"]
-        self.check([*pay, "4", "--table", "t", *both], "", 1, "--ids can't be given with --column")
-        for words, note in [
-            (["person=Person"], "Person: not a column's name"), (["person", "euros=person"], "the name of two columns"),
-            (["name"], "no column name; its columns are row_id, "), (["person=by"], "by: not a column's name"),
-        ]:
-            self.check([*pay, "4", "--table", "t", *(one for word in words for one in ("--column", word))], "", 1, note)
-        self.check([*pay, "4", "--table", "t", "--column", "euros=pay"], "", 0, "table,t,pay,int\nload,t\nrow,2024-03")
+        pay = "next PAY 4 --table t"
+        self.ends(1, {
+            "next PAY 7 --table t": "its records aren't rows of one commit",
+            "next PAY 6 --table t": "its records aren't rows of one commit",
+            "next PAY 4 --table T": "--table T: not a table's name",
+            f"{pay} --key who": "who: not one of the table's columns person",
+            f"{pay} --key person --key person": "--key person: given twice",
+            f"{pay} --ids --column euros": "--ids can't be given with --column",
+            f"{pay} --column person=Person": "Person: not a column's name",
+            f"{pay} --column person --column euros=person": "the name of two columns",
+            f"{pay} --column name": "no column name; its columns are row_id, ",
+            f"{pay} --column person=by": "by: not a column's name",
+        })
+        self.ends(0, {f"{pay} --column euros=pay": "table,t,pay,int\nload,t\nrow,2024-03"})
 
     def test_a_sum_past_64_bits_can_t_go_on(self) -> None:
-        script = "table,t,n,int\nload,t\nrow,2024-01-01,2024-02-01,9223372036854775807\n" \
-            "row,2024-01-01,2024-02-01,1\nend\nagg,t,sum,n\n"
-        with kept("ok,1\nok,2\nrow,2024-01-01,2024-02-01,9223372036854775808\nend,1\n") as answers:
-            words = ["tools/answers", "next", "-", "--answers", answers, "--table", "n"]
-            self.check(words, script, 1, "sum_n is 9223372036854775808, which has more than 64 bits")
+        rows = "row,2024-01-01,2024-02-01,9223372036854775807\nrow,2024-01-01,2024-02-01,1\n"
+        part = "sum_n is 9223372036854775808, which has more than 64 bits"
+        self.ends(1, {"next - --table n": part}, f"table,t,n,int\nload,t\n{rows}end\nagg,t,sum,n\n")
 
 
 if __name__ == "__main__":

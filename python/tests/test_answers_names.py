@@ -5,28 +5,15 @@ from typing import Any, List, Tuple
 
 from ruzgalt.script import naming
 from ruzgalt.script.forms import is_name
-from tests.support import ToolCase, kept
+from tests.support import ToolCase
 
-SCRIPT = """table,t,row_id,int,row_id_,int,valid_to,text
-load,t
-row,2024-01-01,2024-02-01,4711,77,x
-end
-rows,t
-"""
-ANSWERS = """ok,1
-ok,2
-row,1,2024-01-01,2024-02-01,4711,77,x
-end,1
-"""
+SCRIPT = "table,t,row_id,int,row_id_,int,valid_to,text\nload,t\nrow,2024-01-01,2024-02-01,4711,77,x\nend\nrows,t\n"
 
 
 class Names(ToolCase):
     def test_a_repeated_name_gets_a_mark_and_stays_unique(self) -> None:
-        with kept(SCRIPT) as script:
-            self.check(
-                ["tools/answers", "csv", script, "3", "--answers", "-"], ANSWERS, 0,
-                "row_id,valid_from,valid_to,row_id__,row_id_,valid_to_\n1,2024-01-01,2024-02-01,4711,77,x\n",
-            )
+        wanted = "row_id,valid_from,valid_to,row_id__,row_id_,valid_to_\n1,2024-01-01,2024-02-01,4711,77,x\n"
+        self.ends(0, {"csv - 3": wanted}, SCRIPT)
 
     def test_names_of_any_kind(self) -> None:
         self.assertEqual(naming.apart(["a", "a", 1, None, None, "a_"]), ["a", "a__", 1, None, "None_", "a_"])

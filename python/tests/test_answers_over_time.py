@@ -20,8 +20,6 @@ DRAWN = drawn(100)
 START = date(2023, 12, 28)
 DAYS = st.integers(0, 70).map(lambda days: START + timedelta(days))
 AMOUNTS = st.one_of(st.integers(1 - (1 << 63), (1 << 63) - 1), st.integers(-9, 9))
-PAYROLL = ["tools/answers", "months", "examples/payroll.csv", "--answers", "examples/payroll.csv.stdout"]
-MONTHLY = ["--per", "month"]
 KEYS: Dict[str, Callable[[date], Any]] = {
     "month": lambda day: (day.year, day.month), "quarter": lambda day: (day.year, (day.month + 2) // 3),
     "year": lambda day: day.year, "week": lambda day: day.isocalendar()[:2], "day": lambda day: day,
@@ -190,90 +188,89 @@ class OverTime(unittest.TestCase):
 
 class WithoutPandas(ToolCase):
     def test_one_line_says_how_to_have_it(self) -> None:
+        needed = "answers: this command needs pandas: `apt-get install python3-pandas`, or `pip install pandas`"
         with mock.patch.dict(sys.modules):
             for name in [name for name in sys.modules if name.startswith(("ruzgalt.frames", "pandas."))]:
                 del sys.modules[name]
             sys.modules["pandas"] = None  # type: ignore[assignment]
-            for words in (["gaps", EXAMPLE, "person"], ["months", EXAMPLE, "--sum", "euros", *MONTHLY]):
-                needed = "answers: this command needs pandas: `apt-get install python3-pandas`, or `pip install pandas`"
-                self.check(["tools/answers", *words, "--ask", "rows,pay"], "", 1, needed)
+            words = (f"gaps {EXAMPLE} person", f"months {EXAMPLE} --sum euros --per month")
+            self.ends(1, {f"{one} --ask rows,pay": needed for one in words})
+
+
+SUMS = "months PAYROLL --go-on --sum sum_euros"
+TABLE = "table,t,k,text,cents,int\nload,t\nrow,2024-01-15,2025-01-15,a,120000\n"
 
 
 @NEEDS_PANDAS
 class Words(ToolCase):
     def test_what_can_t_be_counted_is_refused(self) -> None:
-        months = ["tools/answers", "months", EXAMPLE, "--answers", EXAMPLE + ".stdout", *MONTHLY]
-        self.check([*months, "4", "--sum", "euros"], "", 1, "an `at` is of one point only: ask by `rows`")
-        self.check([*months, "6", "--sum", "euros"], "", 1, "versions of several commits")
-        self.check([*months, "7", "--sum", "number"], "", 1, "its records aren't periods")
-        pay = [*PAYROLL, "--go-on", *MONTHLY]
-        unknown = "9999-12-31,42150: no end is known: give --to, the time until which"
-        self.check([*pay, "--sum", "sum_euros"], "", 1, unknown)
-        self.check([*pay, "--sum", "euros"], "", 1, "no column euros; its columns are valid_from, valid_to, sum_")
-        self.check([*pay, "--sum", "valid_to"], "", 1, "valid_to: a start or an end")
-        ids = ["tools/answers", "months", EXAMPLE, "--ask", "rows,pay", *MONTHLY]
-        self.check([*ids, "--sum", "row_id"], "", 1, "--sum row_id: a column of ids, whose sums mean nothing")
-        self.check([*pay, "--sum", "sum_euros", "--to", "2024-13-01"], "", 1, "--to 2024-13-01: not a date or time")
-        both = ["--from", "2024-02-01", "--to", "2024-02-01"]
-        self.check([*pay, "--sum", "sum_euros", *both], "", 1, "--from 2024-02-01 isn't before --to 2024-02-01")
-        self.check([*pay, "--sum", "sum_euros", "--each", "hour"], "", 2, "invalid choice: 'hour'")
-
-    def test_no_amount_is_taken_for_one_of_a_kind_that_nobody_said(self) -> None:
+        monthly = f"{SUMS} --per month"
         told = "--sum sum_euros: say what an amount is: --per month if a record has it in each month, such as a pay"
-        for words in (MONTHLY[:0], [*MONTHLY, "--in-total"]):
-            self.check([*PAYROLL, "--go-on", "--sum", "sum_euros", *words], "", 1, told)
-        total = [*PAYROLL, "--go-on", "--in-total", "--sum"]
-        self.check([*total, "sum_euros"], "", 1, "agg,pay,sum,euros: its records are parts of rows, and each part has")
+        self.ends(1, {
+            "months PAY --per month 4 --sum euros": "an `at` is of one point only: ask by `rows`",
+            "months PAY --per month 6 --sum euros": "versions of several commits",
+            "months PAY --per month 7 --sum number": "its records aren't periods",
+            "months PAYROLL --go-on --per month --sum euros": "no column euros; its columns are valid_from, valid_to, ",
+            "months PAYROLL --go-on --per month --sum valid_to": "valid_to: a start or an end",
+            f"months {EXAMPLE} --ask rows,pay --per month --sum row_id":
+            "--sum row_id: a column of ids, whose sums mean nothing",
+            monthly: "9999-12-31,42150: no end is known: give --to, the time until which",
+            f"{monthly} --to 2024-13-01": "--to 2024-13-01: not a date or time",
+            f"{monthly} --from 2024-02-01 --to 2024-02-01": "--from 2024-02-01 isn't before --to 2024-02-01",
+            SUMS: told, f"{monthly} --in-total": told,
+            f"{SUMS} --in-total": "agg,pay,sum,euros: its records are parts of rows, and each part has",
+        })
+        self.ends(2, {f"{monthly} --each hour": "invalid choice: 'hour'"})
 
     def test_only_the_time_that_is_given_counts(self) -> None:
-        sums, cut = [*PAYROLL, "--go-on", *MONTHLY, "--sum", "sum_euros"], ["--from", "2024-06-16", "--to"]
-        # 41,810 for 15 of 30 days, and 41,830 for half of a day of 31. Each piece has the time that counts.
-        pieces = "2024-06-16,2024-07-01,20905\n2024-07-01,2024-07-01T12:00:00,675\n"
-        self.check([*sums, *cut, "2024-07-01T12:00:00"], "", 0, pieces)
-        self.check([*sums, *cut, "2024-07-01"], "", 0, "valid_to,sum_euros\n2024-06-16,2024-07-01,20905\n")
-
-    def test_the_last_day_counts_where_ends_are_last_days(self) -> None:
-        months = [*PAYROLL, "--go-on", *MONTHLY, "--sum", "sum_euros", "--last-day"]
-        december = ["--from", "2024-12-01", "--to", "2024-12-31"]
-        self.check([*months, *december], "", 0, "last_day,sum_euros\n2024-12-01,2024-12-31,42150\n")
-        day = ["--from", "2024-12-31", "--to", "2024-12-31"]
-        self.check([*months, *day], "", 0, "last_day,sum_euros\n2024-12-31,2024-12-31,1360\n")
-        self.check([*months, "--from", "2025-01-01", *december[2:]], "", 1, "2025-01-01 is after --to 2024-12-31")
-        self.check([*months, "--to", "2024-12-31T12:00:00"], "", 1, "--last-day it is the last day that counts")
+        cut, december = f"{SUMS} --per month --from 2024-06-16", "--from 2024-12-01 --to 2024-12-31"
+        last = f"{SUMS} --per month --last-day"
+        self.ends(0, {
+            # 41,810 for 15 of 30 days, and 41,830 for half of a day of 31. Each piece has the time that counts.
+            f"{cut} --to 2024-07-01T12:00:00": "2024-06-16,2024-07-01,20905\n2024-07-01,2024-07-01T12:00:00,675\n",
+            f"{cut} --to 2024-07-01": "valid_to,sum_euros\n2024-06-16,2024-07-01,20905\n",
+            f"{last} {december}": "last_day,sum_euros\n2024-12-01,2024-12-31,42150\n",
+            f"{last} --from 2024-12-31 --to 2024-12-31": "last_day,sum_euros\n2024-12-31,2024-12-31,1360\n",
+        })
+        self.ends(1, {
+            f"{last} --from 2025-01-01 --to 2024-12-31": "2025-01-01 is after --to 2024-12-31",
+            f"{last} --to 2024-12-31T12:00:00": "--last-day it is the last day that counts",
+        })
 
     def test_an_amount_in_total_is_divided_over_its_record(self) -> None:
-        script = "table,t,k,text,cents,int\nload,t\nrow,2024-01-15,2025-01-15,a,120000\n{}end\n{}"
-        months = ["tools/answers", "months", "-", "--ask", "rows,t", "--sum", "cents", "--by", "k", "--in-total"]
-        years = "2024-01-01,2025-01-01,a,115410\n2025-01-01,2026-01-01,a,4590\n"
-        self.check([*months, "--each", "year"], script.format("", ""), 0, years)
-        january = "2025-01-01,2025-01-11,a,3279\n"
-        self.check([*months, "--from", "2025-01-01", "--to", "2025-01-11"], script.format("", ""), 0, january)
-        for row in ("2024-01-01,9999-12-31", "0001-01-01,2024-01-01"):
-            known = "start" if row.startswith("0001") else "end"
-            open_row = script.format(f"row,{row},b,5\n", "")
+        months = "months - --ask rows,t --sum cents --by k --in-total"
+        self.ends(0, {
+            f"{months} --each year": "2024-01-01,2025-01-01,a,115410\n2025-01-01,2026-01-01,a,4590\n",
+            f"{months} --from 2025-01-01 --to 2025-01-11": "2025-01-01,2025-01-11,a,3279\n",
+        }, TABLE + "end\n")
+        for row, known in (("2024-01-01,9999-12-31", "end"), ("0001-01-01,2024-01-01", "start")):
             part = f"no {known} is known, so an amount in total can't be divided: leave the record out by --where"
-            self.check([*months, "--from", "2024-01-01", "--to", "2024-02-01"], open_row, 1, part)
-        change = "update,t,2024-07-01,2025-01-15,set,k,b,where,k,a\n"
+            self.ends(1, {f"{months} --from 2024-01-01 --to 2024-02-01": part}, f"{TABLE}row,{row},b,5\nend\n")
+        change = f"{TABLE}end\nupdate,t,2024-07-01,2025-01-15,set,k,b,where,k,a\n"
         note = "update,t,2024-07-01,2025-01-15,set,k,b,where,k,a: if it has cut a row, each part of the row has"
-        self.check(months, script.format("", change), 0, note)
-        self.assertNotIn("cut a row", run([*months[:4], "rows,t,asof,2", *months[5:]], script.format("", change))[2])
+        self.ends(0, {months: note}, change)
+        before = ["tools/answers", *months.replace("rows,t", "rows,t,asof,2").split()]
+        self.assertNotIn("cut a row", run(before, change)[2])
 
     def test_sums_grouped_by_the_summed_column_have_its_decimals(self) -> None:
-        script = "table,t,cents,int\nload,t\nrow,2024-01-01,2024-02-01,4800\nend\n"
-        months = ["tools/answers", "months", "-", "--ask", "rows,t", "--by", "cents", "--sum", "cents", *MONTHLY]
+        months = "months - --ask rows,t --by cents --sum cents --per month --decimals cents=2"
         january = "valid_from,valid_to,cents,cents_\n2024-01-01,2024-02-01,48.00,"
-        self.check([*months, "--decimals", "cents=2"], script, 0, f"{january}48.00\n")
-        self.check([*months, "--decimals", "cents=2", "--decimals", "cents_=0"], script, 0, f"{january}4800\n")
+        self.ends(0, {
+            months: f"{january}48.00\n", f"{months} --decimals cents_=0": f"{january}4800\n",
+        }, "table,t,cents,int\nload,t\nrow,2024-01-01,2024-02-01,4800\nend\n")
 
     def test_a_difference_is_of_two_answers(self) -> None:
-        months = [*PAYROLL, "--go-on", *MONTHLY, "--sum", "sum_euros", "--from", "2024-05-01", "--to", "2024-08-01"]
+        months = f"{SUMS} --per month --from 2024-05-01 --to 2024-08-01"
         june = "2024-05-01,2024-06-01,0\n2024-06-01,2024-07-01,480\n2024-07-01,2024-08-01,360\n"
-        self.check([*months, "last", "--less", "last-1"], "", 0, june)
-        self.check([*months, "--less", "last-1"], "", 0, june)
-        self.check([*months, "--less", "last-1", "--no-zeros"], "", 0, "sum_euros\n2024-06-01,2024-07-01,480\n")
-        self.check([*months, "last", "--less", "last"], "", 1, "--less last: that is the answer whose amounts are")
-        self.check([*months, "--less", "before"], "", 1, "before: not a NUMBER, @LINE, last or last-N")
-        self.check([*months, "--less", "@29"], "", 1, "an `at` is of one point only")
+        self.ends(0, {
+            f"{months} last --less last-1": june, f"{months} --less last-1": june,
+            f"{months} --less last-1 --no-zeros": "sum_euros\n2024-06-01,2024-07-01,480\n",
+        })
+        self.ends(1, {
+            f"{months} last --less last": "--less last: that is the answer whose amounts are",
+            f"{months} --less before": "before: not a NUMBER, @LINE, last or last-N",
+            f"{months} --less @29": "an `at` is of one point only",
+        })
 
 
 if __name__ == "__main__":

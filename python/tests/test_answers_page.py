@@ -28,21 +28,17 @@ HOSTILE = [
 TIME = "2024-01-01,2024-02-01"
 
 
-def page_of(script: str, given: str, *words: str) -> str:
-    """Returns the page of a script with these answers, if any are given. Raises Misfit if no page is made."""
-    with kept(script) as name, kept(given) as answers:
-        more = ["--answers", answers] if given else []
-        status, printed, said = run(["tools/answers", "page", name, *more, "--go-on", *words])
+def page_of(script: str, *words: str) -> str:
+    """Returns the page of a script. Raises Misfit if no page is made."""
+    status, printed, said = run(["tools/answers", "page", "-", "--go-on", *words], script)
     if status:
         raise Misfit(said)
     return printed
 
 
 def example(name: str, *words: str) -> str:
-    file = f"examples/{name}.csv.stdout"
-    status, printed, said = run(["tools/answers", "page", f"examples/{name}.csv", "--answers", file, "--go-on", *words])
-    if status:
-        raise Misfit(said)
+    file = f"examples/{name}.csv"
+    _, printed, _ = run(["tools/answers", "page", file, "--answers", f"{file}.stdout", "--go-on", *words])
     return printed
 
 
@@ -59,7 +55,7 @@ def hostile() -> str:
     rows = [f"{TIME},{quoted(value)}" for value in HOSTILE]
     script = "table,t,name,text\nload,t\n" + "".join(f"row,{row}\n" for row in rows) + "end\nrows,t\n"
     script += f"{quoted(HOSTILE[1])},x\ndelete,t,{TIME},where,name,{quoted(HOSTILE[0] * 2)}\n"
-    return page_of(script, "")
+    return page_of(script)
 
 
 class Documents(unittest.TestCase):
@@ -156,9 +152,8 @@ class Contents(ToolCase):
         self.assertEqual((data["kept"]["name"], data["version"]), ("pay.csv.stdout", ""))
 
     def test_the_words_that_make_it_are_shown(self) -> None:
-        page = page_of("table,t,newest,int\n", "ok,1\nend,0\n", "--ask", "a=rows,t", "--diary", "t")
-        wanted = r"tools/answers page \S+ --answers \S+ --diary t --ask a=rows,t"
-        self.assertRegex(data_of(page)["data"]["command"], f"^{wanted}$")
+        page = page_of("table,t,newest,int\n", "--ask", "a=rows,t", "--diary", "t")
+        self.assertEqual(data_of(page)["data"]["command"], "tools/answers page - --diary t --ask a=rows,t")
         found = data_of(example("pay"))["data"]["command"]
         self.assertEqual(found, "tools/answers page pay.csv --answers pay.csv.stdout")
 
@@ -192,13 +187,11 @@ class Contents(ToolCase):
     def test_commits_have_their_counts_and_the_days_of_a_diary(self) -> None:
         script = Path(TOP, "examples/pay.csv").read_text() + "table,diary,newest,int\nload,diary\n"
         script += "row,2024-01-02,2024-08-20,2\nrow,2024-08-20,9999-12-31,3\nend\n"
-        answered = Path(TOP, "examples/pay.csv.stdout").read_text() + "ok,4\nok,5\n"
-        commits = data_of(page_of(script, answered, "--diary", "diary"))["data"]["commits"]
+        commits = data_of(page_of(script, "--diary", "diary"))["data"]["commits"]
         self.assertEqual(commits[1], ["2", "2024-01-02", "line 2", "load,pay (2 rows)", "2", "0"])
         self.assertEqual([commit[1] for commit in commits], ["2024-01-02", "2024-01-02", "2024-08-20", "", ""])
         self.assertEqual(commits[2][4:], ["2", "1"])
-        words = ["examples/pay.csv", "--answers", "examples/pay.csv.stdout", "--diary", "x"]
-        self.check(["tools/answers", "page", *words], "", 1, "answers: x: no such table; ")
+        self.ends(1, {"page PAY --diary x": "answers: x: no such table; "})
 
     def test_then_and_now_are_the_questions_that_are_asked_twice(self) -> None:
         data = data_of(example("payroll"))["data"]
@@ -208,9 +201,16 @@ class Contents(ToolCase):
             ("at,pay,2024-06-28", 4), ("at,pay,2024-07-31", 5), ("agg,pay,sum,euros", 5),
         ]])
 
-    def test_one_commit_asked_twice_is_no_pair(self) -> None:
-        data = data_of(page_of("table,t\nrows,t,asof,1\nrows,t\n", "ok,1\nend,0\nend,0\n"))["data"]
-        self.assertEqual((len(data["questions"]), data["pairs"]), (2, []))
+    def test_answers_of_one_commit_and_checks_of_other_parts_are_no_pair(self) -> None:
+        rows = f"table,t\nload,t\nrow,{TIME}\nend\nload,t\nrow,{TIME}\nend\n"
+        check = "check,t,1,2024-01-01{}\npart,{}\nend\n"
+        for script, questions, pairs in [
+            ("table,t\nrows,t,asof,1\nrows,t\n", 2, []),
+            (rows + check.format(",asof,2", 1) + check.format("", 1), 2, [[4, 5]]),
+            (rows + check.format(",asof,2", 1) + check.format("", 2), 2, []),
+        ]:
+            data = data_of(page_of(script))["data"]
+            self.assertEqual((len(data["questions"]), data["pairs"]), (questions, pairs))
 
     def test_a_check_has_its_parts(self) -> None:
         checks = [one for one in data_of(example("audit"))["data"]["questions"] if one["word"] == "check"]
@@ -218,47 +218,31 @@ class Contents(ToolCase):
         self.assertEqual(checks[0]["sentence"], "No: rows 11 and 14 are in one part, and overlap.")
 
     def test_a_question_has_the_name_that_it_was_asked_by(self) -> None:
-        questions = data_of(page_of("table,t\n", "ok,1\nend,0\n", "--ask", "all=rows,t"))["data"]["questions"]
+        questions = data_of(page_of("table,t\n", "--ask", "all=rows,t"))["data"]["questions"]
         found = [(one["name"], one["place"], one["command"]) for one in questions]
         self.assertEqual(found, [("all", "--ask", "rows,t")])
 
     def test_a_question_of_the_script_gets_a_name(self) -> None:
-        words = ["tools/answers", "page", "examples/pay.csv", "--answers", "examples/pay.csv.stdout"]
-        status, page, said = run([*words, "@7=august", "--title", "<b>Löhne</b>", "--note", "First\nSecond"])
-        self.assertEqual((status, said), (0, ""))
-        data = data_of(page)["data"]
+        data = data_of(example("pay", "@7=august", "--title", "<b>Löhne</b>", "--note", "First\nSecond"))["data"]
         self.assertEqual([one["name"] for one in data["questions"]], ["august", "", "", ""])
         self.assertEqual((data["title"], data["note"]), ("<b>Löhne</b>", "First\nSecond"))
         self.assertIn("@7=august --answers pay.csv.stdout --title '<b>Löhne</b>' --note", data["command"])
-        self.check([*words, "@7"], "", 1, "answers: @7: the page has all answers; @7=NAME gives one a name")
-        self.check([*words, "@99=x"], "", 1, "answers: @99: no such answer")
-        change = "answers: 1=x: line 1: table,pay,person,text,euros,int: only questions have names"
-        self.check([*words, "1=x"], "", 1, change)
-        twice = "answers: 4=x: line 7: at,pay,2024-08-15 has the name august already"
-        self.check([*words, "@7=august", "4=x"], "", 1, twice)
+        self.ends(1, {
+            "page PAY @7": "answers: @7: the page has all answers; @7=NAME gives one a name",
+            "page PAY @99=x": "answers: @99: no such answer",
+            "page PAY 1=x": "answers: 1=x: line 1: table,pay,person,text,euros,int: only questions have names",
+            "page PAY @7=august 4=x": "answers: 4=x: line 7: at,pay,2024-08-15 has the name august already",
+        })
 
     def test_columns_say_how_their_fields_are_shown(self) -> None:
-        words = ["tools/answers", "page", "examples/pay.csv", "--answers", "examples/pay.csv.stdout"]
-        status, page, said = run([*words, "--decimals", "euros=2", "--last-day", "--german"])
-        self.assertEqual((status, said), (0, ""))
-        data = data_of(page)["data"]
+        data = data_of(example("pay", "--decimals", "euros=2", "--last-day", "--german"))["data"]
         shown = [["valid_from", "point"], ["last_day", "point", {"end": "valid_to"}]]
         values = [["person", "text"], ["euros", "int", {"digits": 2}]]
         self.assertEqual(data["questions"][0]["columns"], [["row_id", "int"], *shown, *values])
         commits = [["sys_from", "int"], ["sys_to", "int"]]
         self.assertEqual(data["tables"][0]["columns"], [["row_id", "int"], *shown, *commits, *values])
         self.assertTrue(data["command"].endswith("--decimals euros=2 --german --last-day"))
-        self.check([*words, "--decimals", "cents=2"], "", 1, "cents: not a column of numbers; those are row_id")
-
-    def test_checks_of_other_parts_are_no_pair(self) -> None:
-        rows = f"table,t\nload,t\nrow,{TIME}\nend\nload,t\nrow,{TIME}\nend\n"
-        then = "check,t,1,2024-01-01,asof,2\npart,1\nend\n"
-        for part, missing, pairs in ((1, 2, [[4, 5]]), (2, 1, [])):
-            page = page_of(
-                f"{rows}{then}check,t,1,2024-01-01\npart,{part}\nend\n",
-                f"ok,1\nok,2\nok,3\nyes\nno,Missing,{missing}\n",
-            )
-            self.assertEqual(data_of(page)["data"]["pairs"], pairs)
+        self.ends(1, {"page PAY --decimals cents=2": "cents: not a column of numbers; those are row_id"})
 
     def test_changes_that_touched_nothing_have_a_reason(self) -> None:
         pay = f'table,pay,person,text,euros,int\nload,pay\nrow,{TIME},"Byron, Ada",5\nrow,{TIME},"Hill, Grace",6\nend\n'
@@ -273,36 +257,32 @@ class Contents(ToolCase):
              "the rows that it matches hold at other times: 2024-01-01 to 2024-02-01, 2024-01-01 to 2024-02-01"),
         ]:
             with self.subTest(change):
-                [idle] = data_of(page_of(f"{pay}{change}\n", "ok,1\nok,2\nok,3\n"))["data"]["idle"]
+                [idle] = data_of(page_of(f"{pay}{change}\n"))["data"]["idle"]
                 self.assertEqual((idle["place"], idle["reason"]), ("line 6", reason))
 
     def test_the_rows_of_its_own_commit_tell_why_a_change_touched_nothing(self) -> None:
         script = f"table,t,a,int\nload,t\nrow,{TIME},1\nend\ndelete,t,{TIME}\ndelete,t,{TIME},where,a,1\n"
-        [idle] = data_of(page_of(script, "ok,1\nok,2\nok,3\nok,4\n"))["data"]["idle"]
+        [idle] = data_of(page_of(script))["data"]["idle"]
         self.assertEqual((idle["place"], idle["reason"]), ("line 6", "no row has 1 as a then"))
 
     def test_answers_that_the_program_does_not_print_make_no_page(self) -> None:
         answered = Path(TOP, "examples/pay.csv.stdout").read_text().replace(",5400", ",5401")
-        words = ["tools/answers", "page", "examples/pay.csv", "--answers", "-"]
         wanted = 'line 5: it has row,4,2024-07-01,2025-01-01,"Byron, Ada",5401, and the program prints row,'
-        self.check(words, answered, 1, f"answers: standard input, {wanted}")
+        self.ends(1, {"page examples/pay.csv --answers -": f"answers: standard input, {wanted}"}, answered)
 
     def test_the_status_is_that_of_a_list(self) -> None:
-        words = ["examples/payroll.csv", "--answers", "examples/payroll.csv.stdout"]
-        self.assertEqual(run(["tools/answers", "page", *words])[0], 1)
-        self.assertEqual(run(["tools/answers", "page", *words, "--go-on"])[0], 0)
+        for words, status in (("page examples/payroll.csv", 1), ("page examples/payroll.csv --go-on", 0)):
+            self.assertEqual(run(["tools/answers", *words.split()])[0], status)
 
 
 class Limits(unittest.TestCase):
     def test_what_has_no_room_is_left_out_and_reported(self) -> None:
         rows = [f"{TIME},{number}" for number in range(1500)]
         script = "table,t,a,int\nload,t\n" + "".join(f"row,{row}\n" for row in rows) + "end\nrows,t\n"
-        listed = "".join(f"row,{number},{row}\n" for number, row in enumerate(rows, 1))
-        answered = f"ok,1\nok,2\n{listed}end,1500\n"
-        whole = data_of(page_of(script, answered))
+        whole = data_of(page_of(script))
         self.assertEqual((len(whole["records-3"]), whole["data"]["leftOut"]), (1500, []))
         with mock.patch.object(contents, "ROOM", 50_000):
-            cut = data_of(page_of(script, answered))
+            cut = data_of(page_of(script))
         self.assertEqual((len(cut["records-3"]), "versions-0" in cut), (1000, False))
         self.assertEqual(cut["data"]["leftOut"], [
             "of line 1504, rows,t: 500 of 1,500 records", "the 1,500 versions of t, and so what held on each day",
@@ -310,7 +290,7 @@ class Limits(unittest.TestCase):
 
     def test_many_questions_share_the_records_shown_at_once(self) -> None:
         script = "table,t\n" + "rows,t\n" * 1200
-        data = data_of(page_of(script, "ok,1\n" + "end,0\n" * 1200))["data"]
+        data = data_of(page_of(script))["data"]
         self.assertEqual((len(data["questions"]), data["questions"][0]["shown"]), (1000, 1000))
         self.assertEqual(data["leftOut"], ["200 questions after the first 1,000"])
         self.assertEqual(data["counts"]["questions"], 1200)
@@ -320,9 +300,8 @@ class Limits(unittest.TestCase):
 
     def test_all_findings_are_counted(self) -> None:
         script = "rows,t\n" * 3 + "table,t,a,int\n" + f"delete,t,{TIME}\n" * 3 + "load,t\nend\n"
-        given = "".join(f"error,{number},NoTable\n" for number in range(1, 4)) + "ok,1\nok,2\nok,3\nok,4\nok,5\n"
         with mock.patch.object(contents, "LISTED", 1):
-            data = data_of(page_of(script, given))["data"]
+            data = data_of(page_of(script))["data"]
         self.assertEqual([len(data[what]) for what in ("refused", "idle", "doubtful")], [1, 1, 0])
         self.assertEqual(data["counts"], {"refused": 3, "idle": 4, "doubtful": 0, "questions": 0})
 

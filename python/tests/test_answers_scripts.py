@@ -13,20 +13,11 @@ from ruzgalt.report import databases, export, figures, picks, svg
 from ruzgalt.script import answers, commands, overlaps, records, refusals
 from ruzgalt.script.answers import Answer
 from ruzgalt.script.run import Past
-from tests.support import PROGRAM, TOP
+from tests.support import NEEDS_PANDAS, PROGRAM, TOP
 
 SCRIPTS = sorted([*TOP.glob("examples/*.csv"), *TOP.glob("tests/**/*.csv")])
 # So many records of a script's answers are left out and doubled, one by one.
 DAMAGED = 60
-
-
-def has_pandas(python: str) -> bool:
-    there = Path(python).exists()
-    return there and subprocess.run([python, "-c", "import pandas"], stderr=subprocess.DEVNULL).returncode == 0
-
-
-# This Python, or else Debian's, which has what its packages install.
-PANDAS = next(filter(has_pandas, (sys.executable, "/usr/bin/python3")), None)
 
 
 def output_of(script: Path) -> bytes:
@@ -113,12 +104,12 @@ class Scripts(unittest.TestCase):
                 with self.subTest(script.name, record=number), self.assertRaises(Misfit):
                     answers.of(script, output)
 
-    @unittest.skipUnless(PANDAS, "pandas isn't installed")
+    @NEEDS_PANDAS
     def test_the_lines_for_pandas_make_a_frame(self) -> None:
         recipe = (TOP / "docs" / "RECIPES.md").read_text(encoding="utf-8")
         [lines] = re.findall(r"^```python\n(.*?)^```$", recipe, re.MULTILINE | re.DOTALL)
         code = lines + "print(list(frame.columns), frame.shape, frame.euros.sum())\n"
-        ran = subprocess.run([str(PANDAS), "-c", code], cwd=TOP, stdout=subprocess.PIPE, check=True)
+        ran = subprocess.run([sys.executable, "-c", code], cwd=TOP, stdout=subprocess.PIPE, check=True)
         self.assertEqual(
             ran.stdout.decode(), "['row_id', 'valid_from', 'valid_to', 'person', 'euros'] (2, 5) 10200\n",
         )

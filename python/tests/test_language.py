@@ -9,11 +9,6 @@ from ruzgalt.script.commands import COMMANDS, Answered, Form, Role
 from tests.support import TOP
 
 HOLDING = Form("holding,T,POINT[,asof,N]", Answered.ROWS, more=(Role.POINT,))
-# Modules that applied a change, answered a query, or compared the rows of a key, without the program.
-DECIDING = (
-    "checking/again.py", "checking/fitting.py", "checking/replay.py", "answers/calendar.py", "periods/spans.py",
-    "periods/amounts.py", "frames/standing.py", "frames/batches.py", "frames/unmeant.py", "store/batches.py",
-)
 # The module with the calls of a store. It has no arrays, so it can't read rows.
 SENDING = ("store",)
 SCRIPT = b"""table,t,k,text
@@ -39,7 +34,6 @@ class Language(unittest.TestCase):
 
     def test_only_the_program_decides_what_a_change_a_key_or_a_query_does(self) -> None:
         package = TOP / "python" / "ruzgalt"
-        self.assertEqual([name for name in DECIDING if (package / name).exists()], [])
         texts = {file.stem: file.read_text(encoding="utf-8") for file in package.joinpath("store").glob("*.py")}
         self.assertEqual([name for name in SENDING if "numpy" in texts[name]], [])
         # Only the program finds the rows that make a key refuse a change.

@@ -3,6 +3,7 @@ import csv
 import io
 import re
 import shlex
+import sys
 import tempfile
 import unicodedata
 import unittest
@@ -16,7 +17,7 @@ from ruzgalt.cli import load as load_tool
 from ruzgalt.errors import Misfit
 from ruzgalt.load import making
 from ruzgalt.script.records import visible
-from tests.support import run
+from tests.support import Stream, kept, run
 
 HEADER = "Name,Pay,Start,End\n"
 WORDS = ["pay", "Start", "End", "Name", "Pay"]
@@ -116,9 +117,32 @@ LAST_DAYS: Cases = [
 ]
 
 
+AFTER = ["pay", "Letzter Tag", "9999-12-31", "name=Name", "--delete"]
+LAST, GONE = "Name,Letzter Tag\nA,2024-02-29\nB,31.12.2024\n", "delete,pay,{},9999-12-31,where,name,{}\n".format
+HEADED = "Name,Pay,Start,{}\nA,1,2024-01-01,2024-03-15\n".format
+HEADERS: Cases = [
+    *[("refused", f"{end}: its name says that it is the last day of a row; use --last-day", HEADED(end),
+       ["pay", "Start", end, "Name", "Pay"])
+      for end in ("Letzter Tag", "last day", "LAST_DAY", "last_day", "Bis (einschließlich)", "To (inclusive)")],
+    ("loaded", load_of("2024-01-01,2024-03-16,A,1"), HEADED("last day"),
+     ["pay", "Start", "last day", "Name", "Pay", "--last-day"]),
+    ("refused", "valid_to: tools/answers prints the day after a row's last day there; leave out --last-day",
+     HEADED("valid_to"), ["pay", "Start", "valid_to", "Name", "Pay", "--last-day"]),
+    ("loaded", load_of("2024-01-01,2024-03-15,A,1"), HEADED("valid_to"), ["pay", "Start", "valid_to", "Name", "Pay"]),
+    # Rows that start on the day after a last one.
+    ("loaded", GONE("2024-03-01", "A") + GONE("2025-01-01", "B"), LAST, [*AFTER, "--german", "--day-after"]),
+    ("refused", "Letzter Tag: its name says that it is a last day, and here it is where rows start; use --day-after if",
+     LAST, [*AFTER, "--german"]),
+    ("refused", "not in the header: End", LAST, [*AFTER[:2], "End", *AFTER[3:], "--day-after"]),
+    ("refused", "a last day has no time", LAST.replace("29", "29T08:00:00"), [*AFTER, "--german", "--day-after"]),
+    ("refused", "line 2: Last, 2024-03-01, the day after the last one there, isn't before End, 2024-03-01",
+     "Name,Last,End\nA,2024-02-29,2024-03-01\n", ["pay", "Last", "End", "Name", "--day-after"]),
+]
+
+
 class LastDays(Case):
     def test_ends_of_another_form_are_reported(self) -> None:
-        self.try_all(LAST_DAYS)
+        self.try_all([*LAST_DAYS, *HEADERS])
         for start, end, word, note in [
             ("2024-01-01", "2024-12-31", "--open", "End is 2024-12-31: a row no longer holds on that day; "),
             ("1.1.2024", "31.12.2024", "--german", "End is 2024-12-31: a row no longer holds on that day; "),
@@ -126,19 +150,8 @@ class LastDays(Case):
         ]:
             self.assertIn(note, load(rows(f"A,5,{start},{end}"), *WORDS, word)[1][0])
 
-    def test_a_header_that_says_how_ends_are_meant_is_heeded(self) -> None:
-        row = "A,1,2024-01-01,2024-03-15"
-        for end in ("Letzter Tag", "last day", "LAST_DAY", "last_day", "Bis (einschließlich)", "To (inclusive)"):
-            text, words = f"Name,Pay,Start,{end}\n{row}\n", ["pay", "Start", end, "Name", "Pay"]
-            self.refused(f"{end}: its name says that it is the last day of a row; use --last-day", text, *words)
-            self.assertIn("row,2024-01-01,2024-03-16,A,1\n", load(text, *words, "--last-day")[0])
-        text, words = f"Name,Pay,valid_from,valid_to\n{row}\n", ["pay", "valid_from", "valid_to", "Name", "Pay"]
-        self.refused("valid_to: tools/answers prints the day after a row's last day there; leave out --last-day", text,
-                     *words, "--last-day")
-        self.assertIn("row,2024-01-01,2024-03-15,A,1\n", load(text, *words)[0])
 
-
-CENTS, GERMAN = "--decimals Pay=2", "--decimals Pay=2 --german"
+CENTS, GERMAN, INT = "--decimals Pay=2", "--decimals Pay=2 --german", "--table table,pay,name,text,pay,int"
 EITHER = HEADER + f'A,"7,500",{P}\n'
 NUMBERS: Cases = [
     ("refused", "line 2: Pay is '7,500': its mark may separate", EITHER, "--decimals Pay=3"),
@@ -175,6 +188,32 @@ NUMBERS: Cases = [
       # Python itself makes no number with 5,000 digits.
       for number in ("92233720368547758.08", "9" * 5000)],
     ("loaded", load_of(f"{P},A,-9223372036854775808"), [f"A,-92233720368547758.08,{P}"], CENTS),
+    *[("refused", part, [f"A,{number},{P}"], CENTS) for number, part in [
+        ("5 Mio.", "has only 5"), ("5 CR", "has only 5"), ("1.2E3", "its digits are rounded off"),
+        ("+5", "leave out the +"), ("1/2", "not a number"), ("٥", "not a number"), ("５", "not a number"),
+        ("--5", "not a number"), ("4800.5000000001", "more than 2 decimals"), ("TRUE", "not a number"),
+        ("5O", "not a number"), ("-", "not a number"), ("", "Pay is '': no number is given; write 0 if it is 0"),
+    ]],
+    ("refused", "Pay is '': no number is given; write 0 if it is 0", [f"A,,{P}"], INT),
+    # No decimals are offered for leading zeros, or for a number that is too great.
+    *[("refused", f"such as 5000; --decimals Pay={digits} makes", [f'A,"{number}",{P}'], INT)
+      for number, digits in (("05", 0), ("00", 0), ("5,5", 2))],
+    ("loaded", load_of(f"{P},A,5"), [f"A,05,{P}"], f"{INT} --decimals Pay=0"),
+    *[("refused", f"Pay is '{number}': the store's numbers are from -9223372036854775808 to 9223372036854775807",
+       [f"A,{number},{P}"], f"{INT} {more}")
+      for number in (1 << 63, -(1 << 63) - 1, 10 ** 30) for more in ("", "--decimals Pay=0")],
+    *[("loaded", load_of(f"{P},A,{number}"), [f"A,{number},{P}"], INT) for number in ((1 << 63) - 1, -(1 << 63))],
+    ("refused", "--decimal-mark needs --decimals", [f"A,5,{P}"], "--decimal-mark ,"),
+    # An option that is given isn't advised.
+    *[("refused", f"and --decimal-mark says '{mark}': use one in the file", [f"A,{number},{P}"],
+       f"{CENTS} --decimal-mark {mark}") for number, mark in (('"4.500,50"', "."), ("4500.50", ","))],
+    # A currency that one number lacks, and a unit in a column's name.
+    *[("noted", f"Pay: the currency EUR was left out of its numbers, but '{other}' has none",
+       [f"A,5.50 EUR,{P}", f"B,{other},{P}"], f"{CENTS} --bare whole --decimal-mark .")
+      for other in ("7", "7.50", "0.500")],
+    *[("noted", "and its numbers are loaded as they are", f'Name,"{name}",Start,End\nA,5,{P}\n',
+       [*WORDS[:4], f"pay={name}"])
+      for name in ("Pay (TEUR)", "Pay in T€", "Pay in Tsd.", "Raise %", "Pay, thousands of EUR")],
 ]
 
 
@@ -232,6 +271,7 @@ class Texts(Case):
             ("# B", "or a comment"), ("#REF!", "or a comment"), ("'001", "sign for"), ('="001"', "formula"),
             ("1001.0", "a number such as 1,234.50"), ("4800.50", "--decimals COLUMN=DIGITS makes it whole"),
             ("1.23E+05", "digits are rounded off"), ("", "it is empty"), ("A\u00a0B", "a no-break space "),
+            *((name, "these quotes are part of the text") for name in ("'A'", "„A“", "“A”", "«A»")),
             ("A ", "a space at an end "), ("Jose\u0301", "a letter and its accent "),
         ]:
             for count in (0, 100):
@@ -278,6 +318,48 @@ class Texts(Case):
                 self.assertEqual((found, notes), (wanted, []))
 
 
+SUMS, TOUCH = [f"A,5,{P}", f"B,7,{P}"], [f"A,1,{P}", "A,1,2024-03-05,2024-04-02"]
+TWICE = [f"A,1,{P}", f"B,1,{P}", "A,1,2024-02-01,2024-04-02", f"C,1,{P}"]
+COUNTED = [f"A,1,2024-01-01,2024-03-{day}" for day in range(10, 20)]
+TOGETHER: Cases = [
+    ("noted", "line 2: Pay 12 is the sum of the 2 rows below; if it is a total, leave the line out",
+     [f"Total,12,{P}", *SUMS], ""),
+    # Amounts that aren't sums; rows that touch; rows such as bookings.
+    *[("loaded", load_of(*(f"{P},{line[:line.index(P) - 1]}" for line in lines)), lines, "") for lines in (
+        [f"A,5,{P}", f"B,5,{P}"], [f"A,0,{P}", f"B,0,{P}", f"C,0,{P}"],
+        [f"A,x,{P}", f"B,5,{P}", f"Total,5,{P}"], [f"Total,5,{P}"],
+    )],
+    *[("loaded", load_of(*(f"{line[4:]},A,1" for line in lines)), lines, "") for lines in (TOUCH, COUNTED)],
+    ("noted", "line 4 has the values of line 2, and both hold at one time: is one of them too many?", TWICE, ""),
+    ("noted", "line 3: '500' is left out: its column, 3, has no name",
+     f"Name,Pay,,Start,End\nA,4,,{P}\nB,4,500,{P}\n", ""),
+]
+
+
+class Together(Case):
+    def test_rows_that_may_be_one_too_many_are_reported(self) -> None:
+        self.try_all(TOGETHER)
+        for more in ("", "--update Name"):
+            notes = load(rows(*TWICE), *WORDS, *more.split(), "--table", "table,pay,name,text,pay,int,key,name")[1]
+            self.assertFalse([one for one in notes if "too many" in one])
+
+    def test_a_last_row_with_the_sums_of_all_others_is_reported(self) -> None:
+        amounts = [(510050, 3), (-2000, 4), (480000, 5)] * 200
+        names = ["Name,Pay,Hours,Start,End"]
+        names.extend(f"N{place},{pay},{hours},{P}" for place, (pay, hours) in enumerate(amounts))
+        sums = [sum(column) for column in zip(*amounts)]
+        words, table = [*WORDS, "Hours"], ["--table", "table,pay,name,text,pay,int,hours,int,key,name"]
+        note = f"line 602: Pay {sums[0]} and Hours {sums[1]} are the sums of the 600 rows above; if it is a total"
+        for last in ("Total", "Summe 2024:", "ACME Group", "999", ""):
+            for more in (table[:0], table, ["--decimals", "Pay=0"]):
+                text = "\n".join([*names, f"{last},{sums[0]},{sums[1]},{P}", ""])
+                printed, notes = load(text, *words, *more)
+                self.assertIn(note, "".join(notes))
+                self.assertEqual(printed.count("\nrow,"), 601)
+        for last in (f"Total,{sums[0]},{sums[1] + 1},{P}", f"Total,0,{sums[1]},{P}"):
+            self.assertEqual(load("\n".join([*names, last, ""]), *words)[1], [])
+
+
 RECORD = ["--table", "table,pay,person,text,euros,int,key,person"]
 PERIOD = ["pay", "Start", "End"]
 ONE, OTHER_ORDER = [f"A,1,{P}"], f"Alt,Neu,Ab,Bis\nA,5,{P}\n"
@@ -301,8 +383,33 @@ TABLES: Cases = [
        [*PERIOD, "--table", f"table,pay,{columns}", "--print-table"]) for columns in (
            WIDE, "name", "name,point", "name,text,key", "name,text,name,text", "name,text,key,name,name",
        )],
+    ("refused", "; a KIND is int or text, and a name has 1 to 32 of a to z", ONE,
+     [*PERIOD, "--table", "table,pay,Name,text"]),
     ("refused", "name is in the header as 'Name' and 'NAME': give the one that is meant as a COLUMN",
      f"Name,NAME,Start,End\nA,B,{P}\n", [*PERIOD, "--table", "table,pay,name,text"]),
+]
+MAY, LOHN = "2024-01-01,2024-02-01", "Name;Lohn;Start;End\nA;5,5;2024-01-01;2024-02-01\n"
+NEU = "Name;Neu;Alt;Start;End\n" + 2 * "A;S2;S1;2024-01-01;2024-02-01\n"
+GRADED, KEYED_BY = ["--table", "table,pay,name,text,grade,text"], "table,pay,name,text,grade,text,key,name"
+RENAMED: Cases = [
+    *[("refused", note, NEU, [*PERIOD, *words]) for words, note in [
+        (["Grade=Neu"], "Grade=Neu: Grade can't be the name of a table's column"),
+        (["grade=Neu", "grade=Alt"], "grade=Alt: the table's column grade is given twice"),
+        (["grade=Neu", "note=Neu"], "Neu is given twice"), (["grade=New"], "not in the header: New"),
+        (["note=Neu", *GRADED], "Neu: pay has no column note; its columns are name, grade"),
+        (["Name", "Neu", "--update", "Name"], "give the table's by NAME=Name or --table"),
+        (["name=Alt", "Name", *GRADED], "Name: the table's column name is given twice"),
+        (["name=Alt", "Name", "--delete", GRADED[0], f"{GRADED[1]},n,int"], "Name: the table's column name is"),
+    ]],
+    ("refused", "old: the table's column old is given twice", NEU.replace("Alt", "old"),
+     [*PERIOD, "old=Neu", "old", "--delete"]),
+    # A load takes its other columns by their names, and rows are equal in all of the file's.
+    ("noted", "--drop-equal: 1 row was left out, equal to an earlier one in all of the file's fields (line 3)", NEU,
+     [*PERIOD, "grade=Neu", "--table", KEYED_BY, "--drop-equal"]),
+    ("loaded", load_of(f"{MAY},A,S2"), NEU[:NEU.rindex("A;")], [*PERIOD, "grade=Neu", "--table", KEYED_BY]),
+    *[("loaded", f"update,pay,{MAY},set,cents,550,where,person,A\n", LOHN,
+       [*PERIOD, "person=Name", "cents=Lohn", "--decimals", f"{name}=2", "--german", "--update", "person"])
+      for name in ("cents", "Lohn")],
 ]
 SOME = [*PERIOD, "--table", "table,pay,pid,int,name,text,grade,text,euros,int,key,pid"]
 OF_SOME, SET = f"PID,Euros,Start,End\n7,500,{P}\n", f"update,pay,{P},set,euros,500,where,pid,7\n"
@@ -378,8 +485,10 @@ CHECKS: Cases = [
 
 class Tables(Case):
     def test_loads_changes_and_checks_fit_their_table(self) -> None:
-        for cases in (TABLES, UPDATES, DELETES, CHECKS):
+        for cases in (TABLES, RENAMED, UPDATES, DELETES, CHECKS):
             self.try_all(cases)
+        notes = load(NEU.replace("S1", "S0", 1), *PERIOD, "Name", "Neu", "--drop-equal")[1]
+        self.assertIn("line 3 makes the same row as line 2", "".join(notes))
 
     def test_changes_without_a_doubt_are_made_without_a_word(self) -> None:
         for line in ("A,2,2024-07-01,2024-09-01", "A,2,2024-10-01,2025-01-01"):
@@ -392,10 +501,8 @@ class Tables(Case):
         self.assertEqual(twice[0], "line 3 makes the same delete as line 2, and both are printed")
 
     def test_a_script_so_far_has_the_record(self) -> None:
-        with tempfile.NamedTemporaryFile("w", suffix=".csv") as script:
-            script.write(f"table,other\n{RECORD[1]}\n")
-            script.flush()
-            words = [*WORDS[1:], "--table", script.name]
+        with kept(f"table,other\n{RECORD[1]}\n") as script:
+            words = [*WORDS[1:], "--table", script]
             self.refused("no `table` record of due", rows(*ONE), "due", *words)
             self.loaded(load_of(f"{P},A,1"), rows(*ONE), "pay", *words)
 
@@ -414,8 +521,18 @@ DATES: Cases = [
         ("20240305", "use --dates 20241231"), ("45356", "use --dates 45657"), ("5.3.24", "a year has four digits"),
         ("2024-03-05T08:00:00Z", "times have no zone here"), ("NULL", "--no-end 'NULL' reads it"),
         ("NaT", "--no-end 'NaT'"), ("unbefristet", "--no-end 'unbef"), ("", "End is '': no end is given; "),
-        ("1.12.2024", "such as 2024-12-31; use --german"),
+        ("1.12.2024", "such as 2024-12-31; use --german"), ("2024/03/05", "use --dates 2024/12/31"),
+        ("25-03-2024", "use --dates 31-12-2024"), ("05-03-2024", "use --dates 31-12-2024 or --dates 12-31-2024"),
+        ("2024-03-05T24:00:00", "a day ends at the next one's midnight"), ("5/3/24", "a year has four digits"),
+        ("24-03-05", "a year has four digits"), ("2024-3-5", "a month and a day have two digits"),
+        *((text, "not a date such as") for text in (
+            "5 Mar 2024", "2024-03", "2024W091", "1709600000", "\uff12024-03-05", "2024-02-30",
+        )),
     ]],
+    ("noted", "Start and End: '01/13/2024 06:30' has neither AM nor PM, which others have",
+     ["A,1,01/13/2024 06:30,01/13/2024 02:30 PM", "B,1,01/13/2024,01/14/2024"], "--dates 12/31/2024"),
+    *[("refused", "write all dates of the file in one form", [f"A,1,{text},9999-12-31"], f"--german --dates {other}")
+      for text, other in (("31.12.2024", "12/31/2024"), ("12/31/2024", "31/12/2024"), ("2024/12/31", "20241231"))],
     ("loaded", NEVER, ["A,1,2024-01-01,NULL"], "--no-end NULL"),
     ("noted", "2204 is far off", ["A,1,2204-01-01,9999-12-31"], ""),
     ("noted", "0204 is far off", ["A,1,0204-01-01,2024-02-05"], ""),
@@ -478,6 +595,7 @@ class Dates(Case):
 
 STRAY = f'Name;Pay;Start;End\n"Hill" G;5;{P}\n'.replace(P, P.replace(",", ";"))
 TAKEN = f'{HEADER}"By,6,{P}\nBy",7,{P}\n'
+PLAIN, PIPED, MÜLLER = rows(*ONE), rows(*ONE).replace(",", "|"), rows(f"Müller,1,{P}")
 FILES: Cases = [
     ("refused", "the first line must have the columns' names, but it has a date", f"A,1,{P}\nB,1,{P}\n",
      ["pay", *P.split(","), "A", "1"]),
@@ -498,7 +616,29 @@ FILES: Cases = [
     ("noted", "line 3 makes the same row as line 2, and both are loaded", ONE * 2, ""),
     ("noted", "no row follows the header, so the load has none", HEADER, ""),
     ("refused", "the file has no header, just empty lines", "\n", ""),
+    ("refused", "it has 'Name|Pay|Start|End'; `(echo 'sep=|'; cat FILE)` makes '|' the", PIPED, ""),
+    ("loaded", load_of(f"{P},A,1"), f"sep=|\n{PIPED}", ""),
+    *[("refused", f"UTF-8; use --encoding {name}", PLAIN.encode(name), "")
+      for name in ("utf-16-le", "utf-16-be", "utf-16")],
+    ("refused", "--encoding cp1252 for 'Müller', or --encoding cp850", MÜLLER.encode("cp1252"), ""),
+    *[("loaded", load_of(f"{P},Müller,1"), MÜLLER.encode(name), f"--encoding {name}")
+      for name in ("cp1252", "cp850", "mac_roman", "utf-16", "utf-16-le")],
+    ("refused", "byte 21 isn't ascii", MÜLLER, "--encoding ascii"),
+    ("refused", "byte 1 isn't punycode", f"-{ONE[0]}", "--encoding punycode"),
+    ("refused", "not in the header: Name; it has '\\ufeffName'", f"\ufeff\ufeff{PLAIN}", ""),
+    ("refused", "it has '# export'", f"# export\n{PLAIN}", ""), ("refused", "line 2: 1 fields", ["# half", *ONE], ""),
+    ("refused", "line 2: 1 fields", PLAIN.replace(",", ";", 3), ""),
+    ("refused", "unexpected end", ['"A,1,' + P, *ONE], ""), ("refused", "expected after", [f'"A\\"B",1,{P}'], ""),
+    *[case for title in ("Pay of 2024\n\n", "Pay, of\nall\n") for text in [title + rows(*ONE, *ONE, f"C,3,{P},")]
+      for case in (("refused", "; the header seems to be line 3: use --skip 2", text, ""),
+                   ("refused", "line 6: 5 fields, and the header has 4", text, "--skip 2"))],
+    ("refused", f"{__file__} is a file: give it as the last word", ONE, __file__),
+    ("refused", "FROM and TO are columns too, and person=Name isn't: did you forget one?", ONE,
+     ["pay", "Start", "person=Name", "cents=Pay"]),
 ]
+
+
+DIARY = "table,pay,name,text,pay,int,key,name\ntable,diary,newest,int\n"
 
 
 class Files(Case):
@@ -521,8 +661,53 @@ class Files(Case):
             lines = [f"{letter},1,{P}" for letter in "ABCDEFGHIJ"]
             self.noted("10 rows in 300 bytes leave little room for later changes", rows(*lines))
 
+    def test_the_last_word_may_be_the_file(self) -> None:
+        with kept(PLAIN) as name:
+            self.assertEqual(run(["tools/csv-to-load", *WORDS, name]), (0, load_of(f"{P},A,1"), ""))
+
+    def test_a_day_makes_the_diary_s_entry(self) -> None:
+        update, entry = "--update Name".split(), "update,diary,2024-07-25,9999-12-31,set,newest,{}\n".format
+        cases: List[Tuple[str, List[str], str]] = [
+            ("", [], "load,diary\nrow,2024-07-25,9999-12-31,3\nend\n"),
+            ("load,diary\nend\nrows,diary\nx\n", [], ",4\nend\n"),
+            ("load,diary\nrow,2024-01-01,9999-12-31,2\nend\n", [], entry(4)),
+            ("load,diary\nrow,2024-07-25,9999-12-31,2\nend\n", update, entry(5)),
+            ("load,diary\nrow,2024-08-01,9999-12-31,2\nend\n", [], "a later entry already, from 2024-08-01 on"),
+            (f"load,pay\nrow,{P},A,1\nend\n", [], "--day: after the script of --table, line "),
+        ]
+        for more, words, wanted in cases:
+            with self.subTest(more=more, words=words), kept(DIARY + more) as file:
+                made, said = load(rows(*ONE, f"B,2,{P}"), *WORDS, *words, "--table", file, "--day", "2024-07-25")
+                self.assertTrue(made.endswith(wanted) or not made and wanted in said[0], (made, said))
+        with kept(f"{DIARY}table,notes,newest,int,who,text\n") as file:
+            self.try_all([("refused", part, ONE, f"--table {table} --day {day}") for part, table, day in [
+                ("--day needs --table SCRIPT", INT[8:], "2024-07-25"),
+                ("--day x: not a day such as 2024-07-25", INT[8:], "x"),
+                ("notes isn't a diary of one column", file, "notes=2024-07-25"), ("NoTable", file, "none=2024-07-25"),
+            ]])
+
+
+class Terminal(Stream):
+    def isatty(self) -> bool:
+        return True
+
 
 class Words(unittest.TestCase):
+    def test_no_control_character_of_a_file_reaches_a_terminal(self) -> None:
+        bell = "\x1b[2J\x07\u202e"
+        files = [
+            f"{HEADER}A{bell},x,2024-01-01,{bell}\n", f"Na{bell}me,Pay,Start,End\n", f"{HEADER}{bell},1,{P}\n",
+            f"sep={bell[0]}\nName\x1bPay\n\"A\"B\x1b1\n", f"\x1cName,Pay,Start,End\nA,x,{P}\n",
+        ]
+        for text in files:
+            for words in (WORDS, [*WORDS[:3], *INT.split()], [*WORDS, "--table", "table,pay,\x1b"]):
+                with self.subTest(text, words=words):
+                    given, printed, said = Stream(text.encode()), Terminal(), Terminal()
+                    with mock.patch.multiple(sys, stdin=given, stdout=printed, stderr=said):
+                        load_tool.main(words)
+                    shown = (printed.bytes.getvalue() + said.bytes.getvalue()).decode()
+                    self.assertTrue(all(one.isprintable() for one in shown.replace("\n", "")), repr(shown))
+
     def test_an_option_of_one_value_is_given_once_and_is_not_empty(self) -> None:
         tool = ["tools/csv-to-load", *WORDS]
         for option, value in [
@@ -533,6 +718,8 @@ class Words(unittest.TestCase):
             self.assertEqual((status, printed), (2, "csv-to-load failed\n"))
             self.assertIn(f"tools/csv-to-load: error: argument {option}: given twice\n", said)
         self.assertIn("argument --file: the word is empty\n", run([*tool, "--file", ""])[2])
+        self.assertIn("--encoding: hex: not an encoding", run([*tool, "--encoding", "hex"])[2])
+        self.assertIn("input is empty, and there is no file no.csv", run([*tool, "no.csv"])[2])
         self.assertEqual(run([*tool, "--none"])[:2], (2, "csv-to-load failed\n"))
 
 

@@ -4,22 +4,14 @@ Names and texts are as odd as they may be.
 """
 import csv
 import io
-import os
 import unittest
 from typing import Any, Callable, Dict, List, NamedTuple
 
-from tests.support import ToolCase, run
+from tests.by_hypothesis import assume, drawn, given, st
+from tests.support import run
+from tests.test_answers_hostile import NAMES, PIECES, TEXTS, printed
 
-try:
-    from hypothesis import assume, given, settings
-    from hypothesis import strategies as st
-
-    from tests.test_answers_hostile import NAMES, PIECES, TEXTS, printed
-except ModuleNotFoundError as error:
-    raise unittest.SkipTest("files that hypothesis draws") from error
-
-EXAMPLES = int(os.environ.get("TOOLS_EXAMPLES", "100"))
-DRAWN = settings(max_examples=EXAMPLES, deadline=None, database=None, derandomize=EXAMPLES <= 150)
+DRAWN = drawn(100)
 # What a header may have: signs that words of a command line have too, and other names of the table.
 HEADERS = st.lists(
     st.sampled_from([*NAMES, "=", "a=b", "x=", "Neu", "\u00dc", *filter(str.isprintable, PIECES)]),
@@ -119,44 +111,6 @@ class Columns(unittest.TestCase):
         count = len(rows) - len(once)
         note = f"--drop-equal: {count} row" if count else "--drop-equal: no row is equal to an earlier one"
         self.assertIn(note, said)
-
-
-class Words(ToolCase):
-    FILE = "Name;Neu;Alt;Start;End\nA;S2;S1;2024-01-01;2024-02-01\nA;S2;S1;2024-01-01;2024-02-01\n"
-    LOADS = ["tools/csv-to-load", "pay", "Start", "End"]
-
-    def test_names_that_no_table_has_are_refused(self) -> None:
-        table = ["--table", "table,pay,name,text,grade,text"]
-        for words, note in [
-            (["Grade=Neu"], "Grade=Neu: Grade can't be the name of a table's column"),
-            (["grade=Neu", "grade=Alt"], "grade=Alt: the table's column grade is given twice"),
-            (["grade=Neu", "note=Neu"], "Neu is given twice"),
-            (["grade=New"], "not in the header: New"),
-            (["note=Neu", *table], "Neu: pay has no column note; its columns are name, grade"),
-            (["Name", "Neu", "--update", "Name"], "give the table's by NAME=Name or --table"),
-            (["name=Alt", "Name", *table], "Name: the table's column name is given twice"),
-            (["name=Alt", "Name", "--delete", "--table", table[1] + ",n,int"], "Name: the table's column name is"),
-        ]:
-            self.check([*self.LOADS, *words], self.FILE, 1, note)
-        file = self.FILE.replace("Alt", "old")
-        self.check([*self.LOADS, "old=Neu", "old", "--delete"], file, 1, "old: the table's column old is given twice")
-
-    def test_a_load_takes_its_other_columns_by_their_names(self) -> None:
-        table = ["--table", "table,pay,name,text,grade,text,key,name", "--drop-equal"]
-        self.check([*self.LOADS, "grade=Neu", *table], self.FILE, 0, "load,pay\nrow,2024-01-01,2024-02-01,A,S2\nend\n")
-        note = "1 row was left out, equal to an earlier one in all of the file's fields (line 3)"
-        self.check([*self.LOADS, "grade=Neu", *table], self.FILE, 0, note)
-
-    def test_rows_that_differ_in_a_column_that_isn_t_taken_are_kept(self) -> None:
-        file = self.FILE.replace("S1", "S0", 1)
-        self.check([*self.LOADS, "Name", "Neu", "--drop-equal"], file, 0, "line 3 makes the same row as line 2")
-
-    def test_decimals_and_updates_go_by_either_name(self) -> None:
-        file = "Name;Lohn;Start;End\nA;5,5;2024-01-01;2024-02-01\n"
-        for name in ("cents", "Lohn"):
-            words = ["person=Name", "cents=Lohn", "--decimals", f"{name}=2", "--german", "--update", "person"]
-            wanted = "update,pay,2024-01-01,2024-02-01,set,cents,550,where,person,A\n"
-            self.check([*self.LOADS, *words], file, 0, wanted)
 
 
 if __name__ == "__main__":

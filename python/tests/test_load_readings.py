@@ -4,23 +4,16 @@ Texts and words are drawn at random by hypothesis; TOOLS_EXAMPLES is how many of
 """
 import csv
 import io
-import os
+import re
 import unittest
 from datetime import datetime, timedelta
 from fractions import Fraction
-from typing import Dict, List, Optional, Sequence, Tuple
+from typing import Dict, List, Optional, Sequence, Set, Tuple
 
+from tests.by_hypothesis import drawn, given, st
 from tests.test_load import load
 
-try:
-    from hypothesis import given, settings
-    from hypothesis import strategies as st
-except ModuleNotFoundError as error:
-    raise unittest.SkipTest("numbers and dates that hypothesis draws for tools/csv-to-load") from error
-
-EXAMPLES = int(os.environ.get("TOOLS_EXAMPLES", "200"))
-# The same ones each time, unless many are wanted.
-DRAWN = settings(max_examples=EXAMPLES, deadline=None, database=None, derandomize=EXAMPLES <= 200)
+DRAWN = drawn(200)
 FIRST_DAY = datetime(1899, 12, 30)
 SPACES, CURRENCIES = " \u00a0\u202f", ("€", "$", "EUR")
 DIGITS = "0123456789"
@@ -48,60 +41,42 @@ def without_currency(text: str) -> Tuple[str, str]:
     return text, ""
 
 
-def whole_of(text: str) -> Optional[str]:
-    """The digits of a whole number, whose thousands may be parted by one sign."""
-    if text and all(one in DIGITS for one in text):
-        return text
-    marks = {one for one in text if one not in DIGITS}
-    first, *others = text.split(marks.pop()) if len(marks) == 1 else [""]
-    is_grouped = 1 <= len(first) <= 3 and first[0] != "0" and others and all(len(one) == 3 for one in others)
-    return first + "".join(others) if is_grouped else None
-
-
-class Reading:
-    """The reading of a text by its mark of decimals: nothing, or the digits before and after it."""
-
-    def __init__(self, text: str, mark: str) -> None:
-        self.is_below = text[:1] == "-"
-        front, found, self.decimals = text[self.is_below:].partition(mark)
-        marks = {one for one in front if one not in DIGITS}
-        whole = whole_of(front) if marks <= set(",.'\u2019" + SPACES) - {mark} else None
-        is_right = not found or (self.decimals and all(one in DIGITS for one in self.decimals))
-        self.whole = whole if is_right else None
-        # A single mark could separate thousands or decimals.
-        shown = text[self.is_below:]
-        parts = shown.split("." if "." in shown else ",")
-        self.is_marked = bool(set(shown) & set(".,"))
-        is_grouped = len(parts) == 2 and len(parts[1]) == 3 and 1 <= len(parts[0]) <= 3 and parts[0][0] != "0"
-        self.is_either = is_grouped and all(one in DIGITS for one in "".join(parts))
-        self.is_bare = bool(shown) and all(one in DIGITS for one in shown)
-
-    def times(self, scale: int) -> Fraction:
-        number = Fraction(int((self.whole or "") + self.decimals) * 10 ** scale, 10 ** len(self.decimals))
-        return -number if self.is_below else number
+def reading(text: str, mark: str) -> Optional[Tuple[str, str]]:
+    """The digits before and after the mark of decimals, if the text is a spelling of them: thousands may be parted."""
+    front, found, decimals = text.lstrip("-").partition(mark) if text.count("-") < 2 else ("", "", "")
+    whole = "".join(one for one in front if one in DIGITS)
+    grouped = f"{int(whole or 0):,}"
+    spellings = {whole, *(grouped.replace(",", one) for one in ",.'\u2019" + SPACES if one != mark)}
+    is_right = whole and front in spellings and text.find("-") < 1 and (decimals or not found)
+    return (whole, decimals) if is_right and all(one in DIGITS for one in decimals) else None
 
 
 def wanted_numbers(
     texts: Sequence[str], mark: str, is_given: bool, digits: int, bare_is: str = "",
 ) -> List[str]:
     """What the numbers become; nothing if one of them can't be read in one way only, or if they have two currencies."""
-    made, readings, found = [], [], set()
+    found: Set[str] = set()
+    made, marked, bares, has_decimals = [], [], [], False
     for text in texts:
         bare, currency = without_currency(text.strip(SPACES))
-        found |= {currency} - {""}
-        reading = Reading(bare.strip(SPACES), mark)
-        if reading.whole is None:
+        bare, found = bare.strip(SPACES), found | {currency} - {""}
+        read = reading(bare, mark)
+        if read is None:
             return []
-        number = reading.times(0 if reading.is_bare and bare_is == "decimals" else digits)
-        doubtful = len(reading.decimals) == 3 and digits < 3 and not is_given
-        if doubtful or number.denominator != 1 or not -2 ** 63 <= number < 2 ** 63:
+        whole, decimals = read
+        is_bare = all(one in DIGITS for one in bare.lstrip("-"))
+        number = Fraction(int(whole + decimals), 10 ** len(decimals)) * (-1 if bare[0] == "-" else 1)
+        number *= 1 if is_bare and bare_is == "decimals" else 10 ** digits
+        is_doubtful = len(decimals) == 3 and digits < 3 and not is_given
+        if is_doubtful or number.denominator != 1 or not -2 ** 63 <= number < 2 ** 63:
             return []
-        readings.append(reading)
+        has_decimals = has_decimals or bool(decimals)
+        # A single mark could separate thousands or decimals.
+        marked.extend([all(reading(bare, one) for one in ".,")] * bool({*bare} & {*".,"}))
+        bares.extend([int(whole)] * is_bare)
         made.append(str(number.numerator))
-    marked = [one for one in readings if one.is_marked]
-    is_open = not is_given and marked and all(one.is_either for one in marked)
-    is_mixed = any(one.decimals for one in readings) and any(one.is_bare and int(one.whole or 0) for one in readings)
-    return [] if is_open or len(found) > 1 or is_mixed and digits and not bare_is else made
+    is_mixed = has_decimals and any(bares) and digits and not bare_is
+    return [] if not is_given and marked and all(marked) or len(found) > 1 or is_mixed else made
 
 
 def spelled(number: int, mark: str, parting: str, decimals: str, around: str) -> str:
@@ -151,57 +126,16 @@ class Numbers(unittest.TestCase):
 # Points.
 
 
-def fields_of(text: str, mark: str, widths: Sequence[Tuple[int, int]]) -> Optional[List[int]]:
-    """Returns the numbers between marks, by their digits."""
-    parts = text.split(mark)
-    if len(parts) != len(widths) or not all(part and all(one in DIGITS for one in part) for part in parts):
-        return None
-    is_wide = all(least <= len(part) <= most for part, (least, most) in zip(parts, widths))
-    return [int(part) for part in parts] if is_wide else None
-
-
-def day_of(text: str, form: str) -> Optional[Tuple[int, int, int]]:
-    """The year, the month and the day of a text in a form."""
-    short, year = (1, 2), (4, 4)
-    if form == "iso":
-        found = fields_of(text, "-", [year, (2, 2), (2, 2)])
-        return (found[0], found[1], found[2]) if found else None
-    if form == "20241231":
-        is_day = len(text) == 8 and all(one in DIGITS for one in text)
-        return (int(text[:4]), int(text[4:6]), int(text[6:])) if is_day else None
-    order = form.replace(".", "/").replace("-", "/").split("/")
-    mark = next(one for one in form if one not in DIGITS)
-    found = fields_of(text, mark, [year if one == "2024" else short for one in order])
-    numbers = dict(zip(order, found)) if found else {}
-    return (numbers["2024"], numbers["12"], numbers["31"]) if numbers else None
-
-
-def time_of(text: str, is_own: bool) -> Optional[int]:
-    """The second of the day; a point's own form has two digits of an hour, seconds and 24 hours."""
-    half = ""
-    plain = text.rstrip(".").lower().replace(".m", "m")
-    if not is_own and plain[-2:] in ("am", "pm") and text[-1:] in "mM." and not text.endswith(".."):
-        half, at = plain[-2:], text.lower().rindex(plain[-2])
-        text = text[:at]
-        text = text[:-1] if text[-1:] in tuple(SPACES) else text
-    clock, mark, part = text.replace(",", ".").partition(".")
-    if mark and not (part and all(one in DIGITS for one in part) and clock.count(":") == 2):
-        return None
-    if mark and (is_own or set(part) != {"0"}):
-        return None
-    hours = (2, 2) if is_own else (1, 2)
-    found = fields_of(clock, ":", [hours, (2, 2), (2, 2)])
-    found = found or (None if is_own else fields_of(clock, ":", [hours, (2, 2)]))
-    if not found:
-        return None
-    hour, minute, second = [*found, 0][:3]
-    if half and not 1 <= hour <= 12 or hour > 23 or minute > 59 or second > 59:
-        return None
-    hour = hour % 12 + (12 if half == "pm" else 0) if half else hour
-    return hour * 3600 + minute * 60 + second
+# The forms of dates for strptime.
+FORMS = {
+    "31.12.2024": "%d.%m.%Y", "31/12/2024": "%d/%m/%Y", "12/31/2024": "%m/%d/%Y", "12.31.2024": "%m.%d.%Y",
+    "31-12-2024": "%d-%m-%Y", "12-31-2024": "%m-%d-%Y", "2024/12/31": "%Y/%m/%d",
+    "20241231": "%Y%m%d", "2024-12-31 00:00:00": "%Y-%m-%d", "45657": "",
+}
 
 
 def read_in(text: str, form: str) -> Optional[datetime]:
+    """The point of a text in a form; the store's own has two digits of an hour, seconds and 24 hours."""
     if form == "45657":
         days, _, part = text.replace(",", ".").partition(".")
         is_right = len(days) == 5 and all(one in DIGITS for one in days + part) and not text.endswith((".", ","))
@@ -209,17 +143,29 @@ def read_in(text: str, form: str) -> Optional[datetime]:
             return None
         seconds = Fraction(int(part or "0"), 10 ** len(part)) * 86_400
         return FIRST_DAY + timedelta(days=int(days), seconds=int(seconds + Fraction(1, 2)))
-    is_own, has_time = form == "own", form != "20241231"
-    marks = "T" if is_own else " T"
-    place = next((at for at, one in enumerate(text) if one in marks), None) if has_time else None
-    day = day_of(text[:place], "iso" if form in ("own", "2024-12-31 00:00:00") else form)
-    time = 0 if place is None else time_of(text[place + 1:], is_own)
-    if day is None or time is None:
+    is_own = form == "own"
+    place = next((at for at, one in enumerate(text) if one in "T" + " " * (not is_own)), len(text))
+    day, clock = text[:place], text[place + 1:]
+    is_wide = is_own or form in ("20241231", "2024-12-31 00:00:00")
+    if is_wide and len(day) != (8 if form == "20241231" else 10) or form == "20241231" and place < len(text):
         return None
     try:
-        return datetime(*day) + timedelta(seconds=time)
+        point = datetime.strptime(day, "%Y-%m-%d" if is_own else FORMS[form])
+        return point + (time_of(clock, is_own) if place < len(text) else timedelta())
     except ValueError:
         return None
+
+
+def time_of(clock: str, is_own: bool) -> timedelta:
+    half = "" if is_own else "".join(re.findall(r"[ \u00a0\u202f]?[AaPp]\.?[Mm]\.?$", clock))
+    clock = clock[:len(clock) - len(half)]
+    clock = clock if is_own else re.sub(r"(:\d\d:\d\d)[.,]0+$", r"\1", clock)
+    widths = [len(part) for part in clock.split(":")]
+    if widths[1:] not in ([2, 2], [2] if not is_own else []) or is_own and widths[0] != 2:
+        raise ValueError(clock)
+    form = ("%I" if half else "%H") + ":%M" + ":%S" * (len(widths) == 3) + "%p" * bool(half)
+    point = datetime.strptime(clock + ("AM" if "a" in half.lower() else "PM") * bool(half), form)
+    return timedelta(hours=point.hour, minutes=point.minute, seconds=point.second)
 
 
 def point_of(text: str, form: Optional[str]) -> Optional[datetime]:
@@ -250,12 +196,6 @@ def wanted_row(start: str, end: str, form: Optional[str], words: Dict[str, str])
     return [shown(first), shown(last)] if first and last and first < last else None
 
 
-# The forms of dates for strftime.
-FORMS = {
-    "31.12.2024": "%d.%m.%Y", "31/12/2024": "%d/%m/%Y", "12/31/2024": "%m/%d/%Y", "12.31.2024": "%m.%d.%Y",
-    "31-12-2024": "%d-%m-%Y", "12-31-2024": "%m-%d-%Y", "2024/12/31": "%Y/%m/%d",
-    "20241231": "%Y%m%d", "2024-12-31 00:00:00": "%Y-%m-%d", "45657": "",
-}
 TIMES = [
     "", "", "", "", " %H:%M", "T%H:%M:%S", " %H:%M:%S.250", "T%H:%M:%S.000", " %I:%M %p", " %H:%M p.m.", " %I:%M:%S%p",
 ]

@@ -2,7 +2,7 @@
 import sqlite3
 import sys
 import textwrap
-from argparse import SUPPRESS, ArgumentParser, Namespace
+from argparse import SUPPRESS, Namespace
 from functools import partial
 from pathlib import Path
 from typing import Callable, Dict, NamedTuple, Optional, Sequence
@@ -19,7 +19,7 @@ from ruzgalt.periods import EACH, ROUNDINGS
 from ruzgalt.progress import Progress
 from ruzgalt.report import contents, databases, divisions, document, export, figures, picks, svg, xlsx
 from ruzgalt.report.shown import Amounts
-from ruzgalt.script import changes, overlaps, raises, records, refusals, schemas
+from ruzgalt.script import changes, naming, overlaps, raises, records, refusals, schemas
 from ruzgalt.script.answers import Answer
 from ruzgalt.script.commands import Answered
 from ruzgalt.script.forms import is_month_end, shifted
@@ -60,7 +60,6 @@ def status_of(found: Sequence[Answer], options: Namespace) -> int:
 
 
 def show(text: str) -> None:
-    """Prints records of CSV."""
     streams.show_records([records.encode(text)])
 
 
@@ -116,8 +115,8 @@ def do_sqlite(options: Namespace) -> None:
         replies = [databases.ask(database, query, found) for query in options.query]
         shown = databases.shown(replies, look)
     # A program that reads the output may end early, so the database is written before.
-    show("".join(shown) if options.query else databases.listing(found))
-    for name in dict.fromkeys(name for reply in replies for name in reply.twins()):
+    show(shown if options.query else databases.listing(found))
+    for name in dict.fromkeys(name for reply in replies for name in naming.twice(reply.names)):
         warn(f"--query: several columns are called {records.visible(name)}: rename them by `as`")
     for pick in found:
         if options.day is not None and not databases.has_period(pick):
@@ -147,22 +146,20 @@ def do_history(options: Namespace) -> None:
     if options.retroactive and not options.diary:
         raise Misfit("--retroactive needs --diary, which has the days of commits")
     found = read(options)
-    changes.refuse_missing(found.answers, options.table)
+    schema = changes.schema_of(found.answers, options.table)
     past, commits = found.past, commits_of(options, found.past.newest)
     past.ask(*map(versions_of, filter(None, [options.table, options.diary])))
     days = changes.days_in(past.versions(options.diary)) if options.diary else None
-    versions = past.versions(options.table)
-    wanted = schemas.wanted_in(versions.schema, options.where)
+    versions, wanted = past.versions(options.table), schemas.wanted_in(schema, options.where)
     made = changes.history(versions, wanted, commits, days, options.retroactive)
     for doubt in [*changes.strange_commits(days or [], past.newest), *made.doubts]:
         warn(f"--diary {options.diary}: {doubt}")
     if made.is_of_none:
         warn(f"no row of {options.table} ever had the values of --where")
-    given.show(options, changes.of_table(found.answers, versions.schema, made.entries, days is not None))
+    given.show(options, changes.of_table(found.answers, schema, made.entries, days is not None))
 
 
 def commits_of(options: Namespace, newest: int) -> range:
-    """Returns the commits that are wanted."""
     first, last = options.commit or (1, None)
     last = newest if last is None else last
     if options.commit and not 1 <= first <= last <= newest:
@@ -186,7 +183,7 @@ def do_refusals(options: Namespace) -> int:
     for answer in refused:
         streams.show_lines([refusals.described(answer), *(f"  {line}" for line in rows.get(answer.number, []))])
     for mark in scripts.of(found.answers, found.past):
-        given.warn_of_mark(mark)
+        warn(f"{mark.answer.shown}: {mark.note}")
     return 1 if refused else 0
 
 
@@ -201,7 +198,7 @@ def do_next(options: Namespace) -> None:
 
 def do_raise(options: Namespace) -> None:
     found = read(options)
-    changes.refuse_missing(found.answers, options.table)
+    changes.schema_of(found.answers, options.table)
     wish = raises.Wish(
         options.table, options.column, options.percent, options.start, options.end, options.where, options.rounding,
     )
@@ -223,8 +220,7 @@ def do_raise(options: Namespace) -> None:
 # The commands.
 
 class Tool(NamedTuple):
-    """A command: its function, a line about it, the words after it in an example, and more about it for its own help.
-    """
+    """A command: its function, a line about it, the words after it in an example, and more for its own help."""
 
     do: Callable[[Namespace], Optional[int]]
     about: str
@@ -265,11 +261,12 @@ TOOLS: Dict[str, Tool] = {
         "desks.csv desk --ask rows,bookings", NEEDS_PANDAS,
     ),
     "gaps": Tool(
-        over_time.do_gaps, "finds the times between rows of one value without any",
+        partial(over_time.show_periods, call="gaps"), "finds the times between rows of one value without any",
         "desks.csv desk --ask rows,bookings", NEEDS_PANDAS,
     ),
     "coalesce": Tool(
-        over_time.do_coalesce, "finds the periods when some record of a group holds", "pay.csv person --ask rows,pay",
+        partial(over_time.show_periods, call="coalesce"), "finds the periods when some record of a group holds",
+        "pay.csv person --ask rows,pay",
         f"The periods are as long as possible. Without a COLUMN all records are one group. {NEEDS_PANDAS}",
     ),
     "months": Tool(
@@ -399,7 +396,7 @@ OPTIONS = [
 ]
 
 
-def parser_of(name: str, tool: Tool) -> ArgumentParser:
+def parser_of(name: str, tool: Tool) -> Words:
     about = f"{tool.about[0].upper()}{tool.about[1:]}. {' '.join(tool.more.split())}".strip()
     parser = Words(f"{NAME} {name} {tool.example}", prog=f"{NAME} {name}", description=about)
     add_all(parser, OPTIONS, name)
@@ -439,8 +436,10 @@ def run(words: Sequence[str]) -> int:
 
 def options_of(name: str, words: Sequence[str]) -> Namespace:
     """Returns the options of a command, with the program. Raises Misfit for an option that has no use."""
-    options = parser_of(name, TOOLS[name]).parse_intermixed_args(words)
-    given.refuse_words(options)
+    options: Namespace = parser_of(name, TOOLS[name]).parse_intermixed_args(words)
+    # Some commands have other words.
+    if "for_spreadsheet" in options and options.german and not (options.decimals or options.for_spreadsheet):
+        raise Misfit(given.GERMAN.format("--decimals COLUMN=DIGITS or --for-spreadsheet"))
     picked = getattr(options, "pick", None) or []
     for word in [picked] if isinstance(picked, str) else picked:
         if "," in word and not picks.is_pick(word):

@@ -72,7 +72,7 @@ def read(options: Namespace, shows_refusals: bool = False, script: Optional[byte
         refuse_refused(found, options.go_on)
     if options.diary is not None:
         # Only questions as of days need it.
-        changes.refuse_no_diary(found, options.diary)
+        changes.refuse_no_commits(changes.schema_of(found, options.diary))
     asked = [answer for answer in found if answer.command.record.is_asked]
     names = names_of(asked, dict(zip(run.lines_of(options.ask, source), (name for name, _ in named))))
     return Found(found, asked, names, Past(options.program, source, output, begun, found), output)
@@ -81,11 +81,9 @@ def read(options: Namespace, shows_refusals: bool = False, script: Optional[byte
 def refuse_refused(found: Sequence[Answer], goes_on: bool) -> None:
     """Raises Misfit for a refused command; if these are passed over, for a question of --ask."""
     refused = [answer for answer in found if answer.refusal and not (goes_on and not answer.command.record.is_asked)]
-    if refused and refused[0].command.record.is_asked:
-        raise Misfit(refusals.described(refused[0]))
     if refused:
-        more = f"{len(refused)} refused; `{ANSWERS} refusals` explains, --go-on goes on"
-        raise Misfit(f"{refusals.described(refused[0])} ({more})")
+        more = f" ({len(refused)} refused; `{ANSWERS} refusals` explains, --go-on goes on)"
+        raise Misfit(f"{refusals.described(refused[0])}{more * (not refused[0].command.record.is_asked)}")
 
 
 def by_commits(options: Namespace, asked: Sequence[str], shows_refusals: bool, script: bytes) -> List[str]:
@@ -135,21 +133,13 @@ def refuse_names(option: str, words: Sequence[str]) -> None:
 def warn_of_mistakes(found: Found, most: Optional[int] = None) -> None:
     """Warns of possible mistakes in the script: of each kind the first, and at most `most` kinds."""
     kinds = scripts.by_kind(scripts.of(found.answers, found.past))
-    for same in kinds[:most]:
-        warn_of_mark(same[0], others(same[1:]))
+    for first, *same in kinds[:most]:
+        # A file of updates may have a mark for each row.
+        more = f" and {len(same) - PLACES:,} more, which `{ANSWERS} refusals` lists" if len(same) > PLACES else ""
+        lines = ", ".join(dict.fromkeys(mark.answer.where for mark in same[:PLACES]))
+        warn(f"{first.answer.shown}: {first.note}" + (f" (likewise {lines}{more})" if same else ""))
     if most is not None and len(kinds) > most:
         warn(f"{len(kinds) - most} more possible mistakes: `{ANSWERS} list` has all")
-
-
-def warn_of_mark(mark: scripts.Mark, more: str = "") -> None:
-    warn(f"{mark.answer.shown}: {mark.note}{more}")
-
-
-def others(same: Sequence[scripts.Mark]) -> str:
-    """Returns where other marks of one kind are: a file of updates may have one for each row."""
-    lines = ", ".join(dict.fromkeys(mark.answer.where for mark in same[:PLACES]))
-    more = f" and {len(same) - PLACES:,} more, which `{ANSWERS} refusals` lists" if len(same) > PLACES else ""
-    return f" (likewise {lines}{more})" if same else ""
 
 
 # Picks.
@@ -167,9 +157,8 @@ def chosen(found: Found, words: Sequence[str]) -> List[picks.Pick]:
 def look_at(found: Found, taken: Sequence[Answer]) -> None:
     """Reports answers as of a commit before their table had rows."""
     beginnings = Beginnings(found.answers)
-    for answer in taken:
-        for past in beginnings.notes_of(answer):
-            warn(f"{answer.shown}: {past}")
+    for answer, note in ((answer, note) for answer in taken for note in beginnings.notes_of(answer)):
+        warn(f"{answer.shown}: {note}")
 
 
 def last(found: Found, words: Sequence[str], count: int = 1) -> List[Answer]:
@@ -181,8 +170,8 @@ def last(found: Found, words: Sequence[str], count: int = 1) -> List[Answer]:
         more = f"{len(some)} of the answers are more than an `ok`, but it takes {count}"
         raise Misfit(f"{more}: ask for more, for example by --ask rows,T")
     if len(some) != count and (words or found.asked):
-        several = ": `csv --folder`, `sqlite` and `json` take several" if count == 1 else ""
-        remedy = ": give one more PICK or --ask" if len(some) < count else several
+        remedy = ": `csv --folder`, `sqlite` and `json` take several" if count == 1 else ""
+        remedy = ": give one more PICK or --ask" if len(some) < count else remedy
         raise Misfit(f"{len(some)} answer{'s' * (len(some) != 1)} given, but it takes {count}{remedy}")
     taken = [pick.answer for pick in some[-count:]]
     look_at(found, taken)
@@ -192,12 +181,6 @@ def last(found: Found, words: Sequence[str], count: int = 1) -> List[Answer]:
 # Tables.
 
 GERMAN = "--german says how decimals are printed, so give {} too; dates are given as 2024-12-31"
-
-
-def refuse_words(options: Namespace) -> None:
-    """Refuses --german if no table is printed by it. Tools that have other words pass."""
-    if "for_spreadsheet" in options and options.german and not (options.decimals or options.for_spreadsheet):
-        raise Misfit(GERMAN.format("--decimals COLUMN=DIGITS or --for-spreadsheet"))
 
 
 def show(options: Namespace, table: Table) -> None:
@@ -214,24 +197,23 @@ def pieces(options: Namespace, table: Table) -> Iterator[bytes]:
 
 def warn_of_formulas(options: Namespace, tables: Sequence[Table]) -> None:
     """Warns of fields that a spreadsheet would run, unless they are guarded."""
-    found = [] if options.for_spreadsheet else list(filter(None, map(export.run_in, tables)))
+    found = [] if options.for_spreadsheet else [field for table in tables for field in export.run_in(table)]
     if found:
-        count = sum(one.fields for one in found)
-        fields = f"{count} fields, the first" if count > 1 else "a field,"
-        warn(f"a spreadsheet would run {fields} {visible(found[0].first)}: --for-spreadsheet prevents it")
+        fields = f"{len(found)} fields, the first" if len(found) > 1 else "a field,"
+        warn(f"a spreadsheet would run {fields} {visible(found[0])}: --for-spreadsheet prevents it")
 
 
 # Sources of the page.
 
 def sources(options: Namespace) -> Sources:
     """Returns the sources of a page of this script. Raises Misfit if the program doesn't print the same bytes twice."""
-    script, words = bytes_of(options.script), list(options.ask)
+    script, asked = bytes_of(options.script), list(options.ask)
     found = read(options, shows_refusals=True, script=script)
     found.past.ask("log", *map(versions_of, found.past.tables))
     kept = None if options.answers is None else marked(options.answers, found.output)
     installed = which.version() if options.program == which.own() and which.WRITTEN.is_file() else ""
     return Sources(
-        marked(options.script, script), streams.quoted(word_of(options.script)), command_of(options, words),
+        marked(options.script, script), streams.quoted(word_of(options.script)), command_of(options, asked),
         found.answers, files_of(options.program), installed, kept, found.past,
         named_by(found.answers, options.pick, found.names), options.title, options.note, look_of(options),
     )
@@ -245,8 +227,8 @@ def marked(name: str, data: bytes) -> Marked:
 def files_of(program: str) -> List[Marked]:
     """Returns the command that was run, and the program's own file if that is another."""
     command = Path(program).resolve()
-    files = [command, *(command.parent / place for place in PROGRAMS)]
-    return [marked(file.name, file.read_bytes()) for file in files if file.is_file()][:2]
+    files = (one for one in (command, *map(command.parent.joinpath, PROGRAMS)) if one.is_file())
+    return [marked(one.name, one.read_bytes()) for one in files][:2]
 
 
 def named_by(found: Sequence[Answer], words: Sequence[str], names: Dict[int, str]) -> Dict[int, str]:
@@ -264,15 +246,15 @@ def named_by(found: Sequence[Answer], words: Sequence[str], names: Dict[int, str
 
 def command_of(options: Namespace, asked: Sequence[str]) -> str:
     """Returns the command that makes the page again, in the folder of the files."""
-    words = [ANSWERS, "page", word_of(options.script), *options.pick]
     given = [
         ("--answers", options.answers and word_of(options.answers)), ("--diary", options.diary),
         *(("--ask", question) for question in asked), ("--title", options.title), ("--note", options.note),
         *(("--decimals", f"{name}={digits}") for name, digits in options.decimals),
     ]
+    words = [ANSWERS, "page", word_of(options.script), *options.pick]
     words.extend(word for one in given if one[1] for word in one)
-    words.extend([*["--german"] * options.german, *["--last-day"] * options.last_day])
-    return streams.joined(words)
+    words.extend(["--german"] * options.german + ["--last-day"] * options.last_day)
+    return " ".join(map(streams.quoted, words))
 
 
 def word_of(file: str) -> str:

@@ -4,10 +4,10 @@ import os
 import sys
 from argparse import ArgumentParser, ArgumentTypeError, Namespace
 from pathlib import Path
-from typing import Iterator, List, Optional, Sequence, Tuple
+from typing import List, Optional, Sequence, Tuple
 
 from ruzgalt.cli import streams
-from ruzgalt.cli.options import Option, Words, add_all, decimals as digits_of, filled
+from ruzgalt.cli.options import Option, Words, add_all, decimals as digits_of, filled, lines
 from ruzgalt.errors import Misfit
 from ruzgalt.load import dates, making
 from ruzgalt.load.columns import mark_of
@@ -39,19 +39,15 @@ UNUSED_BY_CHECK = (
 
 def encoding(word: str) -> str:
     try:
+        # Some codecs, such as hex, aren't of texts.
+        " ".encode(word)
         return codecs.lookup(word).name
-    except LookupError:
+    except (LookupError, UnicodeError):
         raise ArgumentTypeError(f"{word}: not an encoding, such as cp1252, cp850 or utf-16") from None
 
 
-def count(word: str) -> int:
-    if not word.isdecimal() or len(word) > 9:
-        raise ArgumentTypeError(f"{word}: not a number of lines, such as 2")
-    return int(word)
-
-
 # FROM, TO and the columns, and how they are read.
-FORMS = dates.names_of_forms()
+FORMS = list(dates.FORMS)
 OPTIONS = [
     Option("table", "", "TABLE", "the table of the store"),
     Option("start", "", "FROM", "the file's column with the start of a row"),
@@ -60,7 +56,7 @@ OPTIONS = [
            "takes the file's Neu as grade", more={"nargs": "*"}),
     Option("--file", "", "FILE", "the file; without it, it is the last word, or standard input", filled),
     Option("--encoding", "", "NAME", "the file's encoding, such as cp1252, if it isn't UTF-8", encoding),
-    Option("--skip", "", "N", "leaves out N lines before the header", count, {"default": 0}),
+    Option("--skip", "", "N", "leaves out N lines before the header", lines, {"default": 0}),
     Option("--sheet", "", "NAME", "the sheet of an Excel workbook (.xlsx) that has several"),
     Option("--check", "", "INSTANT", "prints a check of a division: FROM is the column of a row's part, TO of its "
            "id"),
@@ -94,14 +90,6 @@ OPTIONS = [
     Option("--plain-spaces", "", "", "no-break spaces become spaces"),
     Option("--drop-equal", "", "", "leaves out rows that are equal to an earlier one in all of the file's fields"),
 ]
-
-
-def words() -> ArgumentParser:
-    example = f"{LOAD} pay Start End person=Name cents=Pay --decimals cents=2 --last-day pay.csv"
-    first = "record", "german", "dates", "decimals", "last_day", "open"
-    parser = Words(example, first, prog=LOAD, description=ABOUT)
-    add_all(parser, OPTIONS)
-    return parser
 
 
 def refuse_words(options: Namespace) -> None:
@@ -150,7 +138,11 @@ def given(options: Namespace) -> bytes:
         return Path(options.file).read_bytes()
     if sys.stdin is not None and sys.stdin.isatty():
         streams.report(f"{LOAD_SAYS}: reads the CSV file from this terminal; a file's name may be the last word")
-    return streams.given()
+    data = streams.given()
+    if not data and options.column:
+        missing = f"there is no file {visible(options.column[-1])}"
+        raise Misfit(f"standard input is empty, and {missing}: give a file by --file or as the last word")
+    return data
 
 
 def opened(options: Namespace) -> Records:
@@ -162,8 +154,7 @@ def opened(options: Namespace) -> Records:
         raise Misfit(f"--sheet {visible(options.sheet)}: the file isn't an Excel workbook, so it has no sheets")
     if options.decimal_mark and not options.decimals:
         # In a workbook the mark is needed for texts with numbers too.
-        reason = "values of other columns are taken as they are"
-        raise Misfit(f"--decimal-mark needs --decimals: {reason}")
+        raise Misfit("--decimal-mark needs --decimals: values of other columns are taken as they are")
     return Sheet(data, options.encoding, options.skip)
 
 
@@ -172,14 +163,13 @@ def load_of(options: Namespace) -> Tuple[Load, Optional[Schema], List[str]]:
     sheet = opened(options)
     rename(options, sheet.header)
     schema = fitted = schema_of(options)
-    notes: List[str] = []
+    left_out: List[str] = []
     if schema:
         fitted, left_out = fit(options, schema, sheet.header)
-        names = ", ".join(left_out)
-        notes = [f"the file has no column {names}, so updates leave it as it is"] if left_out else []
     else:
         take_names_of_file(options, {name: column for column, name in options.renamed.items()})
     refuse_words(options)
+    notes = [f"the file has no column {', '.join(left_out)}, so updates leave it as it is"] if left_out else []
     return Load(sheet, options, fitted), schema, notes
 
 
@@ -198,49 +188,41 @@ def claimed(options: Namespace) -> Tuple[bytes, List[str]]:
     return records.encode(check), notes
 
 
-def compose(options: Namespace) -> None:
-    """Gives the names the header's form of Unicode: an accented letter may be two characters elsewhere."""
+def made(options: Namespace) -> Tuple[List[bytes], List[str], List[str], int]:
+    """Returns the output by pieces, the faults, the notes, and the number of faults."""
+    # The header may have another form of Unicode: an accented letter may be two characters elsewhere.
     options.start, options.end = composed(options.start), composed(options.end)
     for names in (options.column, options.update, options.empty):
         names[:] = map(composed, names)
     options.decimals = [(composed(name), digits) for name, digits in options.decimals]
-
-
-def made(options: Namespace) -> Tuple[List[bytes], List[str], List[str], int]:
-    """Returns the output by pieces, the faults, the notes, and the number of faults."""
-    compose(options)
     if not is_name(options.table):
         raise Misfit(f"{visible(options.table)}: not a table's name, which has {NAME_HAS}")
     if options.check is not None:
         check, notes = claimed(options)
         return [check], [], notes, 0
     load, schema, notes = load_of(options)
-    head = records.encode(records.to_text([schema.fields])) if schema and options.print_table else b""
-    opening = records.encode(records.to_text([["load", options.table]])) if load.is_load else b""
-    end = b"end\n" if load.is_load else b""
+    opening = [schema.fields] if schema and options.print_table else []
+    pieces = [records.encode(records.to_text([*opening, *([["load", options.table]] if load.is_load else [])]))]
     try:
-        pieces = list(made_of(load))
+        with Progress(LOAD_SAYS) as advance:
+            for piece in load.made():
+                pieces.append(piece)
+                advance(load.rows)
     except Misfit as error:
         load.add_fault(str(error))
-        pieces = []
-    notes = [] if load.count_of_faults else [*notes, *load.noted()]
-    whole = [head, opening, *pieces, end]
-    more = [entry(options, b"".join(whole))] if options.day and not load.count_of_faults else []
-    return [*whole, *more], load.faults, notes, load.count_of_faults
+    if load.count_of_faults:
+        return [], load.faults, [], load.count_of_faults
+    pieces.append(b"end\n" if load.is_load else b"")
+    notes.extend(load.noted())
+    return [*pieces, *([entry(options, b"".join(pieces))] if options.day else [])], [], notes, 0
 
 
-def made_of(load: Load) -> Iterator[bytes]:
-    """The load by pieces, while a terminal is shown how far it is."""
-    with Progress(LOAD_SAYS) as advance:
-        for piece in load.made():
-            yield piece
-            advance(load.rows)
-
-
-def report(notes: List[str], count: int) -> None:
-    more = [f"and {count - len(notes)} more"] if count > len(notes) else []
-    for one in [*notes, *more]:
-        streams.report(f"{LOAD_SAYS}: {one}")
+def words() -> ArgumentParser:
+    example = f"{LOAD} pay Start End person=Name cents=Pay --decimals cents=2 --last-day pay.csv"
+    first = "record", "german", "dates", "decimals", "last_day", "open"
+    parser = Words(example, first, prog=LOAD, description=ABOUT)
+    add_all(parser, OPTIONS)
+    return parser
 
 
 def main(arguments: Optional[Sequence[str]] = None) -> int:
@@ -250,6 +232,8 @@ def main(arguments: Optional[Sequence[str]] = None) -> int:
 
 def run(arguments: Sequence[str]) -> int:
     pieces: List[bytes] = []
+    notes: List[str] = []
+    count = 1
     try:
         options = words().parse_intermixed_args(arguments)
         with Progress(LOAD_SAYS):
@@ -258,11 +242,12 @@ def run(arguments: Sequence[str]) -> int:
         streams.write([FAILED] if ended.code else [])
         raise
     except Misfit as error:
-        faults, notes, count = [str(error)], [], 1
+        faults = [str(error)]
     except OSError as error:
-        faults, notes, count = [streams.reason(error)], [], 1
+        faults = [streams.reason(error)]
     except MemoryError:
-        faults, notes, count = ["out of memory: make two files of it, and two scripts of these"], [], 1
-    report(faults or notes, count)
+        faults = ["out of memory: make two files of it, and two scripts of these"]
+    for note in [*faults, *([f"and {count - len(faults)} more"] if count > len(faults) else []), *notes]:
+        streams.report(f"{LOAD_SAYS}: {note}")
     streams.show_records([FAILED] if count else pieces)
     return 1 if count else 0

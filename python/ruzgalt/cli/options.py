@@ -1,13 +1,15 @@
 """The words of a tool, by tables: each option once, with the commands that take it."""
+import re
 import sys
 from argparse import SUPPRESS, Action, ArgumentError, ArgumentParser, ArgumentTypeError, Namespace
-from typing import Any, Callable, Dict, Iterable, NamedTuple, NoReturn, Optional, Sequence, Tuple
+from typing import Any, Callable, Dict, Iterable, NamedTuple, NoReturn, Optional, Sequence, Tuple, TypeVar
 
 from ruzgalt.cli import streams
 from ruzgalt.report.shown import Amounts, Look
 
 # How many options --help lists.
 OPTIONS = 6
+T = TypeVar("T")
 
 
 class Option(NamedTuple):
@@ -24,22 +26,15 @@ class Option(NamedTuple):
     type: Callable[[str], Any] = str
     more: Dict[str, Any] = {}
 
-    def add_to(self, parser: ArgumentParser) -> None:
-        words: Dict[str, Any] = {"help": self.help, **self.more}
-        if not self.value:
-            words["action"] = "store_true"
-        else:
-            words.update(type=self.type, metavar=self.value.rstrip("."))
-            if self.value.endswith(".."):
-                words.update(action="append", default=[])
-        parser.add_argument(self.word, **words)
-
 
 def add_all(parser: ArgumentParser, options: Iterable[Option], command: str = "") -> None:
     """Adds the options that a command takes."""
     for one in options:
         if not one.of or command in one.of.split():
-            one.add_to(parser)
+            words: Dict[str, Any] = {"type": one.type, "metavar": one.value.rstrip(".")}
+            words.update({"action": "append", "default": []} if one.value.endswith("..") else {})
+            words = words if one.value else {"action": "store_true"}
+            parser.add_argument(one.word, help=one.help, **words, **one.more)
 
 
 class Once(Action):
@@ -80,8 +75,7 @@ class Words(ArgumentParser):
 
     def print_help(self, file: Any = None) -> None:
         """Prints the example, and the help with the first options."""
-        options = [one for one in self._actions if one.option_strings and one.dest != "help"]
-        options = [one for one in options if one.help != SUPPRESS]
+        options = [one for one in self._actions if one.option_strings and one.dest != "help" and one.help != SUPPRESS]
         first = [one for one in options if one.dest in self.first] or options[:OPTIONS]
         others = [(one, one.help) for one in options if one not in first]
         for one, _ in others:
@@ -103,46 +97,33 @@ def filled(word: str) -> str:
     return word
 
 
-def workbook(word: str) -> str:
-    """Returns the name of a workbook. Excel opens no other."""
-    if not word.lower().endswith(".xlsx"):
-        raise ArgumentTypeError(f"{word}: not the name of a workbook, such as pay.xlsx")
-    return word
+def formed(form: str, what: str, make: Callable[["re.Match[str]"], T]) -> Callable[[str], T]:
+    """Returns what reads words of a form, and refuses others as not `what`."""
+    def read(word: str) -> T:
+        found = re.fullmatch(form, word, re.DOTALL)
+        if not found:
+            raise ArgumentTypeError(f"{word}: not {what}")
+        return make(found)
+
+    return read
 
 
-def pair(word: str) -> Tuple[str, str]:
-    """Returns the pair of COLUMN=VALUE."""
-    name, mark, value = word.partition("=")
-    if not mark:
-        raise ArgumentTypeError(f"{word}: not COLUMN=VALUE")
-    return name, value
+# Excel opens no other.
+workbook = formed(r"(?i).*\.xlsx", "the name of a workbook, such as pay.xlsx", lambda found: found[0])
+pair = formed("([^=]*)=(.*)", "COLUMN=VALUE", lambda found: (found[1], found[2]))
+decimals = formed(r"(.+)=(\d\d?)", "COLUMN=DIGITS, such as Pay=2", lambda found: (found[1], int(found[2])))
+lines = formed(r"\d{1,9}", "a number of lines, such as 2", lambda found: int(found[0]))
+pixels = formed(r"[4-9]\d|[1-9]\d{2,4}|100000", "a number from 40 to 100000", lambda found: int(found[0]))
+# The first commit, and the last one if there is one.
+some_commits = formed(
+    r"(\d+)(?:(-)(\d*))?", "N, FIRST-LAST or FIRST-, such as 7, 7-9 or 7-",
+    lambda found: (int(found[1]), int(found[3]) if found[3] else None if found[2] else int(found[1])),
+)
 
 
 def named(word: str) -> Tuple[str, str]:
     """Returns a column, and the name that it gets."""
     return pair(word) if "=" in word else (word, word)
-
-
-def some_commits(word: str) -> Tuple[int, Optional[int]]:
-    """Returns the first and the last commit of N, FIRST-LAST, or FIRST-, which has no last one."""
-    first, mark, last = word.partition("-")
-    if not (first + last).isdigit() or not first:
-        raise ArgumentTypeError(f"{word}: not N, FIRST-LAST or FIRST-, such as 7, 7-9 or 7-")
-    return int(first), int(last) if last else None if mark else int(first)
-
-
-def decimals(word: str) -> Tuple[str, int]:
-    """Returns the pair of COLUMN=DIGITS."""
-    name, _, digits = word.rpartition("=")
-    if not name or not digits.isdigit() or len(digits) > 2:
-        raise ArgumentTypeError(f"{word}: not COLUMN=DIGITS, such as Pay=2")
-    return name, int(digits)
-
-
-def pixels(word: str) -> int:
-    if not word.isdigit() or not 40 <= int(word) <= 100_000:
-        raise ArgumentTypeError(f"{word}: not a number from 40 to 100000")
-    return int(word)
 
 
 def look_of(options: Namespace) -> Look:

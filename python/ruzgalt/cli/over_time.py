@@ -4,7 +4,7 @@ from argparse import Namespace
 from contextlib import contextmanager
 from datetime import datetime, timedelta
 from importlib import import_module
-from typing import Any, Iterator, List, NamedTuple, Optional, Sequence, Tuple
+from typing import Any, Iterator, List, Optional, Sequence, Tuple
 
 from ruzgalt.cli import given
 from ruzgalt.cli.given import Found, last, read, refuse_names, warn
@@ -15,7 +15,7 @@ from ruzgalt.script import schemas
 from ruzgalt.script.answers import Answer
 from ruzgalt.script.changes import IDS
 from ruzgalt.script.commands import Answered
-from ruzgalt.script.forms import POINTS, is_month_end, print_point, printed, read_point, shifted
+from ruzgalt.script.forms import is_month_end, print_point, printed, read_limits, read_point, shifted
 from ruzgalt.script.records import short
 from ruzgalt.script.schemas import PERIOD, Column, Kind, Table, ints, refuse_other_kinds, unique
 
@@ -36,14 +36,6 @@ WHICH_AMOUNT = (
     "say what an amount is: --per month if a record has it in each month, such as a pay (or each day, week, quarter or "
     "year), or --in-total if a record has it once for its whole period, such as a premium"
 )
-
-
-def do_coalesce(options: Namespace) -> None:
-    show_periods(options, "coalesce")
-
-
-def do_gaps(options: Namespace) -> None:
-    show_periods(options, "gaps")
 
 
 def show_periods(options: Namespace, call: str) -> None:
@@ -76,18 +68,20 @@ def by_of(columns: Sequence[Column]) -> Optional[List[str]]:
 
 def columns_of(answer: Answer, names: Sequence[str]) -> List[Column]:
     """Returns these columns of an answer whose records are periods of one commit. Raises Misfit for any other."""
-    answered = answer.command.form.answered
+    answered, why = answer.command.form.answered, ""
     if answer.command.word == "at":
-        raise Misfit(f"{answer.shown}: an `at` is of one point only: ask by `rows`")
-    if answered is Answered.VERSIONS:
-        raise Misfit(f"{answer.shown}: its records are versions of several commits: ask by `rows` as of one commit")
-    if answered not in IDS:
-        raise Misfit(f"{answer.shown}: its records aren't periods: ask by `rows`, `join`, `anti` or `agg`")
-    places = [answer.table.index_of(name) for name in dict.fromkeys(names)]
+        why = "an `at` is of one point only: ask by `rows`"
+    elif answered is Answered.VERSIONS:
+        why = "its records are versions of several commits: ask by `rows` as of one commit"
+    elif answered not in IDS:
+        why = "its records aren't periods: ask by `rows`, `join`, `anti` or `agg`"
+    if why:
+        raise Misfit(f"{answer.shown}: {why}")
+    columns = [answer.table.columns[answer.table.index_of(name)] for name in dict.fromkeys(names)]
     for name in names:
         if name in (START, END):
             raise Misfit(f"{name}: a start or an end, which make no groups: give another column")
-    return [answer.table.columns[place] for place in places]
+    return columns
 
 
 def imported(name: str) -> Any:
@@ -130,7 +124,6 @@ def frame_of(answer: Answer, columns: Sequence[Column], where: schemas.Where = (
 
 
 def records_of(frame: Any, columns: Sequence[Column]) -> List[Tuple[str, ...]]:
-    """Returns these columns of a frame as records."""
     texts = ([print_point(one) if column.kind is Kind.POINT else str(one) for one in frame[column.name].tolist()]
              for column in columns)
     return list(zip(*texts))
@@ -140,57 +133,47 @@ def show_frame(options: Namespace, frame: Any, columns: Sequence[Column]) -> Non
     given.show(options, Table(unique(columns), records_of(frame, columns)))
 
 
-class Wish(NamedTuple):
-    """The time that counts, from its start on and before its end; None if the option wasn't given."""
-
-    start: Optional[datetime]
-    end: Optional[datetime]
-
-    @property
-    def limits(self) -> Tuple[datetime, datetime]:
-        return self.start or FIRST, self.end or LAST
+# The time that counts, from its start on and before its end; None if the option wasn't given.
+Limits = Tuple[Optional[datetime], Optional[datetime]]
 
 
 def do_months(options: Namespace) -> None:
     if bool(options.per) == options.in_total:
         raise Misfit(f"--sum {options.sum}: {WHICH_AMOUNT}")
-    wish = wish_of(options)
+    limits = limits_of(options)
     found, answer, less = summed(options)
     sides = [answer, *([less] if less else [])]
     columns = [amounts_of(one, options) for one in sides]
     if less:
         refuse_other_kinds(f"{answer.where} and {less.where}", *columns)
     named = unique([*PERIOD, *columns[0]])
-    frames = [side_of(one, own, options, wish) for one, own in zip(sides, columns)]
+    frames, name = [side_of(one, own, options, limits) for one, own in zip(sides, columns)], named[-1].name
     for other in frames[1:]:
         other.columns = frames[0].columns
-        other[named[-1].name] = negative(other[named[-1].name])
-    sums = spread(frames, named, options, wish)
+        if (other[name] == -(1 << 63)).any():
+            raise Misfit(f"--less: {-(1 << 63)} can't be subtracted: it would need more than 64 bits")
+        other[name] = -other[name]
+    sums = spread(frames, named, options, limits)
     # The column of sums has another name than the amounts if --by has taken theirs.
-    digits, name = Amounts(options.decimals).of(options.sum), named[-1].name
+    digits = Amounts(options.decimals).of(options.sum)
     if digits is not None and Amounts(options.decimals).of(name) is None:
         options.decimals = [*options.decimals, (name, digits)]
     table = Table(named, [record for record, exact in sums if exact or not options.no_zeros])
     given.show(options, table)
-    warn_of_sums(options, sides, found.answers, sum(map(len, frames)))
+    if options.where and not sum(map(len, frames)):
+        warn("no record has the values of --where")
+    warn_of_sums(options, sides, found.answers)
     rounded = sum(bool(exact != int(record[-1])) for record, exact in sums)
     if rounded:
-        warn(f"{rounded:,} of {len(table.records):,} {how_rounded(options)}")
-    if options.end and not options.last_day and is_month_end(printed(options.end)):
-        later = shifted(printed(options.end), 1)
-        warn(f"--to {options.end}: that day isn't counted; --to {later}, or --last-day, counts it")
+        what, whole = "difference" if options.less else "sum", "the sums of each group" if options.by else "all"
+        how = f"{whole} add up to {'its' if options.by else 'the'} exact {what}, rounded once, half up: the largest "
+        how = "the sums of a record add up to its amount" if options.in_total else f"{how}remainders count up"
+        warn(f"{rounded:,} of {len(table.records):,} {what}s were rounded, and {how}")
     given.warn_of_mistakes(found, given.MISTAKES)
 
 
-def how_rounded(options: Namespace) -> str:
-    exact = "difference" if options.less else "sum"
-    whose = f"the sums of each group add up to its exact {exact}" if options.by else f"all add up to the exact {exact}"
-    how = f"{whose}, rounded once, half up: the largest remainders count up"
-    return f"{exact}s were rounded, and {'the sums of a record add up to its amount' if options.in_total else how}"
-
-
-def warn_of_sums(options: Namespace, taken: Sequence[Answer], found: Sequence[Answer], count: int) -> None:
-    """Warns of cut rows whose amounts count twice, and of --where that no record meets."""
+def warn_of_sums(options: Namespace, taken: Sequence[Answer], found: Sequence[Answer]) -> None:
+    """Warns of cut rows whose amounts count twice, and of a last day that isn't counted."""
     known = {answer.command.front[1]: answer.commit for answer in taken}
     for change in found if options.in_total else ():
         texts = change.command.record.fields
@@ -198,42 +181,36 @@ def warn_of_sums(options: Namespace, taken: Sequence[Answer], found: Sequence[An
             cut = "if it has cut a row, each part of the row has the whole amount"
             warn(f"{change.shown}: {cut}, and so the amount counts twice")
             break
-    if options.where and not count:
-        warn("no record has the values of --where")
-
-
-def negative(amounts: Any) -> Any:
-    """Returns amounts with the other sign. Raises Misfit for the least number, which has no positive one."""
-    if (amounts == -(1 << 63)).any():
-        raise Misfit(f"--less: {-(1 << 63)} can't be subtracted: it would need more than 64 bits")
-    return -amounts
+    if options.end and not options.last_day and is_month_end(printed(options.end)):
+        later = shifted(printed(options.end), 1)
+        warn(f"--to {options.end}: that day isn't counted; --to {later}, or --last-day, counts it")
 
 
 def spread(
-    frames: Sequence[Any], columns: Sequence[Column], options: Namespace, wish: Wish,
+    frames: Sequence[Any], columns: Sequence[Column], options: Namespace, limits: Limits,
 ) -> List[Tuple[Tuple[str, ...], Any]]:
     """Returns the record of each group and piece, with the exact sum.
 
     A piece that isn't counted whole has the time that counts.
     """
-    name = columns[-1].name
+    name, within = columns[-1].name, (limits[0] or FIRST, limits[1] or LAST)
     how = {
         "amount": f"per {options.per}" if options.per else "in total", "each": options.each[0].upper(),
-        "by": by_of(columns[2:-1]), "within": wish.limits if wish.start or wish.end else None, "period": (START, END),
+        "by": by_of(columns[2:-1]), "within": within if any(limits) else None, "period": (START, END),
     }
     with calling() as package:
         frame = imported("pandas").concat(frames, ignore_index=True)
         whole, exact = (package.spread(frame, name, exact=is_exact, **how) for is_exact in (False, True))
-    for point, cut, limit in zip((START, END), (max, min), wish.limits):
+    for point, cut, limit in zip((START, END), (max, min), within):
         whole[point] = [cut(one, limit) for one in whole[point].tolist()]
     return list(zip(records_of(whole, columns), exact[name].tolist()))
 
 
-def side_of(answer: Answer, columns: Sequence[Column], options: Namespace, wish: Wish) -> Any:
+def side_of(answer: Answer, columns: Sequence[Column], options: Namespace, limits: Limits) -> Any:
     """Returns a frame of the records that count. Raises Misfit if their start or end isn't known, but is needed."""
     frame = frame_of(answer, columns, options.where)
-    refuse_unknown(frame[END] >= NO_END, frame, "end", wish.end, "--to, the time until which", options)
-    refuse_unknown(frame[START] == FIRST, frame, "start", wish.start, "--from, the time when", options)
+    refuse_unknown(frame[END] >= NO_END, frame, "end", limits[1], "--to, the time until which", options)
+    refuse_unknown(frame[START] == FIRST, frame, "start", limits[0], "--from, the time when", options)
     return frame
 
 
@@ -263,20 +240,17 @@ def amounts_of(answer: Answer, options: Namespace) -> List[Column]:
     return [*groups, amount]
 
 
-def wish_of(options: Namespace) -> Wish:
+def limits_of(options: Namespace) -> Limits:
     """Returns the time that counts. Raises Misfit if it isn't a time, or is empty."""
-    for word, point in (("from", options.start), ("to", options.end)):
-        if point is not None and read_point(point) is None:
-            raise Misfit(f"--{word} {short(point)}: not a date or time, such as {POINTS}")
+    start, end = read_limits(options.start, options.end)
     if options.end and options.last_day and len(options.end) != 10:
         raise Misfit(f"--to {options.end}: with --last-day it is the last day that counts, so give it without a time")
-    start, end = (read_point(point) if point else None for point in (options.start, options.end))
     if end and options.last_day:
         end = min(end, LAST - DAY) + DAY
     if start and end and start >= end:
         order = "is after" if options.last_day else "isn't before"
         raise Misfit(f"--from {options.start} {order} --to {options.end}")
-    return Wish(start, end)
+    return start, end
 
 
 def summed(options: Namespace) -> Tuple[Found, Answer, Optional[Answer]]:
@@ -297,10 +271,10 @@ def summed(options: Namespace) -> Tuple[Found, Answer, Optional[Answer]]:
         picks.refuse_names([options.less])
     found = read(options)
     less = found.asked[0] if is_question else picks.picked(found.answers, options.less, found.names).answer
-    others = [one for one in found.answers if one is not less and picks.is_asked(one)]
     if options.pick and picks.find(found.answers, options.pick.partition("=")[0]) is less:
         raise Misfit(f"--less {options.less}: that is the answer whose amounts are summed; give another")
     if not words and all(one is less for one in found.asked):
+        others = [one for one in found.answers if one is not less and picks.is_asked(one)]
         words = [str(one.number) for one in others[-1:]]
     both = last(found, [*words, str(less.number)], 2)
     return found, next(one for one in both if one is not less), less

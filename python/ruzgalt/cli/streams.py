@@ -5,7 +5,7 @@ import os
 import shlex
 import signal
 import sys
-from typing import Callable, Iterable, Iterator, Optional, Sequence
+from typing import Callable, Iterable, Iterator, Optional
 
 from ruzgalt import progress
 from ruzgalt.errors import Misfit
@@ -36,15 +36,8 @@ def quoted(word: str) -> str:
     if all(map(is_seen, word)):
         return shlex.quote(word)
     codes = {"\\": "\\\\", "'": "\\'"}
-    return "$'" + "".join(codes.get(one, one) if is_seen(one) else bytes_of(one) for one in word) + "'"
-
-
-def bytes_of(character: str) -> str:
-    return "".join(f"\\x{byte:02x}" for byte in encode(character))
-
-
-def joined(words: Sequence[str]) -> str:
-    return " ".join(map(quoted, words))
+    shown = (codes.get(one, one) if is_seen(one) else "".join(f"\\x{byte:02x}" for byte in encode(one)) for one in word)
+    return f"$'{''.join(shown)}'"
 
 
 def run(name: str, tool: Callable[[], Optional[int]]) -> int:
@@ -76,7 +69,6 @@ def reason(error: OSError) -> str:
 
 
 def given() -> bytes:
-    """Returns all of standard input."""
     if sys.stdin is None:
         raise Misfit("standard input is closed")
     return sys.stdin.buffer.read()
@@ -94,7 +86,6 @@ def show_lines(lines: Iterable[str]) -> None:
 
 
 def show_text(text: str) -> None:
-    """Prints a text of lines."""
     show_lines(text[:-1].split("\n"))
 
 

@@ -2,9 +2,11 @@
 from array import array
 from collections import Counter
 from functools import lru_cache
-from itertools import chain
-from typing import Counter as Counts, Dict, Iterable, Iterator, List, NamedTuple, Optional, Protocol, Sequence, Set
-from typing import Tuple
+from itertools import chain, repeat
+from operator import and_
+from typing import (
+    Counter as Counts, Dict, Iterable, Iterator, List, NamedTuple, Optional, Protocol, Sequence, Set, Tuple,
+)
 
 from ruzgalt.script.forms import is_far_off, is_month_end, shifted
 from ruzgalt.script.records import visible
@@ -30,7 +32,7 @@ class Notes:
 
     def count(self, name: str, doubts: Dict[str, Doubt], lines: Sequence[int], values: Sequence[str]) -> None:
         """Counts the rows of a piece that have a value with a doubt."""
-        if not doubts.keys().isdisjoint(values):
+        if doubts and not doubts.keys().isdisjoint(values):
             for line, value in zip(lines, values):
                 if value in doubts:
                     self.add(name, doubts[value], line, value)
@@ -70,6 +72,12 @@ class Ends:
     month, as nearly all ends are, and few rows start on such a day.
     """
 
+    # The remedies if ends are days after, and if they are last days.
+    remedies = (
+        "a row no longer holds on that day; --last-day reads it as the last one",
+        "--last-day reads it as the last day of a row; without it, the day before is the last",
+    )
+
     def __init__(self, name: str, key: str, is_last_day: bool) -> None:
         self.name, self.key, self.is_last_day = name, key, is_last_day
         self.lines: List[Sequence[int]] = []
@@ -81,7 +89,7 @@ class Ends:
 
     def add(self, lines: Sequence[int], keys: Sequence[object], *columns: Sequence[str]) -> None:
         starts, ends = columns[:2]
-        others = [moved(end, -1 if self.is_last_day else 1) for end in ends]
+        others = list(map(moved, ends, repeat(-1 if self.is_last_day else 1)))
         written, after = (others, ends) if self.is_last_day else (ends, others)
         # A row of one day doesn't meet itself.
         met = ["" if start == end else end for start, end in zip(starts, written)] if self.is_last_day else written
@@ -94,7 +102,9 @@ class Ends:
     def notes(self) -> Iterator[str]:
         starts = set(self.starts)
         # How many rows another one of their key meets.
-        on_end, on_next = (sum(map(starts.__contains__, ends)) for ends in (self.same, self.days_after(starts)))
+        on_end, on_next = (sum(map(starts.__contains__, ends)) for ends in (self.same, self.next))
+        if not self.is_last_day:
+            on_next -= sum(map(and_, *(map(starts.__contains__, ends) for ends in (self.same, self.next))))
         is_odd = on_end >= on_next if self.is_last_day else on_next >= on_end
         if (on_end or on_next) and is_odd or on_end and on_next:
             yield self.meetings(starts, on_end, on_next, is_odd)
@@ -109,12 +119,12 @@ class Ends:
         return (None if end in starts else after for end, after in zip(self.same, self.next))
 
     def meetings(self, starts: Set[int], on_end: int, on_next: int, is_odd: bool) -> str:
+        found = ((on_next, "the day after it", self.days_after(starts)), (on_end, "it", self.same))
         counts = " and ".join(
-            f"{count} start on {where} ({self.example_of(ends)})" for count, where, ends in (
-                (on_next, "the day after it", self.days_after(starts)), (on_end, "it", self.same),
-            ) if count
+            f"{count} start on {where} ({self.example_of(ends)})" for count, where, ends in found if count
         )
-        remedy = self.remedy() if is_odd else "is it the last day in some rows, and the day after it in others?"
+        question = "is it the last day in some rows, and the day after it in others?"
+        remedy = self.remedies[self.is_last_day] if is_odd else question
         other = f"one of the same {self.key}" if self.key else "another one"
         return f"{self.name}: of rows that follow {other}, {counts}: {remedy}"
 
@@ -122,11 +132,6 @@ class Ends:
         starts = dict(zip(self.starts, chain(*self.lines)))
         line, other = next((line, starts[end]) for line, end in zip(chain(*self.lines), ends) if end in starts)
         return f"line {other} after line {line}"
-
-    def remedy(self) -> str:
-        if self.is_last_day:
-            return "--last-day reads it as the last day of a row; without it, the day before is the last"
-        return "a row no longer holds on that day; --last-day reads it as the last one"
 
     def month_ends(self, meeting: int) -> Iterator[str]:
         """Reports if nearly all ends are days of a month that look otherwise, and few rows meet as they are read."""
@@ -138,7 +143,7 @@ class Ends:
         late = 0 if self.is_last_day else sum(map(self.begins.__getitem__, filter(is_month_end, self.begins)))
         if odd > 4 * (others + late) and odd > 10 * meeting:
             of_all = f"{ends} ends are last days of a month, {starts} are first days"
-            yield f"{self.name} is {days[0]}: {self.remedy()} ({of_all})"
+            yield f"{self.name} is {days[0]}: {self.remedies[self.is_last_day]} ({of_all})"
 
 
 class Changes:
@@ -157,8 +162,7 @@ class Changes:
         for line, key, start, end in zip(lines, keys, *columns[:2]):
             first = self.firsts.setdefault((key, start), line)
             latest, other = self.latest.setdefault(key, (start, line))
-            if first != line:
-                self.same.append((line, first))
+            self.same.extend([(line, first)] * (first != line))
             if start < latest < end and not self.are_deletes:
                 self.earlier.append((line, other))
             elif latest < start:
@@ -175,18 +179,19 @@ class Changes:
 
 
 class Repeats:
-    """Reports rows of equal values that hold at one time, which a key would forbid.
+    """Reports rows that make the same record; without a key, also rows of equal values that hold at one time.
 
     Rows are compared by hashes of their values. If more than half of all rows overlap so, they are such as bookings.
     """
 
-    def __init__(self) -> None:
+    def __init__(self, made: str, has_key: bool) -> None:
+        self.made, self.has_key = made, has_key
         self.pieces: List[Tuple[Sequence[str], Sequence[str], Sequence[int]]] = []
         self.values = array("q")
 
     def add(self, lines: Sequence[int], keys: Sequence[object], *columns: Sequence[str]) -> None:
         self.pieces.append((columns[0], columns[1], lines))
-        self.values.extend(map(hash, zip(*columns[2:])))
+        self.values.extend(map(hash, zip(*columns[2:])) if columns[2:] else [0] * len(lines))
 
     def notes(self) -> Iterator[str]:
         counts = Counter(self.values)
@@ -194,11 +199,15 @@ class Repeats:
             return
         rows = zip(self.values, *map(chain.from_iterable, zip(*self.pieces)))
         found = sorted(row for row in rows if counts[row[0]] > 1)
+        firsts: Dict[Tuple[object, ...], int] = {}
+        twins = [(row[3], firsts[row[:3]]) for row in found if firsts.setdefault(row[:3], row[3]) != row[3]]
+        for line, other in sorted(twins)[:1]:
+            yield of_twins(f"line {line}", f"line {other}", len(twins), self.made)
         pairs = [
             (row[3], other[3]) for row, other in zip(found, found[1:])
             if row[0] == other[0] and other[1] < row[2] and row[1:3] != other[1:3]
         ]
-        if pairs and 2 * len(pairs) <= len(self.values):
+        if pairs and 2 * len(pairs) <= len(self.values) and not self.has_key:
             more = f"; {len(pairs) - 1} more rows do so" if len(pairs) > 1 else ""
             both = f"line {max(pairs[0])} has the values of line {min(pairs[0])}, and both hold at one time"
             yield f"{both}: is one of them too many?{more}"
@@ -237,26 +246,6 @@ class Totals:
                 what = "are the sums" if len(self.sums) > 1 else "is the sum"
                 remedy = "if it is a total, leave the line out, since sums would count it too"
                 yield f"line {line}: {shown} {what} of the {self.rows - 1:,} rows {where}; {remedy}"
-
-
-class Twins:
-    """Reports a row of a file that makes the same record as one before it. Rows are compared by hashes."""
-
-    def __init__(self, made: str = "row") -> None:
-        self.made = made
-        self.lines: List[Sequence[int]] = []
-        self.rows = array("q")
-
-    def add(self, lines: Sequence[int], keys: Sequence[object], *columns: Sequence[str]) -> None:
-        self.lines.append(lines)
-        self.rows.extend(map(hash, zip(*columns)))
-
-    def notes(self) -> Iterator[str]:
-        firsts: Dict[int, int] = {}
-        pairs = ((line, firsts.setdefault(row, line)) for line, row in zip(chain(*self.lines), self.rows))
-        line, other = next((pair for pair in pairs if pair[0] != pair[1]), (0, 0))
-        if line:
-            yield of_twins(f"line {line}", f"line {other}", len(self.rows) - len(set(self.rows)), self.made)
 
 
 def of_twins(one: str, other: str, count: int, made: str = "row") -> str:

@@ -28,30 +28,24 @@ MAY_BE = re.compile(rb""",[ \t]+"|,[ \t]*'""")
 BLANKS = re.compile(rb"""[,"][ \t]|[ \t](?:[,\r\n"]|$)""")
 
 
-class FieldRule(NamedTuple):
-    """A rule for fields, its note, and whether it is also for refused commands."""
-
-    is_one: Callable[[str], Optional["re.Match[str]"]]
-    about: str
-    is_of_refused: bool = True
-
-
+# Rules for fields, each with its note, and whether it is also for refused commands.
 FIELD_RULES = [
-    FieldRule(TAKEN.search, "continues to lines that look like records: is its second quote missing?"),
-    FieldRule(QUOTE_AFTER_BLANK.fullmatch, "has a blank before its quote, so blank and quotes are part of it"),
-    FieldRule(BLANK_AT_END.fullmatch, "has a blank at an end, which is part of it", False),
-    FieldRule(SINGLE.fullmatch, "has single quotes, which are part of it: fields are quoted by double quotes"),
+    (TAKEN.search, "continues to lines that look like records: is its second quote missing?", True),
+    (QUOTE_AFTER_BLANK.fullmatch, "has a blank before its quote, so blank and quotes are part of it", True),
+    (BLANK_AT_END.fullmatch, "has a blank at an end, which is part of it", False),
+    (SINGLE.fullmatch, "has single quotes, which are part of it: fields are quoted by double quotes", True),
 ]
 
 
 def of_fields(command: Command, is_refused: bool) -> Iterator[Tuple[str, str]]:
     """Yields possible mistakes in the fields of a command and of a load's rows, each kind once with a count."""
     records = looked_at(command)
-    for rule in FIELD_RULES if not is_refused else [rule for rule in FIELD_RULES if rule.is_of_refused]:
-        found = [(record, text) for record in records for text in record.fields if rule.is_one(text)]
+    for is_one, about, is_of_refused in FIELD_RULES:
+        looked = records if is_of_refused or not is_refused else ()
+        found = [(record, text) for record in looked for text in record.fields if is_one(text)]
         for record, text in found[:1]:
             more = f" ({len(found) - 1} more such fields)" if len(found) > 1 else ""
-            yield f"{record.where}: {visible(text)} {rule.about}{more}", rule.about
+            yield f"{record.where}: {visible(text)} {about}{more}", about
 
 
 def looked_at(command: Command) -> Sequence[Record]:
@@ -69,31 +63,22 @@ def looked_at(command: Command) -> Sequence[Record]:
 LOADS = 1_000
 
 
-class Ends(rows.Ends):
-    """Whether ends of a script's rows look like last days."""
-
-    def remedy(self) -> str:
-        return "a row no longer holds on that day; one that has it ends on the next"
-
-
 class Loads:
     """The loads of a table: rules about all rows, if they are few. A row's key, or its first column, is its fact."""
 
     def __init__(self, schema: Schema) -> None:
         self.places = list(schema.key) or list(range(len(schema.columns)))[:1]
-        self.ends = Ends("TO", ", ".join(schema.names[place] for place in self.places), False)
+        self.ends = rows.Ends("TO", ", ".join(schema.names[place] for place in self.places), False)
+        self.ends.remedies = ("a row no longer holds on that day; one that has it ends on the next", "")
         self.alike = {place: texts.LookAlikes() for place in self.places if schema.columns[place].kind is Kind.TEXT}
         self.pairs: Dict[str, str] = {}
         self.answers: List[Answer] = []
-        self.count = 0
-
-    @property
-    def are_few(self) -> bool:
-        return self.count <= LOOKED_AT and len(self.answers) < LOADS
+        self.count, self.are_few = 0, True
 
     def add(self, answer: Answer) -> None:
         """Adds the rows of an accepted load, if the table has few enough to check them."""
         self.count += len(answer.command.rows)
+        self.are_few = self.count <= LOOKED_AT and len(self.answers) < LOADS
         if not self.are_few or answer.command.record.is_asked or not self.places:
             return
         self.answers.append(answer)
@@ -183,8 +168,8 @@ class Marks:
         self.with_hours: Set[str] = set()
         # The number of the last accepted load of each table, and of each row of a table.
         self.last: Dict[Tuple[str, ...], int] = {}
-        for one in found:
-            if one.command.word == "load" and not one.refusal and any(other.refusal for other in found):
+        for one in found if any(one.refusal for one in found) else ():
+            if one.command.word == "load" and not one.refusal:
                 name = one.command.record.fields[1]
                 self.last.update(((name, *row.fields), one.number) for row in one.command.rows)
                 self.last[(name,)] = one.number
@@ -340,7 +325,7 @@ def values_of(past: Past, answer: Answer, name: str, columns: Sequence[str]) -> 
 
 def like(left: Values, right: Values) -> str:
     """Two values that look alike."""
-    folded = {tuple(map(texts.fold, values)): values for values in right}
+    folded = {tuple(map(texts.fold, values)): values for values in sorted(right)}
     found = ((values, folded.get(tuple(map(texts.fold, values)))) for values in sorted(left))
     pairs = [(",".join(values), ",".join(other)) for values, other in found if other is not None]
     return f": {texts.described(pairs)}" if pairs else ""

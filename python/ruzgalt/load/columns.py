@@ -11,7 +11,7 @@ from ruzgalt.load.numbers import EMPTY, NUMBERS, Scale
 from ruzgalt.script.forms import (
     INTEGER, NO_END, SPACES, TEXT_LIMIT, in_lines, is_far_off, is_integer, is_short, shifted,
 )
-from ruzgalt.script.records import Printer, visible
+from ruzgalt.script.records import to_record, visible
 from ruzgalt.script.schemas import Kind
 
 # How messages name the end that stands for one that isn't known.
@@ -37,7 +37,7 @@ class Column(Dict[str, Optional[str]]):
         self.name, self.convert = name, convert
         self.faults: Dict[str, str] = {}
         self.doubts: Dict[str, Doubt] = {}
-        self.printer, self.is_varied = Printer(), False
+        self.is_varied = False
 
     def made(self, values: Sequence[str]) -> Sequence[Optional[str]]:
         """The field of each value. New ones are made at once, where all are of a simple form, or else one by one."""
@@ -57,14 +57,13 @@ class Column(Dict[str, Optional[str]]):
 
     def made_at_once(self, values: Sequence[str]) -> Sequence[str]:
         """What values become, if all are of a simple form; nothing else."""
-        made: Sequence[str] = self.convert.at_once(values) if isinstance(self.convert, Scale) else []
-        return made
+        return self.convert.at_once(values) if isinstance(self.convert, Scale) else []
 
     def __missing__(self, value: str) -> Optional[str]:
         made: Optional[str] = None
         try:
             made = self.convert(value)
-            made = self.printer.record([made]) if MARKED.search(made) else made
+            made = to_record([made]) if MARKED.search(made) else made
         except Misfit as error:
             self.faults[value] = str(error)
         self[value] = made
@@ -101,7 +100,8 @@ class End(Column):
             self.met.add(text)
             return NO_END
         if text.lower() in dates.MISSING:
-            raise Misfit(self.remedy(text))
+            remedy = f"not a date; --no-end '{text}' reads" if text else "no end is given; --open reads"
+            raise Misfit(f"{remedy} it as {UNKNOWN}")
         made = dates.point(text, self.form, self.is_given)
         if is_far_off(made):
             why = f"a row ends there; if its end isn't known, --no-end '{text}' makes it {NO_END}"
@@ -110,11 +110,6 @@ class End(Column):
             why = "the row doesn't hold at its end: a day ends at the next one's midnight"
             self.doubts[value] = Doubt("23:59", why)
         return self.the_next_day(made, text) if self.is_last_day else made
-
-    def remedy(self, text: str) -> str:
-        if not text:
-            return f"no end is given; --open reads it as {UNKNOWN}"
-        return f"not a date; --no-end '{text}' reads it as {UNKNOWN}"
 
     def the_next_day(self, last: str, text: str) -> str:
         """The day after a last day, which the file has as this text.

@@ -1,7 +1,8 @@
 """Points in the forms of other programs. A form is named by the last day of 2024 as it is written there."""
 import re
 from datetime import date, datetime, timedelta
-from typing import Dict, List, NamedTuple, Optional, Pattern, Sequence
+from fractions import Fraction
+from typing import Dict, Iterator, Optional, Pattern, Sequence
 
 from ruzgalt.errors import Misfit
 from ruzgalt.script.forms import print_point, read_point
@@ -33,7 +34,14 @@ SWAPPED = {
     "12.31.2024": GERMAN,
 }
 HALF = re.compile(r"[AaPp]\.?[Mm]\.?$")
-FRACTION = re.compile(r"\d:\d\d:\d\d[.,]\d+", re.ASCII)
+# Forms that no point has, each with the remedy.
+REMEDIES = {
+    r"\d:\d\d:\d\d[.,]\d+": "a time is in whole seconds, so leave out the part of a second",
+    r":.*\d(?:Z|[+-]\d\d:?\d\d)$": "times have no zone here: the whole table is in one zone",
+    r"^\d{1,2}[./-]\d{1,2}[./-]\d\d$": "a year has four digits",
+    r"^\d{4}-(?:\d-\d\d?|\d\d-\d)$": "a month and a day have two digits",
+    "24:00": "a day ends at the next one's midnight",
+}
 # A row that starts in this number of years or later is reported.
 YEARS_AHEAD = 10
 # Excel counts days from here on, for all days since March 1900.
@@ -51,18 +59,14 @@ def read_as(form: str, text: str) -> Optional[datetime]:
         if form == EXCEL:
             if int(parts["days"]) < EXCEL_FIRST:
                 return None
-            return EXCEL_BEGINNING + timedelta(days=int(parts["days"]), seconds=seconds_of_part(parts["part"] or "0"))
+            # A part of a day is rounded to a whole second, as Excel shows it.
+            seconds = int(Fraction(f"0.{parts['part'] or 0}") * 86_400 + Fraction(1, 2))
+            return EXCEL_BEGINNING + timedelta(days=int(parts["days"]), seconds=seconds)
         names = ("year", "month", "day", "minute", "second")
         year, month, day, minute, second = (int(parts.get(name) or 0) for name in names)
         return datetime(year, month, day, hour_of(parts), minute, second)
     except (ValueError, OverflowError):
         return None
-
-
-def seconds_of_part(part: str) -> int:
-    """The seconds of a day's part, which is its decimals, rounded to a whole one as Excel shows them."""
-    scale: int = 10 ** len(part)
-    return (2 * 86_400 * int(part) + scale) // (2 * scale)
 
 
 def hour_of(parts: Dict[str, str]) -> int:
@@ -90,15 +94,7 @@ def remedy_for(text: str, form: Optional[str], is_given: bool) -> str:
         return f"; it is like {' or '.join(others)}: write all dates of the file in one form"
     if others:
         return f"; use {' or '.join('--german' if other == GERMAN else word_for(other) for other in others)}"
-    if FRACTION.search(text):
-        return "; a time is in whole seconds, so leave out the part of a second"
-    if re.fullmatch(r".*\d(?:Z|[+-]\d\d:?\d\d)", text) and text.count(":"):
-        return "; times have no zone here: the whole table is in one zone"
-    if re.fullmatch(r"\d{1,2}[./-]\d{1,2}[./-]\d\d", text):
-        return "; a year has four digits"
-    if "24:00" in text:
-        return "; a day ends at the next one's midnight"
-    return ""
+    return next((f"; {why}" for form, why in REMEDIES.items() if re.search(form, text)), "")
 
 
 def word_for(form: str) -> str:
@@ -117,40 +113,21 @@ def is_far_ahead(text: str) -> bool:
     return text[:4] > f"{date.today().year + YEARS_AHEAD:04}"
 
 
-class Swapped(NamedTuple):
-    """Dates that are as good with day and month the other way round."""
-
-    # The other form, of how many months they are by it, and by the one that is given.
-    other: str
-    wanted: int
-    found: int
-    # How many dates there are, and one that is another by the other form, with both readings.
-    dates: int
-    text: str
-    read: str
-    otherwise: str
-
-
-def as_good_swapped(texts: Sequence[str], form: str) -> Optional[Swapped]:
-    """Whether all dates can be read by the form with day and month the other way round, and look as likely so.
+def as_good_swapped(texts: Sequence[str], form: str) -> Iterator[str]:
+    """Notes that all dates can also be read with day and month the other way round, and look as likely so.
 
     A file with first days of months, or a few days of each, has twice the number of months by the right form.
     """
-    other = SWAPPED.get(form)
-    if other is None:
-        return None
-    written = [text for text in texts if read_as(form, text)]
-    pairs = [(read_as(form, text), read_as(other, text)) for text in written]
-    known = [(text, one, swapped) for text, (one, swapped) in zip(written, pairs) if one and swapped]
+    if form not in SWAPPED:
+        return
+    other = SWAPPED[form]
+    written = [(text, read_as(form, text), read_as(other, text)) for text in texts]
+    known = [(text, one, swapped) for text, one, swapped in written if one and swapped]
     differing = [(text, one, swapped) for text, one, swapped in known if one != swapped]
-    if len(known) < len(written) or not differing:
-        return None
-    found, wanted = (len({point.month for point in points}) for points in zip(*(both for _, *both in known)))
-    if found >= 2 * wanted:
-        return None
+    found, wanted = (len({point.month for point in points}) for points in list(zip(*known))[1:] or [(), ()])
+    if not differing or found >= 2 * wanted or any(one and not swapped for _, one, swapped in written):
+        return
     text, one, swapped = differing[0]
-    return Swapped(other, wanted, found, len(known), text, print_point(one), print_point(swapped))
-
-
-def names_of_forms() -> List[str]:
-    return list(FORMS)
+    months = f"in {found} months either way" if wanted == found else f"in {wanted} months, not in {found}"
+    example = f"'{text}', of {len(known)}, is read as {print_point(one)}, and would be {print_point(swapped)}"
+    yield f"--dates {other} reads all dates too, then {months}: which is meant? ({example})"

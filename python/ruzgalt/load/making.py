@@ -7,13 +7,13 @@ from os.path import isfile
 from typing import Dict, Iterator, List, Optional, Sequence, Set, Tuple, cast
 
 from ruzgalt.errors import Misfit
-from ruzgalt.lint.rows import Changes, Ends, Notes, Repeats, Rule, Totals, Twins
+from ruzgalt.lint.rows import Changes, Ends, Notes, Repeats, Rule, Totals
 from ruzgalt.lint.texts import LookAlikes
 from ruzgalt.load.columns import Column, End, Start, Text, form_of, mark_of
 from ruzgalt.load.dates import as_good_swapped, without_half
 from ruzgalt.load.numbers import UNIT, Doubtful, Marks, Scale, readings
 from ruzgalt.load.sheets import Piece, Records, line_with, pieces_of
-from ruzgalt.load.table import name_for, refuse_twins
+from ruzgalt.load.table import refuse_twins
 from ruzgalt.script import records
 from ruzgalt.script.forms import NO_END, SPACES, is_count, is_name, read_point, shifted
 from ruzgalt.script.records import short, to_text, visible
@@ -28,31 +28,27 @@ LAST_DAY_NAME = re.compile(r"last[ _-]?day|letzte[rn]?[ _-]tag|inclusive|inklusi
 
 
 class Equals:
-    """Leaves out rows that equal an earlier one in all of the file's fields, if that is wanted."""
+    """Leaves out rows that equal an earlier one in all of the file's fields."""
 
-    def __init__(self, is_dropping: bool) -> None:
-        self.is_dropping = is_dropping
+    def __init__(self) -> None:
         self.met: Set[Tuple[str, ...]] = set()
         # The lines of the rows that are left out.
         self.lines: List[int] = []
 
-    def without(self, piece: Piece) -> Piece:
-        """The piece without those rows."""
-        return piece.where(self.is_new) if self.is_dropping else piece
-
     def is_new(self, line: int, record: Sequence[str]) -> bool:
         row = tuple(record)
-        self.lines.extend([line] * (row in self.met))
+        if row in self.met:
+            self.lines.append(line)
+            return False
         self.met.add(row)
-        return line not in self.lines[-1:]
+        return True
 
-    def notes(self) -> Iterator[str]:
+    def note(self) -> str:
         equal = "equal to an earlier one in all of the file's fields"
         if len(self.lines) > 1:
-            yield f"--drop-equal: {len(self.lines):,} rows were left out, {equal} (the first at line {self.lines[0]})"
-        elif self.is_dropping:
-            one = f"1 row was left out, {equal} (line {self.lines[0]})" if self.lines else f"no row is {equal}"
-            yield f"--drop-equal: {one}"
+            return f"--drop-equal: {len(self.lines):,} rows were left out, {equal} (the first at line {self.lines[0]})"
+        one = f"1 row was left out, {equal} (line {self.lines[0]})" if self.lines else f"no row is {equal}"
+        return f"--drop-equal: {one}"
 
 
 class Load:
@@ -60,6 +56,9 @@ class Load:
 
     def __init__(self, sheet: Records, options: Namespace, schema: Optional[Schema]) -> None:
         self.sheet, self.options, self.schema = sheet, options, schema
+        # The first word of the record that a row of the file becomes.
+        self.word = "delete" if options.delete else "update" if options.update else "row"
+        self.is_load = self.word == "row"
         self.names = [options.start, options.end, *options.column]
         # If no row has a known end, the file needs no column of ends.
         self.has_ends = options.end != NO_END or NO_END in sheet.header
@@ -72,6 +71,7 @@ class Load:
         self.keys = self.key_places()
         end = End(options.end, options) if self.has_ends else Column(NO_END, str)
         self.columns = [Start(options.start, options), end, *self.value_columns()]
+        self.scales = [one.convert for one in self.columns if isinstance(one.convert, Scale)]
         self.stored = self.names_in_store()
         self.faults: List[str] = []
         self.count_of_faults = self.rows = self.bytes = 0
@@ -79,24 +79,12 @@ class Load:
         self.doubtful: Dict[Doubtful, int] = {}
         self.notes, self.rules = Notes(), list(self.rules_of_rows())
         self.left_out: Optional[str] = None
-        self.equals = Equals(options.drop_equal)
+        self.equals = Equals()
         self.nameless = [place for place, name in enumerate(sheet.header) if not name.strip()]
 
-    @property
-    def is_load(self) -> bool:
-        """Whether the file's rows are loaded, and change no rows that are there."""
-        return not (self.options.update or self.options.delete)
-
-    @property
-    def made_word(self) -> str:
-        """The first word of the record that a row of the file becomes."""
-        return "row" if self.is_load else "delete" if self.options.delete else "update"
-
     def key_places(self) -> List[int]:
-        """Returns the columns that identify a fact: the table's key, or otherwise the first column.
-
-        For updates and deletes they are the columns that select the changed rows.
-        """
+        """Returns the columns that identify a fact: the table's key, or otherwise the first column; for updates and
+        deletes the columns that select rows."""
         if self.options.delete:
             return list(range(len(self.options.column)))
         if self.options.update:
@@ -110,12 +98,10 @@ class Load:
         options = self.options
         key = ", ".join(options.column[place] for place in self.keys) or "table"
         yield Ends(options.end, key, options.last_day)
-        yield Twins(self.made_word)
+        yield Repeats(self.word, not self.is_load or not options.column or bool(self.schema and self.schema.key))
         if not self.is_load:
             yield Changes(key, options.delete)
             return
-        if options.column and not (self.schema and self.schema.key):
-            yield Repeats()
         others = [place for place in range(len(options.column)) if place not in self.keys]
         yield Totals({2 + place: options.column[place] for place in others or self.keys})
 
@@ -131,7 +117,8 @@ class Load:
     def made(self) -> Iterator[bytes]:
         """Returns the records made of the rows, by pieces. After a fault, the rest is read for its faults only."""
         for piece in pieces_of(self.sheet):
-            yield self.made_of(self.equals.without(self.whole(piece)))
+            whole = self.whole(piece)
+            yield self.made_of(whole.where(self.equals.is_new) if self.options.drop_equal else whole)
         self.refuse_doubtful()
         for fault in self.sheet.faults(self.places[2:]):
             self.add_fault(fault)
@@ -151,7 +138,8 @@ class Load:
         keys = self.keys_of(columns[2:]) or [""] * len(piece.lines)
         for rule in self.rules:
             rule.add(piece.lines, keys, *columns)
-        made = records.encode("\n".join([*self.records_of(columns), ""]))
+        rows = zip(repeat("row"), *columns) if self.is_load else map(self.change_of, zip(*columns))
+        made = records.encode("\n".join([*map(",".join, rows), ""]))
         self.bytes += len(made)
         return made
 
@@ -177,28 +165,25 @@ class Load:
         self, lines: Sequence[int], values: List[Sequence[str]], found: List[Sequence[Optional[str]]],
     ) -> None:
         # A column without faults has none in this piece.
-        looked = [made for column, made in zip(self.columns, found) if column.faults]
-        faulty = {row for made in looked for row, one in enumerate(made) if one is None}
+        faulty = {row for column, made in zip(self.columns, found) if column.faults
+                  for row, one in enumerate(made) if one is None}
         for row in sorted(faulty):
             for column, texts, made in zip(self.columns, values, found):
                 if made[row] is None:
-                    what = f"{column.name} is '{visible(texts[row])}': {column.faults[texts[row]]}"
-                    self.add_fault(f"line {lines[row]}: {what}")
+                    text = texts[row]
+                    self.add_fault(f"line {lines[row]}: {column.name} is '{visible(text)}': {column.faults[text]}")
         for column, texts in zip(self.columns, values):
             self.notes.count(column.name, column.doubts, lines, texts)
-        for one in filter(None, [self.marks.either, *(scale.unmarked for scale in self.scales())]):
+        for one in filter(None, [self.marks.either, *(scale.unmarked for scale in self.scales)]):
             if one not in self.doubtful:
                 self.doubtful[one] = lines[values[self.names.index(one.name)].index(one.text)]
         if not faulty:
             # None is at fault, so each is a text.
-            starts, ends = cast(List[Sequence[str]], found[:2])
-            self.refuse_empty_periods(lines, starts, ends)
+            self.refuse_empty_periods(lines, *cast(List[Sequence[str]], found[:2]))
 
     def refuse_empty_periods(self, lines: Sequence[int], starts: Sequence[str], ends: Sequence[str]) -> None:
         # The texts of points are in the order of time.
-        if not any(map(ge, starts, ends)):
-            return
-        for line, start, end in zip(lines, starts, ends):
+        for line, start, end in zip(lines, starts, ends) if any(map(ge, starts, ends)) else ():
             if start >= end:
                 self.add_fault(f"line {line}: {self.options.start}, {start}, {self.empty_period(start, end)}")
 
@@ -217,9 +202,6 @@ class Load:
             return values[self.keys[0]]
         return list(zip(*(values[place] for place in self.keys)))
 
-    def scales(self) -> List[Scale]:
-        return [column.convert for column in self.columns if isinstance(column.convert, Scale)]
-
     def refuse_doubtful(self) -> None:
         """Refuses numbers that could be read in two ways, which only all rows together show."""
         either = self.marks.either
@@ -227,7 +209,7 @@ class Load:
             why = "its mark may separate thousands or decimals, and no other number of the file shows which"
             what = f"{either.name} is '{visible(either.text)}': {why}: {readings(either.bare, '.,')}"
             self.add_fault(f"line {self.doubtful[either]}: {what}")
-        for scale in self.scales():
+        for scale in self.scales:
             if scale.unmarked and scale.mixed():
                 self.add_fault(f"line {self.doubtful[scale.unmarked]}: {scale.mixed()}")
 
@@ -240,7 +222,7 @@ class Load:
         """Returns the names of the table's columns. Without a table they are the file's, if changes need names."""
         if self.schema:
             return self.schema.names
-        names = [name_for(self.options, column) for column in self.options.column]
+        names = [self.options.renamed.get(column, column) for column in self.options.column]
         wrong = [name for name in names if not is_name(name)]
         if wrong and not self.is_load:
             remedy = f"give the table's by NAME={visible(wrong[0])} or --table"
@@ -249,19 +231,17 @@ class Load:
             refuse_twins(self.options, names)
         return names
 
-    def records_of(self, columns: List[Sequence[str]]) -> List[str]:
-        """Returns the records of a load, or a change for each row. Fields that need quotes have them already."""
-        made = zip(repeat(self.made_word), *columns) if self.is_load else map(self.change_of, zip(*columns))
-        return list(map(",".join, made))
-
     def change_of(self, row: Sequence[str]) -> Sequence[str]:
-        """The update or the delete, within the row's period, of the rows that have its values of the key."""
+        """The update or the delete, within the row's period, of the rows that have its values of the key.
+
+        Fields that need quotes have them already.
+        """
         start, end, *values = row
         pairs = list(zip(self.stored, values))
         changed = [text for place, pair in enumerate(pairs) if place not in self.keys for text in pair]
         known = [text for place in self.keys for text in pairs[place]]
         portion, where = [self.options.table, start, end], ["where", *known] if known else []
-        return [self.made_word, *portion, *(["set", *changed] if changed else []), *where]
+        return [self.word, *portion, *(["set", *changed] if changed else []), *where]
 
     def noted(self) -> Iterator[str]:
         """Yields possible mistakes."""
@@ -273,7 +253,9 @@ class Load:
         yield from self.notes_of_scales()
         if self.left_out:
             yield self.left_out
-        yield from [*self.notes_of_points(), *self.notes_of_words(), *self.equals.notes()]
+        yield from [*self.notes_of_points(), *self.notes_of_words()]
+        if self.options.drop_equal:
+            yield self.equals.note()
         yield from self.sheet.notes(self.places[:1 + self.has_ends], self.places[2:])
         if self.rows > MOST_ROWS * 9 // 10 or self.bytes > MOST_BYTES * 9 // 10:
             limits = f"a script can have {MOST_BYTES:,} bytes, a table {MOST_ROWS:,} versions of rows"
@@ -290,24 +272,18 @@ class Load:
     def notes_of_points(self) -> Iterator[str]:
         """Reports dates that could have day and month the other way round, and times if only some have AM or PM."""
         texts = [text.strip(SPACES) for column in self.columns[:2] for text in column]
-        found = as_good_swapped(texts, form_of(self.options) or "")
-        if found:
-            months = f"in {found.wanted} months, not in {found.found}"
-            both = f"in {found.found} months either way" if found.wanted == found.found else months
-            example = f"'{found.text}', of {found.dates}, is read as {found.read}, and would be {found.otherwise}"
-            question = f"--dates {found.other} reads all dates too, then {both}: which is meant? ({example})"
-            yield f"{self.options.start} and {self.options.end}: {question}"
+        both = f"{self.options.start} and {self.options.end}"
+        yield from (f"{both}: {note}" for note in as_good_swapped(texts, form_of(self.options) or ""))
         plain = without_half(texts)
         if plain:
-            halves = f"'{visible(plain)}' has neither AM nor PM, which others have, and is read by 24 hours"
-            yield f"{self.options.start} and {self.options.end}: {halves}"
+            yield f"{both}: '{visible(plain)}' has neither AM nor PM, which others have, and is read by 24 hours"
 
     def notes_of_scales(self) -> Iterator[str]:
         for name in self.options.column:
             unit = UNIT.search(name)
             if unit:
                 yield f"{visible(name)}: its name has {unit[0]}, and its numbers are loaded as they are"
-        for scale in self.scales():
+        for scale in self.scales:
             if scale.currency:
                 others = f"but '{visible(scale.plain)}' has none" if scale.plain else "which are all of it"
                 yield f"{scale.name}: the currency {scale.currency} was left out of its numbers, {others}"

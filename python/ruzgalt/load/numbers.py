@@ -25,13 +25,19 @@ WITH_CURRENCY = re.compile(
     rf"(?P<sign>-?)(?:(?P<before>{CURRENCY})[{SPACES}]?(?P<rest>-?\d.*)|"
     rf"(?P<number>\d.*?)[{SPACES}]?(?P<after>{CURRENCY}))"
 )
+# Forms that no number of the store has, each with the remedy.
+REMEDIES = {
+    r"\([^()]*\d[^()]*\)|[^-]*\d *[-\u2212]|[\u2212\u2013][^-]*\d.*":
+        "a number below zero has a minus before it, such as -5",
+    r"[^eE]*\d[eE][+-]?\d+": "its digits are rounded off: save the column as a number without an exponent",
+    r"\+.*": "leave out the +",
+}
 # A number with something else before or after it.
 WITH_UNIT = re.compile(r"[^\d.,\s]*\s?(-?\d[\d.,'\u2019\s]*?)\s?[^\d.,\s]*\.?")
 
 
 class Figure(str):
-    """The number of a workbook's cell as a text. The mark in it is the one that is given, and shows nothing of others.
-    """
+    """The number of a workbook's cell as a text. Its mark is the one that is given, and shows nothing of others."""
 
 
 class Marks:
@@ -158,17 +164,14 @@ class Scale:
         After a mark of thousands there are three digits, so these may be thousands of another country, whatever the
         other numbers of the file are: a table is often put together from several.
         """
+        why, marks = "", ".,"
         if len(number.decimals.rstrip("0")) > self.digits:
-            return f"more than {self.digits} decimals{self.readings(bare, OTHER[self.marks.mark])}"
-        if len(number.decimals) == 3 and self.digits < 3 and not self.marks.is_given:
+            why, marks = f"more than {self.digits} decimals", OTHER[self.marks.mark]
+        elif len(number.decimals) == 3 and self.digits < 3 and not self.marks.is_given:
             why = f"three digits follow its mark, as after one of thousands, and it can have {self.digits} decimals"
-            return f"{why} at most{self.readings(bare, '.,')}"
-        return ""
-
-    def readings(self, bare: str, marks: str) -> str:
-        """Returns the number's readings by each mark of decimals."""
-        read = readings(bare, marks)
-        return f": {read}" if read and not self.marks.is_given else ""
+            why = f"{why} at most"
+        read = readings(bare, marks) if why and not self.marks.is_given else ""
+        return f"{why}: {read}" if read else why
 
     def example(self) -> str:
         return "1.234,50" if self.marks.mark == "," else "1,234.50"
@@ -180,12 +183,9 @@ class Scale:
                 both = f"its decimal mark is '{other}', and --decimal-mark says '{self.marks.mark}'"
                 return f"; {both}: use one in the file"
             return "; use --german" if other == "," else f"; use --decimal-mark '{other}'"
-        if re.fullmatch(r"\([^()]*\d[^()]*\)|[^-]*\d *[-\u2212]|[\u2212\u2013][^-]*\d.*", bare):
-            return "; a number below zero has a minus before it, such as -5"
-        if re.fullmatch(r"[^eE]*\d[eE][+-]?\d+", bare):
-            return "; its digits are rounded off: save the column as a number without an exponent"
-        if bare.startswith("+"):
-            return "; leave out the +"
+        why = next((why for form, why in REMEDIES.items() if re.fullmatch(form, bare)), "")
+        if why:
+            return f"; {why}"
         found = WITH_UNIT.fullmatch(bare)
         if found and any(number_in(found[1], mark) for mark in ".,"):
             return f"; leave out the text around it, so that the cell has only {found[1].strip()}"

@@ -7,7 +7,7 @@ import io
 import re
 import unicodedata
 from itertools import islice
-from typing import Callable, Dict, Iterable, Iterator, List, NamedTuple, Optional, Protocol, Sequence
+from typing import Callable, Dict, Iterable, Iterator, List, NamedTuple, Optional, Sequence
 
 from ruzgalt.errors import Misfit
 from ruzgalt.script.records import visible
@@ -39,19 +39,22 @@ def is_filled(_: int, record: Sequence[str]) -> bool:
     return any(map(str.strip, record))
 
 
-class Records(Protocol):
+class Records:
     """A file's header, and its other records by pieces."""
 
     header: List[str]
 
     def take(self, count: int) -> Optional[Piece]:
         """Returns at most `count` of the next records, without empty ones; None after the last."""
+        raise NotImplementedError
 
     def faults(self, values: Sequence[int]) -> Iterable[str]:
         """Returns what is wrong with the columns of values at these indices, after all was read."""
+        return ()
 
     def notes(self, points: Sequence[int], values: Sequence[int]) -> Iterable[str]:
         """Returns notes on the columns of points and of values, after all was read."""
+        return ()
 
 
 def pieces_of(sheet: Records) -> Iterator[Piece]:
@@ -94,9 +97,11 @@ def decoded(data: bytes, encoding: Optional[str]) -> str:
         refuse_strange(data)
     try:
         return data.decode(encoding or "utf-8-sig")
-    except UnicodeDecodeError as error:
-        wrong = f"byte {error.start + 1} isn't {encoding or 'UTF-8'}"
-        raise Misfit(wrong + ("" if encoding else f"; use {offered(data, error.start)}")) from None
+    except UnicodeError as error:
+        # Errors of a few encodings don't name the byte.
+        start = getattr(error, "start", 0)
+        wrong = f"byte {start + 1} isn't {encoding or 'UTF-8'}"
+        raise Misfit(wrong + ("" if encoding else f"; use {offered(data, start)}")) from None
 
 
 def offered(data: bytes, index: int) -> str:
@@ -115,7 +120,7 @@ def offered(data: bytes, index: int) -> str:
     return ", or ".join(f"--encoding {one} for '{visible(text)}'" for text, one in readings.items())
 
 
-class Sheet:
+class Sheet(Records):
     """The file's header, and its other records by pieces.
 
     A reader that takes any quotes takes several rows for one, and they are lost: so it does for two stray quotes, each
@@ -140,14 +145,7 @@ class Sheet:
         """The next record that isn't empty; after the last an empty one."""
         return next((record for piece in iter(lambda: self.take(1), None) if piece for record in piece.records), [])
 
-    def faults(self, values: Sequence[int]) -> Iterable[str]:
-        return ()
-
-    def notes(self, points: Sequence[int], values: Sequence[int]) -> Iterable[str]:
-        return ()
-
     def take(self, count: int) -> Optional[Piece]:
-        """Returns at most `count` records, without empty ones; None after the last."""
         records: List[List[str]] = []
         wrong = None
         try:

@@ -5,7 +5,7 @@ from typing import Dict, List, Optional, Sequence, Tuple
 
 from ruzgalt.errors import Misfit
 from ruzgalt.script import answers, commands, records, refusals, run
-from ruzgalt.script.forms import NO_END, is_name, printed, read_point
+from ruzgalt.script.forms import NAME_HAS, NO_END, is_name, printed, read_point
 from ruzgalt.script.records import Source, visible
 from ruzgalt.script.schemas import MOST_COLUMNS, Kind, Schema, is_schema, listed
 from ruzgalt.which import program
@@ -23,7 +23,8 @@ def schema_of(options: Namespace) -> Optional[Schema]:
         raise Misfit(f"--table: there is no `table` record of {options.table} in it")
     if not is_schema(found):
         form = f"table,T,COLUMN,KIND..[,key,COLUMN..], with {MOST_COLUMNS} columns at most, each once"
-        raise Misfit(f"--table: {records.to_record(found)}: not of the form {form}")
+        parts = f"a KIND is int or text, and a name has {NAME_HAS}"
+        raise Misfit(f"--table: {records.to_record(found)}: not of the form {form}; {parts}")
     return Schema.read(found)
 
 
@@ -88,10 +89,13 @@ def fit(options: Namespace, schema: Schema, header: Sequence[str]) -> Tuple[Sche
     if options.renamed and not (options.update or options.delete):
         options.column = in_order(options, schema, header)
     elif not options.column:
-        pairs = [(name, name_in(header, name)) for name in (key_of(schema) if options.delete else schema.names)]
+        if options.delete and schema.columns and not schema.key:
+            raise Misfit(f"--delete: {schema.name} has no key, so give the COLUMNs that select the rows")
+        names = [schema.names[place] for place in schema.key] if options.delete else schema.names
+        pairs = [(name, name_in(header, name)) for name in names]
         left_out = [name for name, found in pairs if options.update and found not in header]
         options.column = [found for name, found in pairs if name not in left_out]
-    names = [name_for(options, name) for name in options.column]
+    names = [options.renamed.get(name, name) for name in options.column]
     fitted = some_of(schema, names) if options.update or options.delete else schema
     if fitted is schema:
         refuse_others(names, schema)
@@ -100,40 +104,30 @@ def fit(options: Namespace, schema: Schema, header: Sequence[str]) -> Tuple[Sche
 
 
 def take_names_of_file(options: Namespace, of_file: Dict[str, str]) -> None:
-    """Replaces the table's names by the file's in all options that have names of columns."""
+    """Replaces the table's names by the file's in all options that have names of columns, which may be either."""
+    def own(name: str) -> str:
+        return name if name in of_file.values() else of_file.get(plain(name), name)
+
     for names in (options.update, options.empty):
-        names[:] = [name_of(name, of_file) for name in names]
-    options.decimals = [(name_of(name, of_file), digits) for name, digits in options.decimals]
+        names[:] = map(own, names)
+    options.decimals = [(own(name), digits) for name, digits in options.decimals]
 
 
 def refuse_twins(options: Namespace, known: Sequence[str]) -> None:
     """Refuses two COLUMNs for one of the table's, as far as its names are known: the values of one would be lost."""
-    names = [plain(name_for(options, column)) for column in options.column]
+    names = [plain(options.renamed.get(column, column)) for column in options.column]
     for place, name in enumerate(names):
         if name in known and name in names[:place]:
             raise Misfit(f"{visible(options.column[place])}: the table's column {name} is given twice")
 
 
-def key_of(schema: Schema) -> List[str]:
-    """Returns the key's columns, which select the deleted rows if no COLUMN is given."""
-    if schema.columns and not schema.key:
-        raise Misfit(f"--delete: {schema.name} has no key, so give the COLUMNs that select the rows")
-    return [schema.names[place] for place in schema.key]
-
-
 def in_order(options: Namespace, schema: Schema, header: Sequence[str]) -> List[str]:
     """The file's columns in the order of the table's: the COLUMNs by their names there, and the others by their own."""
-    of_table = {plain(name_for(options, name)): name for name in options.column}
+    of_table = {plain(options.renamed.get(name, name)): name for name in options.column}
     for name, column in of_table.items():
         if name not in schema.names:
             raise Misfit(f"{visible(column)}: {schema.name} has no column {visible(name)}; {listed(schema.names)}")
     return [of_table[name] if name in of_table else name_in(header, name) for name in schema.names]
-
-
-def name_for(options: Namespace, column: str) -> str:
-    """Returns the table's name for a column of the file if one is given, or otherwise the file's."""
-    name: str = options.renamed.get(column, column)
-    return name
 
 
 def plain(name: str) -> str:
@@ -147,11 +141,6 @@ def name_in(header: Sequence[str], name: str) -> str:
         both = " and ".join(f"'{visible(one)}'" for one in alike)
         raise Misfit(f"{name} is in the header as {both}: give the one that is meant as a COLUMN")
     return name if name in header or not alike else alike[0]
-
-
-def name_of(name: str, of_file: Dict[str, str]) -> str:
-    """The name that the file has for a column, which may be given by the table's."""
-    return name if name in of_file.values() else of_file.get(plain(name), name)
 
 
 def some_of(schema: Schema, columns: Sequence[str]) -> Schema:

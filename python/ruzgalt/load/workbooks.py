@@ -18,7 +18,7 @@ from ruzgalt.errors import Misfit
 from ruzgalt.lint.rows import Doubt, Notes
 from ruzgalt.load.dates import EXCEL_BEGINNING
 from ruzgalt.load.numbers import CURRENCY, Figure
-from ruzgalt.load.sheets import Piece, composed, is_filled
+from ruzgalt.load.sheets import Piece, Records, composed, is_filled
 from ruzgalt.script.forms import print_point
 from ruzgalt.script.records import visible
 
@@ -50,7 +50,7 @@ class Style(NamedTuple):
     is_struck: bool
 
 
-class Workbook:
+class Workbook(Records):
     """The header of a sheet, and its other rows by pieces.
 
     Numbers have the decimal mark that is given, and never three decimals, which could be thousands as well.

@@ -1,8 +1,9 @@
 """The data of the page: its sources, findings, commits, questions and tables."""
 import json
-from collections import Counter, defaultdict
+from bisect import bisect_left
+from collections import Counter
 from itertools import islice
-from typing import Any, DefaultDict, Dict, Iterable, Iterator, List, NamedTuple, Optional, Sequence, Tuple, TypeVar
+from typing import Any, Dict, Iterable, Iterator, List, NamedTuple, Optional, Sequence, Set, Tuple, TypeVar
 
 from ruzgalt import which
 from ruzgalt.errors import Misfit
@@ -12,7 +13,7 @@ from ruzgalt.report import figures, picks, svg
 from ruzgalt.report.shown import Look
 from ruzgalt.script import answers, changes, overlaps, refusals, schemas
 from ruzgalt.script.answers import Answer
-from ruzgalt.script.changes import IDS, Held, compared
+from ruzgalt.script.changes import Held
 from ruzgalt.script.commands import CHANGES, where_places
 from ruzgalt.script.records import short, to_record, visible
 from ruzgalt.script.run import EMPTY, Past, versions_of
@@ -62,43 +63,33 @@ class Sources(NamedTuple):
         return {name: answer.table for name, answer in zip(self.tables, self.past.ask(*map(versions_of, self.tables)))}
 
 
-# How many findings of each kind are listed, and how many changes of nothing are explained by the rows.
+# How many findings of each kind are listed, and how many refusals and changes of nothing are explained by the rows.
 LISTED, LOOKED_AT = 1_000, 100
+Data = Dict[str, Any]
 
 
-class Finding(NamedTuple):
-    """Where it is, the command, the refusal's name (or nothing), the reason, and more lines about it."""
-
-    place: str
-    command: str
-    name: str
-    reason: str
-    more: List[str]
-
-
-def findings_of(sources: Sources) -> Dict[str, List[Finding]]:
+def findings_of(sources: Sources) -> Dict[str, List[Data]]:
     """All findings, each kind by the order of the script."""
-    changes = [answer for answer in sources.answers if is_idle(answer, sources)]
-    idle = [finding(one, "", why_idle(one, sources)) for one in changes[:LOOKED_AT]]
-    idle.extend(finding(one, "", "no row that it matches holds in that time") for one in changes[LOOKED_AT:])
-    # Changes of nothing are findings of their own.
-    marks = [one for one in scripts.of(sources.answers, sources.past) if one.kind != scripts.OF_NOTHING]
-    doubtful = [finding(mark.answer, "", mark.note) for mark in marks]
-    return {"refused": refused_in(sources), "idle": idle, "doubtful": doubtful}
-
-
-def finding(answer: Answer, name: str, reason: str, more: Sequence[str] = ()) -> Finding:
-    return Finding(answer.where, short(answer.command.text), name, reason, list(more))
-
-
-def refused_in(sources: Sources) -> List[Finding]:
-    """Returns the refused commands; for a refused key with its rows."""
-    refused = [answer for answer in sources.answers if answer.refusal]
+    refused = [one for one in sources.answers if one.refusal]
     rows = overlaps.explained(sources.past, refused[:LOOKED_AT])
-    return [
-        finding(one, one.refused.name, refusals.reason(one), rows.get(one.number, []))
-        ._replace(place=one.refused.record.where) for one in refused
-    ]
+    idle = [one for one in sources.answers if is_idle(one, sources)]
+    # Changes of nothing are findings of their own.
+    doubtful = [one for one in scripts.of(sources.answers, sources.past) if one.kind != scripts.OF_NOTHING]
+    return {
+        "refused": [
+            {**finding(one, refusals.reason(one)), "place": one.refused.record.where, "name": one.refused.name,
+             "more": rows.get(one.number, [])} for one in refused
+        ],
+        "idle": [
+            finding(one, why_idle(one, sources) if place < LOOKED_AT else "no row that it matches holds in that time")
+            for place, one in enumerate(idle)
+        ],
+        "doubtful": [finding(one.answer, one.note) for one in doubtful],
+    }
+
+
+def finding(answer: Answer, reason: str) -> Data:
+    return {"place": answer.where, "command": short(answer.command.text), "reason": reason, "name": "", "more": []}
 
 
 def is_idle(answer: Answer, sources: Sources) -> bool:
@@ -127,10 +118,7 @@ def why_idle(answer: Answer, sources: Sources) -> str:
 
 
 def alike(value: str, others: Sequence[str]) -> str:
-    if not value:
-        return ""
-    folded = fold(value)
-    found = next((other for other in others if other and fold(other) == folded), None)
+    found = next((other for other in others if value and other and fold(other) == fold(value)), None)
     return f", but {shown_value(found)}, which looks alike" if found else ""
 
 
@@ -138,65 +126,43 @@ def shown_value(value: str) -> str:
     return visible(to_record([value]))
 
 
-Span = Tuple[str, str]
-
-
 def marks(then: Answer, now: Answer) -> List[str]:
     """Returns a sign for each record of both answers: 1 if the other has fewer such records, otherwise 0.
 
     Records that hold for a time are compared at each time and without ids, so a row that was cut in two has 0.
     """
-    if then.command.form.answered not in IDS:
-        one, other = ([tuple(record) for record in answer.table.texts()] for answer in (then, now))
-        return [surplus(one, other), surplus(other, one)]
-    compared_sides = [compared(answer)[1] for answer in (then, now)]
-    found = list(changes.changes(*compared_sides))
-    return [marked(held, [one[1:] for one in found if one[0] == sign]) for held, sign in zip(compared_sides, "-+")]
+    sides = [held_in(answer) for answer in (then, now)]
+    found = list(changes.changes(*sides))
+    return [signs(held, [one[1:] for one in found if one[0] == sign]) for held, sign in zip(sides, "-+")]
 
 
-def surplus(own: Sequence[Tuple[str, ...]], others: Sequence[Tuple[str, ...]]) -> str:
-    """Marks the records that the others have less often, the last ones of equal records."""
-    left, signs = Counter(others), []
-    for one in own:
-        left[one] -= 1
-        signs.append("1" if left[one] < 0 else "0")
-    return "".join(signs)
+def held_in(answer: Answer) -> List[Held]:
+    """Returns the periods and values of an answer's records. Records without a period hold all the time."""
+    if answer.command.form.answered in changes.IDS:
+        return changes.compared(answer)[1]
+    return [("0", "1", tuple(record)) for record in answer.table.texts()]
 
 
-def marked(held: Sequence[Held], more: Iterable[Sequence[str]]) -> str:
-    """Marks the surplus records at each time, the last ones of equal records."""
-    lacking: DefaultDict[Tuple[str, ...], List[Span]] = defaultdict(list)
-    for start, end, *values in more:
-        lacking[tuple(values)].append((start, end))
-    others: DefaultDict[Tuple[str, ...], List[Held]] = defaultdict(list)
-    for one in held:
-        others[one[2]].append(one)
-    left = {values: Left(spans, others[values]) for values, spans in lacking.items()}
-    signs = ["1" if values in left and left[values].take(start, end) else "0" for start, end, values in reversed(held)]
-    return "".join(reversed(signs))
+def signs(held: Sequence[Held], more: Iterable[Sequence[str]]) -> str:
+    """Returns 1 for each record that is surplus at some time, otherwise 0. The last of equal records are surplus."""
+    surplus = [(start, end, tuple(values)) for start, end, *values in more]
+    points: Dict[Tuple[str, ...], Set[str]] = {values: set() for *_, values in surplus}
+    for start, end, values in [*surplus, *held]:
+        if values in points:
+            points[values].update((start, end))
+    ordered = {values: sorted(some) for values, some in points.items()}
 
+    def pieces(start: str, end: str, values: Tuple[str, ...]) -> List[Tuple[object, str]]:
+        some = ordered.get(values, [])
+        return [(values, point) for point in some[bisect_left(some, start):bisect_left(some, end)]]
 
-class Left:
-    """How many records of some values are still to be marked, at each time between two of their starts and ends."""
-
-    def __init__(self, spans: Sequence[Span], held: Sequence[Held]) -> None:
-        periods = [*spans, *((start, end) for start, end, _ in held)]
-        ends = {point for period in periods for point in period}
-        self.places = {point: place for place, point in enumerate(sorted(ends))}
-        self.counts = [0] * len(self.places)
-        for span in spans:
-            for place in self.range(*span):
-                self.counts[place] += 1
-
-    def range(self, start: str, end: str) -> range:
-        return range(self.places[start], self.places[end])
-
-    def take(self, start: str, end: str) -> bool:
-        """Returns whether a record of this time must be marked, and counts it."""
-        wanted = [place for place in self.range(start, end) if self.counts[place]]
-        for place in wanted:
-            self.counts[place] -= 1
-        return bool(wanted)
+    left = Counter(piece for one in surplus for piece in pieces(*one))
+    found = []
+    for one in reversed(held):
+        taken = [piece for piece in pieces(*one) if left[piece] > 0]
+        left.subtract(taken)
+        found.append("1" if taken else "0")
+    return "".join(reversed(found))
 
 
 # With more records only the table is shown; and the width of a picture in pixels.
@@ -205,24 +171,20 @@ MOST, WIDTH = 400, 640
 OF_PAGE = ("xmlns", "style", "role", "aria-label")
 
 
-class Drawing(NamedTuple):
-    """An element tree, or the reason for having no picture."""
-
-    tree: Optional[List[Any]]
-    why: str = ""
-
-
-def drawing_of(answer: Answer, look: Look, past: Past) -> Drawing:
+def picture_of(answer: Answer, sources: Sources) -> Data:
+    """Returns the picture as an element tree, or the reason for having none."""
     count = len(answer.table.records) if figures.is_drawn(answer) else 0
     if count > MOST:
         why = f"No picture: {count:,} records are more than {MOST}. `{which.ANSWERS} picture` draws some of them."
-        return Drawing(None, why)
+        return {"picture": None, "noPicture": why}
+    look = sources.look
     try:
         wish = figures.Wish(amounts=look.amounts.known_to(answer.table), look=look)
-        tree = svg.tree_of(figures.of(answer, wish, past.versions), WIDTH) if count else None
+        tree = svg.tree_of(figures.of(answer, wish, sources.past.versions), WIDTH) if count else None
     except Misfit:
-        return Drawing(None, "No picture of several facts in one: each has its own under Tables over time.")
-    return Drawing(tree and within(tree, f"p{answer.number}-"))
+        why = "No picture of several facts in one: each has its own under Tables over time."
+        return {"picture": None, "noPicture": why}
+    return {"picture": tree and within(tree, f"p{answer.number}-"), "noPicture": ""}
 
 
 def within(tree: svg.Tree, prefix: str) -> svg.Tree:
@@ -235,13 +197,11 @@ def within(tree: svg.Tree, prefix: str) -> svg.Tree:
 
 # How many records of a table are shown, and the most questions, pictures, commits and parts of a check.
 SHOWN, QUESTIONS, PICTURES, COMMITS, PARTS = 1_000, 1_000, 200, 50_000, 1_000
-NO_ROOM = Drawing(None, f"No picture: the page has {PICTURES} before it.")
+NO_ROOM: Data = {"picture": None, "noPicture": f"No picture: the page has {PICTURES} before it."}
 # The most characters of answers' records in the page, and of versions; a table has all its versions or none.
 ROOM = 14_000_000
 # How many records of all questions are shown at first; if they have more, each question has its share.
 AT_ONCE = 30_000
-
-Data = Dict[str, Any]
 
 
 class Contents(NamedTuple):
@@ -268,7 +228,7 @@ def of(sources: Sources, diary: Optional[str]) -> Contents:
         "files": [file._asdict() for file in sources.files],
         "version": sources.version, "kept": sources.kept._asdict() if sources.kept else None,
         "tool": which.ANSWERS, "isInstalled": which.IS_INSTALLED, "answers": len(sources.answers),
-        **{kind: [one._asdict() for one in some[:LISTED]] for kind, some in found.items()},
+        **{kind: some[:LISTED] for kind, some in found.items()},
         # The page may not have all.
         "counts": {"questions": len(asked), **{kind: len(some) for kind, some in found.items()}},
         "diary": diary, "newest": len(commits), "commits": parts.first(commits, COMMITS, "commits"),
@@ -305,16 +265,15 @@ class Parts:
         for answer in kept:
             has_all = self.add_records(answer, shown)
             is_past = drawn == PICTURES and figures.is_drawn(answer)
-            drawing = NO_ROOM if is_past else drawing_of(answer, self.sources.look, self.sources.past)
-            drawn += drawing.tree is not None
+            picture = NO_ROOM if is_past else picture_of(answer, self.sources)
+            drawn += picture["picture"] is not None
             yield {
                 "number": answer.number, "place": answer.where, "command": short(answer.command.text),
                 "word": answer.command.word, "commit": answer.commit,
                 "columns": columns_of(answer.table, self.sources.look),
                 "count": len(answer.table.records), "hasAll": has_all, "shown": shown,
                 "name": self.sources.names.get(answer.number, ""),
-                "sentence": sentence_of(answer), "parts": parts_of(answer),
-                "picture": drawing.tree, "noPicture": drawing.why,
+                "sentence": sentence_of(answer), "parts": parts_of(answer), **picture,
             }
 
     def has_room(self, records: str) -> bool:
@@ -354,32 +313,27 @@ def days_of(sources: Sources, diary: Optional[str]) -> changes.Days:
     """The days of the diary, as its rows have them at the script's end."""
     if diary is None:
         return []
-    changes.refuse_missing(sources.answers, diary)
+    changes.schema_of(sources.answers, diary)
     return changes.days_in(sources.past.versions(diary))
 
 
-def doubts_of(sources: Sources, diary: Optional[str], days: changes.Days) -> Iterator[Finding]:
+def doubts_of(sources: Sources, diary: Optional[str], days: changes.Days) -> Iterator[Data]:
     """Yields possible mistakes in the script and its diary as a whole."""
-    if not sources.answers:
-        yield Finding("line 1", "", "", EMPTY, [])
     newest = max((answer.commits for answer in sources.answers), default=0)
-    for reason in changes.strange_commits(days, newest):
-        yield Finding(f"--diary {diary}", "", "", reason, [])
+    found = [] if sources.answers else [("line 1", EMPTY)]
+    found.extend((f"--diary {diary}", reason) for reason in changes.strange_commits(days, newest))
+    yield from ({"place": place, "command": "", "reason": why, "name": "", "more": []} for place, why in found)
 
 
 def commits_of(sources: Sources, days: Sequence[Tuple[str, int]]) -> Iterator[List[str]]:
     """Yields for each commit its number, its day, the place and text of its command, and its counts."""
     day_of_commit = changes.entered_on(list(days), range(1, sources.past.newest + 1))
     for answer in sources.answers:
-        command = answer.command
+        command, number = answer.command, answer.commits
         if not answer.refusal and command.word in CHANGES:
-            number = answer.commits
-            count = f"{len(command.rows):,} row{'s' * (len(command.rows) != 1)}"
-            more = f" ({count})" if command.word == "load" else ""
-            yield [
-                str(number), day_of_commit[number] or "", answer.where, short(command.text) + more,
-                *map(str, sources.past.counts[number]),
-            ]
+            rows = f" ({len(command.rows):,} row{'s' * (len(command.rows) != 1)})" if command.word == "load" else ""
+            counts = map(str, sources.past.counts[number])
+            yield [str(number), day_of_commit[number] or "", answer.where, short(command.text) + rows, *counts]
 
 
 def shown_at_once(kept: Sequence[Answer]) -> int:
@@ -397,16 +351,20 @@ def columns_of(table: Table, look: Look) -> List[List[Any]]:
     found: List[List[Any]] = []
     for own, column in zip(table.columns, look.columns(table)):
         how = look.look_of(own)
-        shown = [] if how.digits is None else [{"digits": how.digits}]
-        found.append([column.name, column.kind.value, *shown, *([{"end": own.name}] if how.is_end else [])])
+        digits: List[Data] = [] if how.digits is None else [{"digits": how.digits}]
+        found.append([column.name, column.kind.value, *digits, *([{"end": own.name}] if how.is_end else [])])
     return found
 
 
 def sentence_of(answer: Answer) -> str:
     """What a division or a verdict says, in a sentence."""
-    if answer.command.word == "check":
-        return answers.sentence_of(answer)
-    return sentence_of_division(answer.table) if answer.command.word == "dip" else ""
+    if answer.command.word != "dip":
+        return answers.sentence_of(answer) if answer.command.word == "check" else ""
+    records = list(answer.table.texts())
+    if not records:
+        return "No rows, so no parts."
+    parts, instant = int(records[-1][0]) + 1, records[-1][2]
+    return f"{len(records):,} rows in {parts:,} parts. There can't be fewer: {parts:,} rows hold at {instant}."
 
 
 def parts_of(answer: Answer) -> List[List[str]]:
@@ -414,14 +372,6 @@ def parts_of(answer: Answer) -> List[List[str]]:
     if answer.command.word != "check":
         return []
     return [[str(place), ", ".join(part.fields[1:])] for place, part in enumerate(islice(answer.command.rows, PARTS))]
-
-
-def sentence_of_division(table: Table) -> str:
-    records = list(table.texts())
-    if not records:
-        return "No rows, so no parts."
-    parts, instant = int(records[-1][0]) + 1, records[-1][2]
-    return f"{len(records):,} rows in {parts:,} parts. There can't be fewer: {parts:,} rows hold at {instant}."
 
 
 def pairs_of(kept: Sequence[Answer]) -> Iterator[Tuple[Answer, Answer]]:

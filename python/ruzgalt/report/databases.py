@@ -1,7 +1,6 @@
 """Answers as tables of an SQLite database: all that is done with it is kept, or nothing is."""
 import re
 import sqlite3
-from collections import Counter
 from contextlib import closing, contextmanager
 from pathlib import Path
 from typing import Iterator, List, NamedTuple, Optional, Sequence
@@ -137,39 +136,21 @@ def quoted(name: str) -> str:
     return '"' + name.replace('"', '""') + '"'
 
 
-class Asked(NamedTuple):
-    """What a query is answered: the names of columns, and records; neither where it has no answer."""
-
-    names: List[str]
-    records: List[List[str]]
-
-    def text(self) -> str:
-        return to_text([self.names, *self.records]) if self.names else ""
-
-    def table(self) -> Table:
-        """The same, where each column may have numbers: SQLite gives no kinds."""
-        return Table([Column(name, Kind.INT) for name in self.names], self.records)
-
-    def twins(self) -> List[str]:
-        """Names that several columns have."""
-        return [name for name, count in Counter(self.names).items() if count > 1]
+def shown(answers: Sequence[Table], look: Look) -> str:
+    """Returns the answers to queries as a person reads them; nothing of a query without an answer."""
+    look.refuse_strangers(*answers)
+    return "".join(to_text([table.names, *table.texts()]) for table in map(look.of, answers) if table.columns)
 
 
-def shown(answers: Sequence[Asked], look: Look) -> List[str]:
-    """Returns the answers to queries as a person reads them. A column is known by its name."""
-    if look.is_plain:
-        return [one.text() for one in answers]
-    tables = [one.table() for one in answers]
-    look.refuse_strangers(*tables)
-    return [to_text([table.names, *table.texts()]) if table.columns else "" for table in map(look.of, tables)]
+def ask(database: sqlite3.Connection, query: str, made: Sequence[Pick]) -> Table:
+    """Returns the answer to a query. Each column may have numbers, since SQLite gives no kinds.
 
-
-def ask(database: sqlite3.Connection, query: str, made: Sequence[Pick]) -> Asked:
-    """Returns the answer to a query. If SQLite refuses it, the message names the tables and their columns."""
+    If SQLite refuses it, the message names the tables and their columns.
+    """
     try:
         found = database.execute(with_names(query))
-        names = [name for name, *_ in found.description or ()]
-        return Asked(names, [list(map(printed_field, row)) for row in found])
+        columns = [Column(name, Kind.INT) for name, *_ in found.description or ()]
+        return Table(columns, [list(map(printed_field, row)) for row in found])
     except sqlite3.OperationalError as error:
         tables = "; ".join(f"{pick.name}({', '.join(pick.answer.table.names)})" for pick in made)
         missing = re.fullmatch("no such column: (.*)", str(error), re.DOTALL)

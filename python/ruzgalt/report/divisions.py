@@ -1,11 +1,9 @@
-"""Divisions with their rows' periods and values, a division for each group of rows, and counts of parts.
-"""
+"""Divisions with their rows' periods and values, a division for each group of rows, and counts of parts."""
 from typing import Dict, Iterable, Iterator, List, NamedTuple, Optional, Sequence, Tuple
 
 from ruzgalt.errors import Misfit
 from ruzgalt.script import run
 from ruzgalt.script.answers import Answer
-from ruzgalt.script.records import short
 from ruzgalt.script.run import Past, Version
 from ruzgalt.script.schemas import DIVISION, PERIOD, Column, Kind, Schema, Table, ints, unique
 
@@ -41,7 +39,10 @@ def by_groups(past: Past, answer: Answer, names: Sequence[str]) -> Table:
 def of_groups(past: Past, answer: Answer, names: Sequence[str]) -> Iterator[Tuple[Group, Table]]:
     """Yields each group of equal values in these columns with its division, whose ids are 1, 2, 3 and so on."""
     groups = groups_of(rows_of(past, answer), answer.schema, names)
-    trials = run.tried(past.program, (trial_of(f"g{number}", group) for number, group in enumerate(groups)))
+    trials = run.tried(past.program, ([
+        ["table", f"g{number}"], ["load", f"g{number}"], *(["row", row.start, row.end] for row in group.rows), ["end"],
+        ["dip", f"g{number}"],
+    ] for number, group in enumerate(groups)))
     return ((group, found[-1].table) for group, found in zip(groups, trials))
 
 
@@ -73,7 +74,7 @@ def counts_of(division: Table) -> List[Optional[str]]:
 
 def refuse_others(answer: Answer) -> None:
     if answer.command.word != "dip":
-        raise Misfit(f"{answer.where}: {short(answer.command.text)}: not a division: ask by `dip`")
+        raise Misfit(f"{answer.shown}: not a division: ask by `dip`")
 
 
 def fields_of(row: Version) -> List[str]:
@@ -90,8 +91,3 @@ def groups_of(rows: Iterable[Version], schema: Schema, names: Sequence[str]) -> 
     is_int = [column.kind is Kind.INT for column in columns]
     by_size = sorted(found, key=lambda values: [int(one) if number else one for number, one in zip(is_int, values)])
     return [Group(values, found[values]) for values in by_size]
-
-
-def trial_of(name: str, group: Group) -> List[Sequence[str]]:
-    rows = (["row", row.start, row.end] for row in group.rows)
-    return [["table", name], ["load", name], *rows, ["end"], ["dip", name]]

@@ -6,7 +6,7 @@ import re
 from functools import partial
 from itertools import chain, islice
 from pathlib import Path
-from typing import Any, Callable, Dict, Iterator, List, NamedTuple, Optional, Sequence, Tuple
+from typing import Any, Callable, Dict, Iterator, List, NamedTuple, Sequence, Tuple
 
 from ruzgalt import files
 from ruzgalt.errors import Misfit
@@ -14,7 +14,7 @@ from ruzgalt.report.picks import Pick
 from ruzgalt.script.answers import Answer, Listed
 from ruzgalt.script.changes import IDS
 from ruzgalt.script.forms import NAME_HAS, is_integer, is_name
-from ruzgalt.script.records import BYTE_ORDER_MARK, PIECE, Printer, encode, is_seen, short, to_record, to_text, visible
+from ruzgalt.script.records import BYTE_ORDER_MARK, PIECE, encode, is_seen, short, to_record, to_text, visible
 from ruzgalt.script.schemas import MOST_COLUMNS, PERIOD, Column, Kind, Schema, Table
 
 Pieces = Iterator[bytes]
@@ -34,7 +34,7 @@ def to_csv(table: Table) -> Pieces:
     if isinstance(table.records, Listed) and table.records.has_lines:
         yield from table.records.lines()
     else:
-        yield from in_pieces(table.texts(), Printer().text)
+        yield from in_pieces(table.texts(), to_text)
 
 
 def to_folder(picks: Sequence[Pick], folder: Path, is_replacing: bool, printed: Callable[[Table], Pieces]) -> None:
@@ -102,21 +102,12 @@ MAY_RUN = re.compile(rb"[,\n](?:\"?(?:[=+@\t\r]|\xef\xbc[\x8b\x8d\x9d\xa0])|\"-|
 GUARD = "'"
 
 
-class Run(NamedTuple):
-    """How many fields of a table a spreadsheet would run, and the first of them."""
-
-    fields: int
-    first: str
-
-
-def run_in(table: Table) -> Optional[Run]:
-    """What a spreadsheet would run of a table. Numbers and points never begin so."""
+def run_in(table: Table) -> List[str]:
+    """Returns the fields of a table that a spreadsheet would run. Numbers and points never begin so."""
     places = text_places(table)
     if not places or not may_run(table):
-        return None
-    texts = (record[place] or "" for record in table.records for place in places)
-    found = list(filter(FORMULA.match, texts))
-    return Run(len(found), found[0]) if found else None
+        return []
+    return list(filter(FORMULA.match, (record[place] or "" for record in table.records for place in places)))
 
 
 def may_run(table: Table) -> bool:
@@ -133,7 +124,7 @@ def text_places(table: Table) -> List[int]:
 
 
 def to_spreadsheet(table: Table, is_german: bool) -> Iterator[bytes]:
-    """The table with a header, by pieces; with semicolons where it is for a German spreadsheet."""
+    """The table with a header, by pieces; for a German spreadsheet with semicolons."""
     yield BYTE_ORDER_MARK
     places = text_places(table)
     records = chain([table.names], (guarded(record, places) for record in table.texts()))
@@ -170,7 +161,7 @@ def pieces(answer: Answer, wish: Wish) -> Iterator[bytes]:
     yield encode(f"{to_record(schema.fields)}\nload,{schema.name}\n")
     records = (refuse_long_numbers(answer, record, numbers) for record in answer.table.texts())
     rows = (["row", *record[start:start + 2], *(record[place] for place in places)] for record in records)
-    yield from in_pieces(rows, Printer().text)
+    yield from in_pieces(rows, to_text)
     yield b"end\n"
 
 
@@ -188,15 +179,17 @@ def schema_of(answer: Answer, wish: Wish) -> Tuple[List[int], Schema]:
             raise Misfit(f"--key {short(name)}: not one of the table's columns {', '.join(names)}")
         if wish.key.count(name) > 1:
             raise Misfit(f"--key {name}: given twice")
-    columns = (Column(name, kind_of(answer, place)) for name, place in zip(names, places))
+    # A point is a text there.
+    are_int = (answer.table.columns[place].kind is Kind.INT for place in places)
+    columns = (Column(name, Kind.INT if is_int else Kind.TEXT) for name, is_int in zip(names, are_int))
     return places, Schema(wish.table, tuple(columns), tuple(map(names.index, wish.key)))
 
 
 def refuse_others(answer: Answer) -> None:
     """Refuses an answer whose records have no period, or are of several commits."""
     if answer.command.form.answered not in IDS:
-        which = f"{answer.where}: {short(answer.command.text)}"
-        raise Misfit(f"{which}: its records aren't rows of one commit: ask by `rows`, `at`, `join`, `anti` or `agg`")
+        remedy = "ask by `rows`, `at`, `join`, `anti` or `agg`"
+        raise Misfit(f"{answer.shown}: its records aren't rows of one commit: {remedy}")
 
 
 def own_names(answer: Answer, has_ids: bool) -> List[str]:
@@ -215,11 +208,6 @@ def refuse_names(names: Sequence[str]) -> None:
             raise Misfit(f"{name} would be the name of two columns: --column COLUMN=NAME renames one")
     if len(names) > MOST_COLUMNS:
         raise Misfit(f"{len(names)} columns, but a table has {MOST_COLUMNS} at most: choose some by --column")
-
-
-def kind_of(answer: Answer, place: int) -> Kind:
-    """A column's kind in a table: a point is a text there."""
-    return Kind.INT if answer.table.columns[place].kind is Kind.INT else Kind.TEXT
 
 
 def refuse_long_numbers(answer: Answer, record: List[str], places: Sequence[int]) -> List[str]:

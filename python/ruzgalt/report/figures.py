@@ -13,10 +13,10 @@ from ruzgalt.report.shown import Amounts, Look
 from ruzgalt.script import schemas
 from ruzgalt.script.answers import Answer
 from ruzgalt.script.commands import Answered
-from ruzgalt.script.forms import POINTS, at_second, print_point, printed, read_point, seconds
+from ruzgalt.script.forms import at_second, print_point, printed, read_limits, read_point, seconds
 from ruzgalt.script.records import code_of, short, visible
 from ruzgalt.script.run import Versions
-from ruzgalt.script.schemas import PERIOD, Column, Kind, Table, group_of, ints, listed, unique
+from ruzgalt.script.schemas import PERIOD, Column, Kind, Table, group_of, ints, unique
 
 DAY = 86_400
 # A row that ends in the last year, or starts on the first day that there is, has no end, or no start, that is known.
@@ -119,23 +119,22 @@ def beginning(text: str, width: int) -> str:
     return text[:sum(one <= width for one in widths)]
 
 
-def shortened(text: str, width: int, gap: str) -> str:
-    """Returns the text, or its beginning, the gap and its end, since many names differ only at their ends."""
-    if width_of(text) <= width:
-        return text
-    front = (width - len(gap)) // 2
-    end = text[max(len(text) - width, 0):]
-    while end and width_of(end) > width - len(gap) - front:
-        end = end[1:]
-    return f"{beginning(text, front)}{gap}{end}"
+GAP = "\u2026"
 
 
-def front_of(text: str, width: int, gap: str) -> str:
-    """Returns the text, or its beginning and the gap; nothing of a number, since its beginning is another one."""
+def shortened(text: str, width: int) -> str:
+    """Returns the text, or its beginning, a gap and its end, since many names differ only at their ends."""
     if width_of(text) <= width:
         return text
-    is_cut = width > len(gap) + 2 and not NUMBER.fullmatch(text)
-    return beginning(text, width - len(gap)) + gap if is_cut else ""
+    front = (width - 1) // 2
+    return f"{beginning(text, front)}{GAP}{beginning(text[::-1], width - 1 - front)[::-1]}"
+
+
+def front_of(text: str, width: int) -> str:
+    """Returns the text, or its beginning and a gap; nothing of a number, since its beginning is another one."""
+    if width_of(text) <= width:
+        return text
+    return beginning(text, width - 1) + GAP if width > 3 and not NUMBER.fullmatch(text) else ""
 
 
 @dataclass(frozen=True)
@@ -165,10 +164,6 @@ class Bars:
     def shown(self) -> List[Bar]:
         return [bar for bar in self.bars if self.span.shows(bar.start, bar.end)]
 
-    @property
-    def is_filled(self) -> bool:
-        return bool(self.bars)
-
     def name_of(self, lane: int) -> str:
         """The name that a lane has, or the one above it to which it belongs."""
         return next((name for name in reversed(self.lanes[:lane + 1]) if name), "")
@@ -185,26 +180,23 @@ class Steps:
     title: str
     span: Span
     name: str
-    # The names of groups with their steps: one without a name if there are no groups.
+    # The names of groups with their steps. An aggregate without groups has an empty name.
     groups: List[Tuple[str, List[Step]]]
     amounts: Amounts
     look: Look
-    has_groups: bool
 
     @property
-    def values(self) -> List[int]:
-        return [value for _, steps in self.groups for _, _, value in steps]
-
-    @property
-    def is_filled(self) -> bool:
-        return bool(self.values)
+    def has_groups(self) -> bool:
+        return any(name for name, _ in self.groups)
 
     def printed(self, value: int) -> str:
         return self.amounts.parted(value, self.amounts.of(self.name) or 0)
 
-    def scale(self, levels: Sequence[int]) -> List[str]:
-        """The texts of these levels."""
-        return list(self.amounts.levels(self.name, levels))
+    def scaled(self, levels: Sequence[int]) -> List[str]:
+        """The texts of levels, without decimals if each is whole."""
+        digits = self.amounts.of(self.name) or 0
+        unit = 1 if any(level % 10 ** digits for level in levels) else 10 ** digits
+        return [self.amounts.parted(level // unit, digits if unit == 1 else 0) for level in levels]
 
     def record(self, step: Step) -> str:
         """A step as the answer has it, or as it is shown."""
@@ -241,16 +233,21 @@ class Wish:
 
     def limits(self) -> Tuple[Optional[int], Optional[int]]:
         """The seconds of the first point that is shown, and of the end."""
-        for point in (self.start, self.end):
-            if point is not None and read_point(point) is None:
-                raise Misfit(f"{point}: not a date or time, such as {POINTS}")
+        read_limits(self.start, self.end)
         start, end = (None if point is None else seconds(point) for point in (self.start, self.end))
         if start is not None and end is not None and end <= start:
-            raise Misfit(f"{self.start} isn't before {self.end}")
+            raise Misfit(f"--from {self.start} isn't before --to {self.end}")
         return start, end
 
     def span(self, periods: Iterable[Tuple[int, int]]) -> Span:
         return span_of(periods, *self.limits())
+
+    def bars(
+        self, answer: Answer, shown: str, lanes: List[str], bars: List[Bar], instant: Optional[str] = None,
+    ) -> Bars:
+        """Returns the picture of these bars. `shown` is a part of its title."""
+        span = self.span((bar.start, bar.end) for bar in bars)
+        return Bars(self.title(answer, shown), span, lanes, bars, instant)
 
     def title(self, answer: Answer, shown: str) -> str:
         """Returns the title: script, command, content, selected records, and decimals of numbers."""
@@ -272,12 +269,10 @@ class Wish:
 
     def labelled(self, table: Table, record: Record, names: Sequence[str]) -> str:
         """Returns the record's values in these columns, numbers with their decimals."""
-        missing = [name for name in names if name not in record]
-        if missing:
-            raise Misfit(f"column {missing[0]} doesn't exist; {listed(list(record))}")
-        numbers = [column.name for column in table.columns if column.kind is Kind.INT]
-        texts = (self.amounts.printed(name, record[name]) if name in numbers else record[name] for name in names)
-        return " ".join(map(in_line, texts))
+        columns = [table.columns[table.index_of(name)] for name in names]
+        texts = ((one, record[one.name]) for one in columns)
+        return " ".join(in_line(self.amounts.printed(one.name, text) if one.kind is Kind.INT else text)
+                        for one, text in texts)
 
     def bar(self, columns: Sequence[Column], record: Record, lane: int, label: str) -> Bar:
         start, end = seconds(record["valid_from"]), seconds(record["valid_to"])
@@ -308,15 +303,11 @@ def square(answer: Answer, wish: Wish) -> Bars:
         if lane < end:
             bars.append(replace(wish.bar(answer.table.columns, record, lane, label), lanes=end - lane))
     refuse_overlaps(answer, bars)
-    lanes = [commit_lane(commit, after) for commit, after in zip(commits, [*commits[1:], last + 1])]
+    lanes = [f"commit {one}" if end <= one + 1 else f"commits {one}-{end - 1}"
+             for one, end in zip(commits, [*commits[1:], last + 1])]
     if first > answer.commits:
         lanes = [f"past commit {answer.commits}"]
-    title = wish.title(answer, f"{counted(len(bars), 'version')}, time across and commits down")
-    return Bars(title, wish.span((bar.start, bar.end) for bar in bars), lanes, shaded(bars))
-
-
-def commit_lane(commit: int, after: int) -> str:
-    return f"commit {commit}" if after <= commit + 1 else f"commits {commit}-{after - 1}"
+    return wish.bars(answer, f"{counted(len(bars), 'version')}, time across and commits down", lanes, shaded(bars))
 
 
 def labels_of(answer: Answer, records: List[Record], wish: Wish) -> List[str]:
@@ -327,11 +318,8 @@ def labels_of(answer: Answer, records: List[Record], wish: Wish) -> List[str]:
     values = differing(records, columns)
     ends = [] if values else differing(records, ["valid_from", "valid_to"])
     if ends:
-        return [" ".join(f"{WORDS[name]} {record[name]}" for name in ends) for record in records]
+        return [" ".join(f"{name[len('valid_'):]} {record[name]}" for name in ends) for record in records]
     return [wish.labelled(answer.table, record, values or columns or ["valid_from"]) for record in records]
-
-
-WORDS = {"valid_from": "from", "valid_to": "to"}
 
 
 def differing(records: List[Record], names: Sequence[str]) -> List[str]:
@@ -346,15 +334,16 @@ def shaded(bars: List[Bar]) -> List[Bar]:
 
 def refuse_overlaps(answer: Answer, bars: List[Bar]) -> None:
     """Refuses versions that hold at one time and one commit: they are several facts."""
-    numbers = range(len(bars))
-    leaving = sorted(numbers, key=lambda number: -(bars[number].lane + bars[number].lanes))
+    events = sorted((lane, is_begun, number) for number, bar in enumerate(bars)
+                    for is_begun, lane in ((True, bar.lane), (False, bar.lane + bar.lanes)))
     # The bars of a lane, by start. None overlaps another one.
     inside: List[Tuple[int, int]] = []
-    for number in sorted(numbers, key=lambda number: bars[number].lane):
+    for _, is_begun, number in events:
         bar = bars[number]
-        while bars[leaving[-1]].lane + bars[leaving[-1]].lanes <= bar.lane:
-            inside.remove((bars[leaving[-1]].start, leaving.pop()))
         index = bisect_left(inside, (bar.start, number))
+        if not is_begun:
+            del inside[index]
+            continue
         for _, other in inside[max(index - 1, 0):index + 1]:
             if bars[other].start < bar.end and bar.start < bars[other].end:
                 both = " and ".join(short(bars[one].record) for one in sorted((number, other)))
@@ -376,7 +365,7 @@ def of(answer: Answer, wish: Wish, versions: VersionsOf) -> Picture:
         return division(answer, wish, versions)
     if not is_drawn(answer):
         drawn = "a division, rows, a join, an aggregate or versions"
-        raise Misfit(f"{answer.where}: {short(answer.command.text)}: no picture can be drawn of it, only of {drawn}")
+        raise Misfit(f"{answer.shown}: no picture can be drawn of it, only of {drawn}")
     wish.amounts.refuse_strangers(answer.table)
     if answered is Answered.VERSIONS:
         return square(answer, wish)
@@ -405,7 +394,7 @@ def refuse_unused(answer: Answer, wish: Wish) -> None:
         unused = ["by", "label", "where"]
     for word in unused:
         if getattr(wish, word):
-            raise Misfit(f"{answer.where}: {short(answer.command.text)}: its picture can't be drawn with --{word}")
+            raise Misfit(f"{answer.shown}: its picture can't be drawn with --{word}")
 
 
 def division(answer: Answer, wish: Wish, versions: VersionsOf) -> Bars:
@@ -414,52 +403,46 @@ def division(answer: Answer, wish: Wish, versions: VersionsOf) -> Bars:
     table = Table(unique([*ints("row_id"), *PERIOD, *answer.schema.columns]))
     schemas.wanted_in(table, wish.where)
     wish.amounts.refuse_strangers(table)
-    parts, records, instant = [], [], "-"
+    bars, names, part, instant = [], [wish.label or "row_id"], "-1", "-"
     for part, row_id, instant in answer.table.texts():
         row = rows[row_id]
-        parts.append(int(part))
-        records.append(dict(zip(table.names, [row_id, row.start, row.end, *row.values])))
-    kept = [(part, record) for part, record in zip(parts, records) if wish.wants(record)]
-    labels = [wish.label or "row_id"]
-    bars = [wish.bar(table.columns, record, part, wish.labelled(table, record, labels)) for part, record in kept]
-    lanes = [f"part {part}" for part in range(max(parts, default=-1) + 1)]
-    count = counted(len(records), "row") if len(kept) == len(records) else f"{len(kept):,} of {len(records):,} rows"
-    title = wish.title(answer, f"{count} in {counted(len(lanes), 'part')}, {instant}")
-    return Bars(title, span_for(bars, wish), lanes, bars, instant if read_point(instant) else None)
+        record = dict(zip(table.names, [row_id, row.start, row.end, *row.values]))
+        if wish.wants(record):
+            bars.append(wish.bar(table.columns, record, int(part), wish.labelled(table, record, names)))
+    lanes = [f"part {number}" for number in range(int(part) + 1)]
+    total = len(answer.table.records)
+    count = counted(total, "row") if len(bars) == total else f"{len(bars):,} of {total:,} rows"
+    shown = f"{count} in {counted(len(lanes), 'part')}, {instant}"
+    return wish.bars(answer, shown, lanes, bars, instant if read_point(instant) else None)
 
 
 def by_value(answer: Answer, wish: Wish) -> Bars:
     """A lane for each value of a column; where rows of one value overlap, lanes below each other."""
     table = answer.table
-    columns = [column for column in table.columns if column.kind is not Kind.POINT]
+    columns = [column.name for column in table.columns if column.kind is not Kind.POINT]
     ids = {Answered.PAIRS: 2, Answered.STEPS: 0}.get(answer.command.form.answered, 1)
-    values = [column.name for column in columns[ids:]]
+    values = columns[ids:]
     by = wish.by or next(iter(values), None)
-    if by is not None:
-        table.index_of(by)
-    labels = [wish.label] if wish.label else (
-        [name for name in values if name != by] or [column.name for column in columns[:ids]]
-    )
+    labels = [wish.label] if wish.label else [name for name in values if name != by] or columns[:ids]
     bars: List[Bar] = []
     lanes: List[str] = []
-    for value, records in lanes_of(table, by, wish):
+    for name, records in grouped(table, by, wish):
         below = stacked(
             wish.bar(table.columns, record, 0, label_of(answer, record, labels, wish)) for record in records
         )
         bars.extend(replace(bar, lane=len(lanes) + bar.lane) for bar in below)
-        lanes.extend([in_line(value) or "-", *[""] * max(bar.lane for bar in below)])
-    title = wish.title(answer, counted(len(bars), "record") + (f" by {by}" if by else ""))
-    return Bars(title, span_for(bars, wish), lanes, shaded(bars))
+        lanes.extend([name, *[""] * max(bar.lane for bar in below)])
+    return wish.bars(answer, counted(len(bars), "record") + (f" by {by}" if by else ""), lanes, shaded(bars))
 
 
-def lanes_of(table: Table, by: Optional[str], wish: Wish) -> Iterable[Tuple[str, List[Record]]]:
-    """Yields the records of each value of the column, numbers by size."""
-    by_lane: Dict[str, List[Record]] = defaultdict(list)
-    for record in wish.wanted(table):
-        by_lane[record[by] if by else ""].append(record)
+def grouped(table: Table, by: Optional[str], wish: Wish) -> Iterable[Tuple[str, List[Record]]]:
+    """Yields the shown value of each group with its records, numbers by size; without a column all as one group."""
     is_int = by is not None and table.columns[table.index_of(by)].kind is Kind.INT
-    for value in sorted(by_lane, key=int) if is_int else sorted(by_lane):
-        yield wish.amounts.printed(by or "", value) if is_int else value, by_lane[value]
+    groups: Dict[str, List[Record]] = defaultdict(list)
+    for record in wish.wanted(table):
+        groups[record[by] if by else ""].append(record)
+    for value in sorted(groups, key=int) if is_int else sorted(groups):
+        yield wish.amounts.printed(by or "", value) if is_int else in_line(value) or "-", groups[value]
 
 
 def label_of(answer: Answer, record: Record, names: Sequence[str], wish: Wish) -> str:
@@ -483,21 +466,12 @@ def stacked(bars: Iterable[Bar]) -> List[Bar]:
 
 def steps(answer: Answer, wish: Wish) -> Steps:
     """Returns the steps of an aggregate, for each group if it has groups."""
-    table = answer.table
-    by_value: Dict[str, List[Step]] = defaultdict(list)
-    *group, start, end, name = table.columns
-    for record in wish.wanted(table):
-        by_value[record[group[0].name] if group else ""].append((
-            seconds(record[start.name]), seconds(record[end.name]), int(record[name.name]),
-        ))
-    is_int = bool(group) and group[0].kind is Kind.INT
-    values = sorted(by_value, key=int) if is_int else sorted(by_value)
-    count = counted(sum(map(len, by_value.values())), "period") + (f" by {group[0].name}" if group else "")
-    names = [wish.amounts.printed(group[0].name, value) if is_int else in_line(value) or "-" for value in values]
-    span = wish.span(step[:2] for found in by_value.values() for step in found)
-    groups = list(zip(names if group else [""], map(by_value.__getitem__, values)))
-    return Steps(wish.title(answer, count), span, name.name, groups, wish.amounts, wish.look, bool(group))
-
-
-def span_for(bars: Sequence[Bar], wish: Wish) -> Span:
-    return wish.span((bar.start, bar.end) for bar in bars)
+    *group, start, end, value = answer.table.names
+    by = group[0] if group else None
+    groups = [
+        (name if by else "", [(seconds(one[start]), seconds(one[end]), int(one[value])) for one in records])
+        for name, records in grouped(answer.table, by, wish)
+    ]
+    count = counted(sum(len(found) for _, found in groups), "period") + (f" by {by}" if by else "")
+    span = wish.span(step[:2] for _, found in groups for step in found)
+    return Steps(wish.title(answer, count), span, value, groups, wish.amounts, wish.look)

@@ -87,21 +87,14 @@ function shownField(column, field) {
 
 // --- Orders ---
 
-function byNumber(one, other) {
-  if (one === other || one === "" || other === "") {
-    return one === other ? 0 : one === "" ? -1 : 1;
-  }
-  // Long sums are past the numbers that are exact.
-  return Number(one) - Number(other) || (BigInt(one) < BigInt(other) ? -1 : 1);
-}
-
 // The texts of points are in the order of time.
-function byPoint(one, other) {
-  return one < other ? -1 : one > other ? 1 : 0;
+function ordered(one, other) {
+  return (one > other) - (one < other);
 }
 
-function orderOf(kind) {
-  return { int: byNumber, point: byPoint }[kind] || collator.compare;
+// Long sums are past the numbers that are exact. An empty field comes before all numbers.
+function byNumber(...fields) {
+  return ordered(...fields.map((field) => (field === "" ? -Infinity : BigInt(field))));
 }
 
 // --- A table ---
@@ -171,7 +164,7 @@ class Grid {
       && (!words || record.some((field, place) => shownField(this.columns[place], field).toLowerCase().includes(words)));
     const found = this.records.filter(isWanted);
     if (sorted !== null) {
-      const compare = orderOf(this.columns[sorted][1]), sign = this.isFalling ? -1 : 1;
+      const compare = { int: byNumber, point: ordered }[this.columns[sorted][1]] ?? collator.compare, sign = this.isFalling ? -1 : 1;
       found.sort((one, other) => sign * compare(one[sorted], other[sorted]));
     }
     return found;

@@ -42,12 +42,11 @@ def picked(answers: Sequence[Answer], word: str, names: Dict[int, str]) -> Pick:
     which, mark, name = word.partition("=")
     answer = find(answers, which)
     if answer.refusal:
-        raise Misfit(f"{which}: {answer.where}: {short(answer.command.text)} was refused: {answer.refusal.name}")
+        raise Misfit(f"{which}: {answer.shown} was refused: {answer.refusal.name}")
     if mark and not name:
         raise Misfit(f"{word}: no name after the =")
     if name and answer.number in names:
-        has_one = f"has the name {visible(names[answer.number])} already"
-        raise Misfit(f"{word}: {answer.where}: {short(answer.command.text)} {has_one}")
+        raise Misfit(f"{word}: {answer.shown} has the name {visible(names[answer.number])} already")
     return Pick(name or names.get(answer.number, name_of(answer)), answer)
 
 
@@ -70,7 +69,7 @@ def refuse_same(picks: Sequence[Pick]) -> None:
     seen: Set[int] = set()
     for one in picks:
         if one.answer.number in seen:
-            raise Misfit(f"{one.answer.where}: {short(one.answer.command.text)}: picked twice")
+            raise Misfit(f"{one.answer.shown}: picked twice")
         seen.add(one.answer.number)
 
 
@@ -81,7 +80,9 @@ def refuse_twins(picks: Sequence[Pick]) -> None:
         twin = before.setdefault(one.name.casefold(), one)
         if twin is not one:
             both = [f"{pick.answer.where}, {short(pick.answer.command.text)}, as {pick.name}" for pick in (twin, one)]
-            remedy = f"give each its own, such as {one.answer.number}={one.name}_{one.answer.number}"
+            command, name = one.answer.command, f"{one.name}_{one.answer.number}"
+            other = f"--ask {name}={command.text}" if command.record.is_asked else f"{one.answer.number}={name}"
+            remedy = f"give each its own, such as {other}"
             raise Misfit(f"two answers have the same name, apart from capitals: {' and '.join(both)}; {remedy}")
 
 

@@ -4,7 +4,7 @@ from typing import Iterable, Iterator, List, NamedTuple, Optional, Sequence, Tup
 
 from ruzgalt.errors import Misfit
 from ruzgalt.script import naming
-from ruzgalt.script.forms import INTEGER, at_second, is_printed, print_point, seconds
+from ruzgalt.script.forms import INTEGER, NO_END, is_printed, shifted
 from ruzgalt.script.records import Row, Rows, visible
 from ruzgalt.script.schemas import PERIOD, Column, Kind, Table
 
@@ -27,8 +27,8 @@ class Amounts:
     def refuse_strangers(self, *tables: Table) -> None:
         """A name that no column of numbers has would be taken for used, and so would a second number for one."""
         names = [name for name, _ in self.digits]
-        columns = (column for table in tables for column in table.columns if column.kind is Kind.INT)
-        known = list(dict.fromkeys(column.name for column in columns))
+        columns = (column for table in tables for column in table.columns)
+        known = list(dict.fromkeys(column.name for column in columns if column.kind is Kind.INT))
         for name, _ in self.digits:
             if not any(Amounts([(name, 0)]).of(one) == 0 for one in known):
                 there = f"those are {', '.join(known)}" if known else "there are none"
@@ -57,18 +57,8 @@ class Amounts:
         digits = self.of(name)
         return text if digits is None or not text.lstrip("-").isdigit() else self.parted(int(text), digits)
 
-    def levels(self, name: str, numbers: Sequence[int]) -> Sequence[str]:
-        """Numbers of a scale, without decimals where each is whole."""
-        digits = self.of(name) or 0
-        unit = 10 ** digits
-        if all(number % unit == 0 for number in numbers):
-            return [self.parted(number // unit, 0) for number in numbers]
-        return [self.parted(number, digits) for number in numbers]
-
 
 END, LAST_DAY = PERIOD[1].name, "last_day"
-END_OF_TIME = "9999-12-31"
-DAY = 86_400
 
 
 class Look(NamedTuple):
@@ -85,14 +75,14 @@ class Look(NamedTuple):
     def refuse_strangers(self, *tables: Table) -> None:
         """Refuses what none of the tables has a use for, and ends that have no last day."""
         self.amounts.refuse_strangers(*tables)
-        having = [table for table in tables if END in table.names] if self.has_last_days else []
+        having = [table for table in tables if END in table.names and self.has_last_days]
         if self.has_last_days and not having:
             raise Misfit(f"--last-day: the answer has no column {END}")
+        # All ends are checked before anything is printed.
         for table in having:
             place = table.index_of(END)
-            # All ends are checked before anything is printed.
             for end in dict.fromkeys(record[place] for record in table.records):
-                last_day(end or END_OF_TIME)
+                last_day(end or NO_END)
 
     def of(self, table: Table) -> Table:
         """The table by this look."""
@@ -148,4 +138,4 @@ def last_day(end: str) -> str:
         return end
     if not is_printed(end) or len(end) != 10:
         raise Misfit(f"--last-day: {visible(end)} has a time of day, so it has no last day")
-    return print_point(at_second(seconds(end) - DAY))
+    return shifted(end, -1)

@@ -98,10 +98,11 @@ class Square {
     return hasRoom ? [box, drawn("text", { x: x + 4, y: (top + end) / 2 + 4 }, label)] : [box];
   }
 
-  // Two lines that cross at a point of time and a commit.
+  // Lines at a commit and, if it is within the picture, at a point of time.
   mark(point, commit) {
-    const x = this.across(point), y = Math.max(this.down(commit) + LANE - 4, TOP - 4);
-    this.cross.setAttribute("d", `M${x} ${TOP - 8}V${this.bottom + 4}M${LEFT} ${y}H${WIDTH - RIGHT}`);
+    const x = this.across(point), y = Math.max(this.down(commit) + LANE - 4, TOP - 4), second = secondsOf(point);
+    const upright = this.low <= second && second <= this.high ? `M${x} ${TOP - 8}V${this.bottom + 4}` : "";
+    this.cross.setAttribute("d", `${upright}M${LEFT} ${y}H${WIDTH - RIGHT}`);
     this.crossText.textContent = `${point}, commit ${commit}`;
     this.crossText.setAttribute("x", Math.min(x, WIDTH - RIGHT - this.crossText.textContent.length * LETTER));
   }

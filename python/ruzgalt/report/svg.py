@@ -4,6 +4,7 @@ from collections import Counter
 from dataclasses import dataclass, replace
 from html import escape
 from itertools import groupby
+from operator import itemgetter
 from typing import Any, Dict, Iterable, Iterator, List, NamedTuple, Optional, Sequence, Tuple
 
 from ruzgalt.report.figures import (
@@ -44,9 +45,7 @@ class Frame:
 
 def across_for(width: Optional[int], margin: int, wanted: int) -> int:
     """How wide the frame is: as it is given, or as wanted, within bounds."""
-    if width:
-        return max(width - margin - EDGE, 100)
-    return min(max(wanted, NARROW), WIDE - margin - EDGE)
+    return max(width - margin - EDGE, 100) if width else min(max(wanted, NARROW), WIDE - margin - EDGE)
 
 
 def margin_for(names: Iterable[str]) -> int:
@@ -82,11 +81,6 @@ def axis(frame: Frame) -> Iterator[Tree]:
             for top in (frame.bottom + 18, frame.top - 26):
                 yield text(place, top, label, "start" if is_long else "middle", GREY)
     yield line(frame.left, frame.bottom, frame.right, frame.bottom, GREY)
-
-
-def side_of(place: float, frame: Frame) -> str:
-    """Returns the side of a point's text that keeps it inside."""
-    return "start" if place < frame.left + frame.across // 2 else "end"
 
 
 def line(left: float, top: float, right: float, bottom: float, colour: str, width: int = 1) -> Tree:
@@ -141,11 +135,6 @@ COLOURS = ["#9ecae1", "#fdd0a2", "#c7e9c0", "#dadaeb", "#fee391", "#d9d9d9", "#f
 # The angles of stripes, by which bars of one colour differ, also on paper without colours.
 TURNS = [45, -45]
 MOST = len(COLOURS) * (1 + len(TURNS))
-NOTE = f"No colours: more than {MOST} labels differ."
-
-
-def count_of(bars: Sequence[Bar]) -> int:
-    return 1 + max((bar.shade for bar in bars), default=0)
 
 
 def fill_of(shade: int, count: int) -> str:
@@ -172,13 +161,12 @@ ROOM = 6
 LISTED = 40
 
 
-class Unplaced(NamedTuple):
-    """A label that has no room: its lane, its words, and the period."""
+# A label that has no room: its lane, its words with the period, for a note.
+Unplaced = Tuple[str, str]
 
-    lane: str
-    words: str
-    start: int
-    end: int
+
+def unplaced(lane: str, words: str, start: int, end: int) -> Unplaced:
+    return lane, f"{words} {print_point(at_second(start))} to {print_point(at_second(end))}"
 
 
 class Box(NamedTuple):
@@ -230,17 +218,15 @@ def place_of(box: Box, before: float, until: int) -> Tuple[str, float, float]:
         return label, box.right + ROOM // 2, box.right + ROOM // 2 + width
     if width <= box.left - before - ROOM:
         return label, box.left - ROOM // 2 - width, box.right
-    return front_of(label, letters_in(box.right - box.left - ROOM), "\u2026"), box.left + ROOM // 2 + 1, box.right
+    return front_of(label, letters_in(box.right - box.left - ROOM)), box.left + ROOM // 2 + 1, box.right
 
 
-def listed(given: Iterable[Unplaced], width: int, room: int) -> Iterator[str]:
+def listed(labels: Sequence[Unplaced], width: int, room: int) -> Iterator[str]:
     """Yields the labels that don't fit, lane by lane, in a limited number of lines."""
-    labels = list(given)
-    left = min(room, LISTED) - 2
-    noted = 0
-    for name, of_lane in groupby(labels, key=lambda label: label.lane):
-        within = list(of_lane)
-        note = (f"{name}: " if name else "") + "; ".join(f"{one.words} {points(one)}" for one in within)
+    left, noted = min(room, LISTED) - 2, 0
+    for name, of_lane in groupby(labels, key=itemgetter(0)):
+        within = [words for _, words in of_lane]
+        note = (f"{name}: " if name else "") + "; ".join(within)
         note = note if noted else f"Labels that don't fit: {note}"
         left -= len(wrapped(note, width))
         if left < 0:
@@ -251,40 +237,25 @@ def listed(given: Iterable[Unplaced], width: int, room: int) -> Iterator[str]:
         yield note
 
 
-def points(label: Unplaced) -> str:
-    return " to ".join(print_point(at_second(second)) for second in (label.start, label.end))
-
-
 class Scale:
-    """The value at the foot, the levels above it, the greatest value, and the base of the steps."""
+    """Round levels at equal distances, from the foot on and at most `most` above it; the base of steps, and the top.
 
-    def __init__(self, values: Sequence[int], most: int) -> None:
-        self.foot, self.levels = levels_of(values, most)
-        # Steps begin at zero, if that is on the scale, and else at its foot.
-        self.base = 0 if 0 in self.levels else self.foot
-        self.top = max([*values, self.levels[-1]])
-
-
-def begun_at(picture: Steps, scale: Scale) -> str:
-    """The title, which says where heights aren't in proportion to values."""
-    return f"{picture.title}; the scale begins at {picture.printed(scale.base)}" if scale.base else picture.title
-
-
-def levels_of(values: Sequence[int], most: int) -> Tuple[int, List[int]]:
-    """Returns the value at the foot, and at most `most` round values above it at equal distances, rising.
-
-    Zero is the foot, or where a value is below it among those above. It isn't where all are so near each other that
+    Zero is the foot, or if a value is below it, another level. It isn't if all values are so near each other that
     their steps would be lost; the foot is then no more than the least value.
     """
-    low, high = min(values, default=0), max(values, default=1)
-    if low == high or (high - low) * most >= max(high, -low):
-        low, high = min(low, 0), max(high, 0)
-    foot = low
-    distance = 1
-    while (high - foot) // distance >= most:
-        distance = distance * 5 // 2 if str(distance)[0] == "2" else distance * 2
-    foot = foot // distance * distance
-    return foot, list(range(foot + distance, high + 1, distance)) or [foot + distance]
+
+    def __init__(self, values: Sequence[int], most: int) -> None:
+        low, high = min(values, default=0), max(values, default=1)
+        if low == high or (high - low) * most >= max(high, -low):
+            low, high = min(low, 0), max(high, 0)
+        distance = 1
+        while (high - low) // distance >= most:
+            distance = distance * 5 // 2 if str(distance)[0] == "2" else distance * 2
+        foot = low // distance * distance
+        self.levels: List[int] = [foot, *range(foot + distance, high + 1, distance)]
+        self.levels += [foot + distance] * (len(self.levels) == 1)
+        self.base = 0 if 0 in self.levels else foot
+        self.top = max([*values, self.levels[-1]])
 
 
 FILL, EDGED = "#9ecae1", "#08519c"
@@ -296,54 +267,53 @@ LEVELS, LEVELS_OF_GROUP, FOR_STEP = 12, 4, 6
 def draw_steps(picture: Steps, width: Optional[int], height: int) -> Tree:
     """The steps; of several groups below each other, each with its name above."""
     depth, above, most = (OF_GROUP, NAME, LEVELS_OF_GROUP) if picture.has_groups else (DEPTH, 0, LEVELS)
-    scale = Scale(picture.values, most)
-    margin = margin_for(picture.scale([scale.foot, *scale.levels]))
+    scale = Scale([value for _, steps in picture.groups for *_, value in steps], most)
+    margin = margin_for(picture.scaled(scale.levels))
     across = across_for(width, margin, max(len(steps) for _, steps in picture.groups) * FOR_STEP)
-    title, whole = begun_at(picture, scale), margin + across + EDGE
+    # Heights aren't in proportion to values if the scale doesn't begin at zero.
+    begun = f"; the scale begins at {picture.printed(scale.base)}" if scale.base else ""
+    title, whole = picture.title + begun, margin + across + EDGE
     top, each = top_of(title, whole), depth + above
     groups = picture.groups[:max((height - top - BELOW - KEPT * LINE) // each, 1)]
     frame = Frame(picture.span, margin, across, top, top + each * len(groups))
-    parts, notes = [*axis(frame)], []
-    for (name, steps), begun in zip(groups, range(top, frame.bottom, each)):
+    parts, notes, without = [*axis(frame)], [], []
+    for (name, steps), high in zip(groups, range(top, frame.bottom, each)):
         if picture.has_groups:
-            parts.append(text(EDGE, begun + NAME - 12, shortened(name, letters_in(whole - 2 * EDGE), "\u2026")))
-        parts.extend(band(picture, steps, scale, Frame(picture.span, margin, across, begun + above, begun + each)))
+            parts.append(text(EDGE, high + NAME - 12, shortened(name, letters_in(whole - 2 * EDGE))))
+        own = Frame(picture.span, margin, across, high + above, high + each)
+        shown = [step for step in steps if frame.span.shows(*step[:2])]
+        parts.extend(band(picture, shown, scale, own))
+        for start, end, value in shown:
+            words, left, right = picture.printed(value), frame.place(start), frame.place(end)
+            if width_of(words) * LETTER + 4 <= right - left:
+                # Below the line if it hangs, and otherwise above it.
+                below = 13 if value < scale.base else -4
+                parts.append(text((left + right) / 2, height_of(value, scale, own) + below, words, "middle"))
+            else:
+                without.append(unplaced(name, words, start, end))
     if len(groups) < len(picture.groups):
         rest = f"{len(groups):,} of {len(picture.groups):,} groups"
         notes.append(f"These are the first {rest}: --height PIXELS has room for more, --where shows one.")
-    without = (one for name, steps in groups for one in unplaced_values(name, steps, picture, frame))
     room = (height - frame.bottom - BELOW) // LINE - len(notes)
     return document(whole, frame.bottom + BELOW, title, parts, [*notes, *listed(without, whole, room)])
 
 
-def unplaced_values(name: str, steps: Sequence[Step], picture: Steps, frame: Frame) -> Iterator[Unplaced]:
-    """The values of steps that are too short for them."""
-    for start, end, value in steps:
-        if frame.span.shows(start, end) and not has_room(picture.printed(value), start, end, frame):
-            yield Unplaced(name, picture.printed(value), start, end)
-
-
-def has_room(words: str, start: int, end: int, frame: Frame) -> bool:
-    return width_of(words) * LETTER + 4 <= frame.place(end) - frame.place(start)
-
-
 def band(picture: Steps, steps: Sequence[Step], scale: Scale, frame: Frame) -> Iterator[Tree]:
-    """Yields the levels and the steps in the frame. No area covers a value's text."""
-    for level, name in zip([scale.foot, *scale.levels], picture.scale([scale.foot, *scale.levels])):
+    """Yields the levels and the steps in the frame."""
+    for level, name in zip(scale.levels, picture.scaled(scale.levels)):
         top = height_of(level, scale, frame)
         yield line(frame.left, top, frame.right, top, "#ddd")
         yield text(frame.left - 6, top + 4, name, "end")
-    shown = [step for step in steps if frame.span.shows(*step[:2])]
-    for step in shown:
+    for step in steps:
         yield from area(step, picture, scale, frame)
     ground = height_of(scale.base, scale, frame)
     yield line(frame.left, ground, frame.right, ground, "#555")
-    yield from values_of(shown, picture, scale, frame)
 
 
 def height_of(value: int, scale: Scale, frame: Frame) -> float:
     """Returns the pixel of a value, down from the top of the scale."""
-    return round(frame.bottom - (value - scale.foot) * (frame.bottom - frame.top) / (scale.top - scale.foot), 1)
+    foot = scale.levels[0]
+    return round(frame.bottom - (value - foot) * (frame.bottom - frame.top) / (scale.top - foot), 1)
 
 
 def area(step: Step, picture: Steps, scale: Scale, frame: Frame) -> Iterator[Tree]:
@@ -360,15 +330,6 @@ def area(step: Step, picture: Steps, scale: Scale, frame: Frame) -> Iterator[Tre
         yield shape([(left + TIP, top - TIP), (left, top), (left + TIP, top + TIP)], EDGED, title)
 
 
-def values_of(steps: Sequence[Step], picture: Steps, scale: Scale, frame: Frame) -> Iterator[Tree]:
-    """The values of steps that are long enough for them: above the line, or below it where it hangs."""
-    for start, end, value in steps:
-        left, right, words = frame.place(start), frame.place(end), picture.printed(value)
-        if has_room(words, start, end, frame):
-            hangs = value < scale.base
-            yield text((left + right) / 2, height_of(value, scale, frame) + (13 if hangs else -4), words, "middle")
-
-
 # Pixels of a lane's height, and of a bar at least.
 HEIGHT, FOR_BAR = 20, 26
 POINTED = "A bar with a point goes on: without a known end, or start, or past what is shown."
@@ -381,39 +342,33 @@ def draw(picture: Picture, width: Optional[int] = None, height: Optional[int] = 
 
 def tree_of(picture: Picture, width: Optional[int] = None, height: int = TALL) -> Tree:
     """The picture, as wide and at most as tall as is given, or else as it needs within 1,600 and 4,000 pixels."""
-    if not picture.is_filled:
-        top = top_of(picture.title, width or NARROW)
-        return document(width or NARROW, top, picture.title, [text(EDGE, top - ABOVE + 44, NOTHING)])
-    draw_one: Any = draw_bars if isinstance(picture, Bars) else draw_steps
-    made: Tree = draw_one(picture, width, height)
-    return made
+    if isinstance(picture, Bars) and picture.bars:
+        return draw_bars(picture, width, height)
+    if isinstance(picture, Steps) and picture.groups:
+        return draw_steps(picture, width, height)
+    top = top_of(picture.title, width or NARROW)
+    return document(width or NARROW, top, picture.title, [text(EDGE, top - ABOVE + 44, NOTHING)])
 
 
 def draw_bars(picture: Bars, width: Optional[int], height: int) -> Tree:
     """The lanes below each other, in a drawing as wide as the fullest lane needs."""
     margin = margin_for(picture.lanes)
-    across = across_for(width, margin, max(wanted(picture).values(), default=0))
-    whole = margin + across + EDGE
+    whole = margin + across_for(width, margin, max(wanted(picture).values(), default=0)) + EDGE
     top = top_of(picture.title, whole)
-    count = max((height - top - BELOW - KEPT * LINE) // HEIGHT, 1)
-    lanes = picture.lanes[:count]
-    frame = Frame(picture.span, margin, across, top, top + len(lanes) * HEIGHT)
-    boxes = [box_of(bar, frame) for bar in in_lanes(picture.shown, len(lanes))]
+    lanes = picture.lanes[:max((height - top - BELOW - KEPT * LINE) // HEIGHT, 1)]
+    frame = Frame(picture.span, margin, whole - margin - EDGE, top, top + len(lanes) * HEIGHT)
+    boxes = [box_of(replace(bar, lanes=min(bar.lanes, len(lanes) - bar.lane)), frame)
+             for bar in picture.shown if bar.lane < len(lanes)]
     labels, without = put(boxes, frame)
-    many = count_of(picture.bars)
+    many = 1 + max((bar.shade for bar in picture.bars), default=0)
     parts = [*stripes(many), *axis(frame), *lanes_of(lanes, frame), *(drawn(one, frame, many) for one in boxes)]
     # No line runs over a label.
     parts.extend([*instant_of(picture, frame), *labels])
-    notes = [*notes_of(picture, frame, many), *cut(picture, lanes)]
+    notes = list(notes_of(picture, frame, many, lanes))
     room = (height - frame.bottom - BELOW) // LINE - len(notes) - 1
-    return document(whole, frame.bottom + BELOW, picture.title, parts, [
-        *notes, *listed(unplaced(picture, without), whole, room),
-    ])
-
-
-def unplaced(picture: Bars, boxes: List[Box]) -> Iterator[Unplaced]:
-    for bar in sorted((one.bar for one in boxes), key=lambda bar: (bar.lane, bar.start)):
-        yield Unplaced(picture.name_of(bar.lane), bar.label, bar.start, bar.end)
+    bars = sorted((one.bar for one in without), key=lambda bar: (bar.lane, bar.start))
+    rest = [unplaced(picture.name_of(bar.lane), bar.label, bar.start, bar.end) for bar in bars]
+    return document(whole, frame.bottom + BELOW, picture.title, parts, [*notes, *listed(rest, whole, room)])
 
 
 def wanted(picture: Bars) -> Dict[int, int]:
@@ -422,11 +377,6 @@ def wanted(picture: Bars) -> Dict[int, int]:
     for bar in picture.shown:
         pixels[bar.lane] += max(FOR_BAR, int(width_of(bar.label) * LETTER) + ROOM)
     return pixels
-
-
-def in_lanes(bars: List[Bar], count: int) -> Iterator[Bar]:
-    """Yields the bars in the first lanes, cut there."""
-    return (replace(bar, lanes=min(bar.lanes, count - bar.lane)) for bar in bars if bar.lane < count)
 
 
 def box_of(bar: Bar, frame: Frame) -> Box:
@@ -457,27 +407,24 @@ def lanes_of(lanes: List[str], frame: Frame) -> Iterator[Tree]:
     for place, name in enumerate(lanes):
         if name:
             top = frame.top + place * HEIGHT
-            yield text(frame.left - 6, top + 14, shortened(name, letters_in(frame.left - 8), "\u2026"), "end")
+            yield text(frame.left - 6, top + 14, shortened(name, letters_in(frame.left - 8)), "end")
             yield line(frame.left, top, frame.right, top, "#eee")
 
 
 def instant_of(picture: Bars, frame: Frame) -> Iterator[Tree]:
-    """Yields a line through the instant of a division, if the instant is shown."""
+    """Yields a line through the instant of a division, if the instant is shown. Its text stays inside."""
     if picture.instant and picture.span.start <= seconds(picture.instant) < picture.span.end:
         place = frame.place(seconds(picture.instant))
         yield line(place, frame.top - 6, place, frame.bottom + 6, RED, 2)
-        yield text(place, frame.top - 10, picture.instant, side_of(place, frame), RED)
+        anchor = "start" if place < frame.left + frame.across // 2 else "end"
+        yield text(place, frame.top - 10, picture.instant, anchor, RED)
 
 
-def notes_of(picture: Bars, frame: Frame, many: int) -> Iterator[str]:
+def notes_of(picture: Bars, frame: Frame, many: int, lanes: List[str]) -> Iterator[str]:
     if any(any(goes_on(bar, frame)) for bar in picture.shown):
         yield POINTED
     if many > MOST:
-        yield NOTE
-
-
-def cut(picture: Bars, lanes: List[str]) -> Iterator[str]:
-    """That not all lanes are drawn."""
+        yield f"No colours: more than {MOST} labels differ."
     if len(lanes) < len(picture.lanes):
         rest = f"{len(lanes):,} of {len(picture.lanes):,} lanes"
         yield f"These are the first {rest}: --height PIXELS has room for more, --where and --from show fewer."

@@ -1,7 +1,6 @@
 // What each table of the script held at each point of time, as each commit knew it, and the history of one fact.
 
 const POINT = /^\d{4}-\d\d-\d\d(T\d\d:\d\d:\d\d)?$/;
-let sliders = 0;
 
 // A commit's number, day, place and command; of one that isn't in the page the number alone.
 function commitOf(number) {
@@ -33,11 +32,9 @@ function withoutCommits(record) {
 }
 
 function slider(label, most, value) {
-  sliders += 1;
-  const id = `slider-${sliders}`;
-  const input = make("input", { type: "range", id, min: 0, max: most, step: 1, value });
+  const input = make("input", { type: "range", min: 0, max: most, value, "aria-label": label });
   const text = make("span", { class: "soft" });
-  return { input, text, element: make("div", { class: "slider" }, make("label", { for: id }, label), input, text) };
+  return { input, text, element: make("div", { class: "slider" }, label, input, text) };
 }
 
 // What held of a table at a point, as the store stood at a commit. `mark` is given both.
@@ -172,7 +169,7 @@ class Fact {
 
   refresh() {
     const { label, versions } = this.facts.get(this.choice.value);
-    const found = [...versions].sort((one, other) => Number(one[MADE]) - Number(other[MADE]) || byPoint(one[FROM], other[FROM]));
+    const found = [...versions].sort((one, other) => Number(one[MADE]) - Number(other[MADE]) || ordered(one[FROM], other[FROM]));
     this.picked.textContent = `${this.chosen.name} ${seen(label)}`;
     this.about.textContent = `${counted(found.length, "version")}. Each is shown by the commits from sys_from on and before sys_to; `
       + "where that is empty, by the newest too.";

@@ -21,8 +21,12 @@ NAME = re.compile(r"(?!')[^\[\]:*?/\\]{1,31}(?<!')")
 FIRST, DIGITS, ROWS = datetime(1900, 3, 1), 15, 1_048_576
 
 
-def refuse(picks: Sequence[Pick], file: Path, is_replacing: bool) -> None:
-    """Refuses what a workbook can't have before any is written."""
+def write(picks: Sequence[Pick], file: Path, look: Look, is_replacing: bool) -> None:
+    """Writes the workbook, whole or not at all."""
+    try:
+        openpyxl = import_module("openpyxl")
+    except ModuleNotFoundError:
+        raise Misfit(NEEDED) from None
     refuse_present(file, is_replacing, "no workbook")
     for pick in picks:
         if not NAME.fullmatch(pick.name):
@@ -30,15 +34,6 @@ def refuse(picks: Sequence[Pick], file: Path, is_replacing: bool) -> None:
             raise Misfit(f"{visible(pick.name)} can't be a sheet's name: {remedy}")
         if len(pick.answer.table.records) >= ROWS:
             raise Misfit(f"{pick.name} has {len(pick.answer.table.records):,} records, more than a sheet has rows")
-
-
-def write(picks: Sequence[Pick], file: Path, look: Look, is_replacing: bool) -> None:
-    """Writes the workbook, whole or not at all."""
-    try:
-        openpyxl = import_module("openpyxl")
-    except ModuleNotFoundError:
-        raise Misfit(NEEDED) from None
-    refuse(picks, file, is_replacing)
     look.refuse_strangers(*(pick.answer.table for pick in picks))
     book = openpyxl.Workbook(write_only=True)
     for pick in picks:

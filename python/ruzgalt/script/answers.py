@@ -2,7 +2,7 @@
 from dataclasses import dataclass, field
 from itertools import islice
 from pathlib import Path
-from typing import Dict, Iterable, Iterator, List, Mapping, Optional, Sequence, Union
+from typing import Dict, Iterable, Iterator, List, Mapping, NamedTuple, Optional, Sequence, Union
 
 from ruzgalt.errors import Misfit
 from ruzgalt.script import commands, schemas
@@ -15,8 +15,7 @@ from ruzgalt.script.schemas import Column, Schema, Table
 Given = Union[bytes, str, Path]
 
 
-@dataclass(frozen=True)
-class Refusal:
+class Refusal(NamedTuple):
     """The name of a refusal, and the record that is at fault."""
 
     name: str
@@ -44,7 +43,6 @@ class Answer:
 
     @property
     def shown(self) -> str:
-        """Its line and its command, for a message."""
         return f"{self.where}: {short(self.command.text)}"
 
     @property
@@ -101,12 +99,10 @@ class Reading:
 
     def answer(self, number: int, command: Command) -> Answer:
         self.place = self.output.place
-        first = self.take(command, "an answer")
-        is_refused = first.word == "error"
-        refusal = self.refusal(command, first) if is_refused else None
-        table = Table([]) if is_refused else self.table(command, first)
-        is_of_block = self.held is not None and (is_refused or command.word != "load")
-        commits = self.held if is_of_block and self.held is not None else self.commits
+        first = self.there(self.output.next(), command, "an answer")
+        refusal = self.refusal(command, first) if first.word == "error" else None
+        table = Table([]) if refusal else self.table(command, first)
+        commits = self.commits if self.held is None or command.word == "load" and not refusal else self.held
         return Answer(number, command, commits, self.tables, table, refusal)
 
     def table(self, command: Command, first: Record) -> Table:
@@ -122,8 +118,7 @@ class Reading:
             raise misfit(command, "error,RECORD,NAME, since its tables, columns or point don't exist", first) from None
         return Table(columns, READERS[answered](self, command, first, columns))
 
-    def take(self, command: Command, wanted: str) -> Record:
-        record = self.output.next()
+    def there(self, record: Optional[Record], command: Command, wanted: str) -> Record:
         if record is None:
             raise Misfit(f"{command.where}: {short(command.text)}: the answers end before {wanted}")
         return record
@@ -155,8 +150,7 @@ class Reading:
         word = {Answered.VERSIONS: "version", Answered.LOG: "commit"}.get(command.form.answered, "row")
         place, count, record = self.place, 0, first
         if word == first.word and len(first.fields) == len(columns) + 1:
-            self.output = self.output.after_list(first)
-            record = self.take(command, "the list's end")
+            record = self.there(self.output.after_list(word), command, "the list's end")
             count = record.number - first.number
         if list(record.fields) != ["end", str(count)]:
             names = ",".join(column.name for column in columns)
@@ -170,7 +164,7 @@ class Reading:
         _, _, parts, instant = first.fields
         place, found = self.output.place, 0
         for part in range(int(parts)):
-            record = self.take(command, f"part,{part}")
+            record = self.there(self.output.next(), command, f"part,{part}")
             if list(record.fields[:2]) != ["part", str(part)]:
                 raise misfit(command, f"part,{part} with ids", record)
             found += len(record.fields) - 2
@@ -225,9 +219,9 @@ class Listed(Rows[Row]):
 
     @property
     def has_lines(self) -> bool:
-        first, last = self.source.byte_of(self.place.line), self.source.byte_of(self.end)
-        is_plain = self.source.ends is None and not self.source.has_zero and self.source.data.startswith(b"row,", first)
-        return is_plain and self.source.data.count(b"\n", first, last) == self.size and b"\r" not in self.source.data
+        data, first, last = self.source.data, self.source.byte_of(self.place.line), self.source.byte_of(self.end)
+        is_plain = not self.source.has_zero and b"\r" not in data and data.startswith(b"row,", first)
+        return is_plain and data.count(b"\n", first, last) == self.size
 
 
 def misfit(command: Command, wanted: str, found: Record) -> Misfit:
@@ -251,7 +245,6 @@ YES = "Yes: no two rows of a part overlap, and fewer parts than {parts} aren't e
 
 
 def sentence_of(answer: Answer) -> str:
-    """Returns the sentence of a check's answer."""
     _, reason, *numbers = next(answer.table.texts())
     parts, instant = answer.command.front[2:4]
     return sentence(reason, dict(zip(NUMBERS, numbers)), parts, instant)

@@ -10,7 +10,7 @@ from ruzgalt.errors import Misfit
 from ruzgalt.script import refusals, schemas
 from ruzgalt.script.answers import Answer
 from ruzgalt.script.commands import CHANGES, Answered
-from ruzgalt.script.forms import next_second, printed, read_point
+from ruzgalt.script.forms import at_second, print_point, printed, seconds
 from ruzgalt.script.records import short
 from ruzgalt.script.run import Version, Versions
 from ruzgalt.script.schemas import PERIOD, Column, Kind, Schema, Table, ints, refuse_other_kinds, unique
@@ -39,7 +39,6 @@ def between(before: Answer, after: Answer) -> Table:
 
 
 def point_of(answer: Answer) -> Optional[str]:
-    """Returns the point of an `at`."""
     return printed(answer.command.front[2]) if answer.command.word == "at" else None
 
 
@@ -54,7 +53,7 @@ def compared(answer: Answer) -> Tuple[List[Column], List[Held]]:
     places = [place for place in range(len(table.columns)) if place not in left_out]
     # Before and after the second of an `at` nothing is known.
     point = point_of(answer)
-    second = (point, next_second(point)) if point and table.records else ("", "")
+    second = (point, print_point(at_second(seconds(point) + 1))) if point and table.records else ("", "")
     held = [
         (*(second if point else (record[start], record[start + 1])), tuple(record[place] for place in places))
         for record in table.texts()
@@ -123,19 +122,18 @@ def history(
     """
     found = list(changes_of(versions.schema, versions.all, wanted))
     entered = entered_on(days or [], (commit for commit, _ in found))
-    entries = [Entry(commit, entered[commit], change) for commit, change in found]
-    without = list(dict.fromkeys(one.commit for one in entries if one.day is None)) if days is not None else []
-    doubts = []
+    without, doubts = [commit for commit, day in entered.items() if day is None and days is not None], []
     if without:
-        some = ", ".join(map(str, without[:COMMITS]))
         more = f" and {len(without) - COMMITS} more" if len(without) > COMMITS else ""
-        doubts = [f"commits without a day, which --retroactive leaves out: {some}{more}"]
+        some = f"{', '.join(map(str, without[:COMMITS]))}{more}"
+        doubts = [f"commits without a day, which --retroactive leaves out: {some}"]
+    entries = [Entry(commit, entered[commit], change) for commit, change in found if commit in commits]
     if is_retroactive:
         entries = [
             Entry(commit, day, [sign, start, min(end, day), *values])
             for commit, day, (sign, start, end, *values) in entries if day is not None and start < day
         ]
-    return History([one for one in entries if one.commit in commits], doubts, bool(wanted and not found))
+    return History(entries, doubts, bool(wanted and not found))
 
 
 def changes_of(
@@ -165,18 +163,13 @@ def of_table(answers: Sequence[Answer], schema: Schema, entries: Sequence[Entry]
 
 # Diaries.
 
-def refuse_missing(found: Sequence[Answer], name: str) -> None:
-    """Refuses a table that isn't there at the script's end."""
+def schema_of(found: Sequence[Answer], name: str) -> Schema:
+    """Returns a table at the script's end. Raises Misfit if it isn't there."""
     tables = found[-1].tables if found else {}
     if name not in tables:
         there = f"the tables are {', '.join(tables)}" if tables else "the script has none"
         raise Misfit(f"{name}: no such table; {there}")
-
-
-def refuse_no_diary(found: Sequence[Answer], name: str) -> None:
-    """Refuses a table that isn't there at the script's end, or can't name commits."""
-    refuse_missing(found, name)
-    refuse_no_commits(found[-1].tables[name])
+    return tables[name]
 
 
 def refuse_no_commits(schema: Schema) -> None:
@@ -186,15 +179,11 @@ def refuse_no_commits(schema: Schema) -> None:
 
 
 def days_in(diary: Versions) -> Days:
-    """Returns the days of a diary after the script."""
     return days_of(diary.schema, ((one.start, one.end, *one.values) for one in diary.all if one.closed is None))
 
 
 def days_of(schema: Schema, rows: Iterable[Sequence[str]]) -> Days:
-    """Returns the days of a diary, each with the newest commit from then on: the number in its first column.
-
-    Its rows are given by start, end and values. One with 0 is of no commit's day.
-    """
+    """Returns the days of a diary, by rows of start, end and values. One with 0 is of no commit's day."""
     refuse_no_commits(schema)
     return sorted((start, int(newest)) for start, _, newest, *_ in rows if int(newest))
 
@@ -222,7 +211,6 @@ def entered_on(days: Days, commits: Iterable[int]) -> Dict[int, Optional[str]]:
     return {commit: days[place][0] if place < len(days) else None for commit, place in places}
 
 
-# Points as printed texts, or as seconds.
 Point = TypeVar("Point", str, int)
 
 
@@ -246,9 +234,9 @@ def commits_at(diary: Answer, points: Iterable[str]) -> Dict[str, int]:
 
 def commit_at(name: str, rows: Iterable[Sequence[str]], days: Days, point: str) -> int:
     """Returns the newest commit at a point. Raises Misfit if no row has one."""
-    if read_point(point) is None:
-        raise Misfit(f"asof {point} {refusals.of_point(point)}")
-    instant = printed(point)
+    wrong, instant = refusals.of_point(point), printed(point)
+    if wrong:
+        raise Misfit(f"asof {point} {wrong}")
     commit = newest_at([day for day, _ in days], [number for _, number in days], instant)
     if commit is None:
         first = f"the first day in {name} is {days[0][0]}" if days else f"{name} has no day of a commit"

@@ -3,55 +3,22 @@
 A new command is a line in COMMANDS if its fields and its answer are such as others have.
 """
 from dataclasses import dataclass, replace
-from enum import Enum, auto
-from typing import Dict, Iterator, List, Optional, Sequence, Tuple
+from enum import Enum
+from typing import Dict, Iterator, List, NamedTuple, Optional, Sequence, Tuple
 
 from ruzgalt.script.records import Block, Place, Reader, Record, Source
 
 
-class Role(Enum):
-    """The role of a field."""
-
-    TABLE = auto()
-    COLUMN = auto()
-    KEY = auto()
-    POINT = auto()
-    COUNT = auto()
-    SUFFIX = auto()
-    VALUE = auto()
+# The role of a field.
+Role = Enum("Role", "TABLE COLUMN KEY POINT COUNT SUFFIX VALUE")
+# The fields after a command's word. TABLE: a table, and the fields of Form.more. PORTION: a table, a portion, and pairs
+# of a column and a value. TABLES: two tables, and pairs of their columns.
+Fields = Enum("Fields", "NOTHING SCHEMA TABLE PORTION TABLES AGGREGATE")
+# The kind of a command's answer, unless it is refused.
+Answered = Enum("Answered", "NOTHING COMMIT TOGETHER ROWS VERSIONS PAIRS STEPS LOG DIVISION VERDICT")
 
 
-class Fields(Enum):
-    """The fields after a command's word."""
-
-    NOTHING = auto()
-    SCHEMA = auto()
-    # A table, and the fields of Form.more.
-    TABLE = auto()
-    # A table, a portion, and pairs of a column and a value.
-    PORTION = auto()
-    # Two tables, and pairs of their columns.
-    TABLES = auto()
-    AGGREGATE = auto()
-
-
-class Answered(Enum):
-    """The kind of a command's answer, unless it is refused."""
-
-    NOTHING = auto()
-    COMMIT = auto()
-    TOGETHER = auto()
-    ROWS = auto()
-    VERSIONS = auto()
-    PAIRS = auto()
-    STEPS = auto()
-    LOG = auto()
-    DIVISION = auto()
-    VERDICT = auto()
-
-
-@dataclass(frozen=True)
-class Form:
+class Form(NamedTuple):
     """A command as it is shown to a person, its answer, and its fields.
 
     more    the fields directly after the table
@@ -65,13 +32,7 @@ class Form:
     part: str = ""
 
     @property
-    def has_suffix(self) -> bool:
-        """Whether it may have the suffix asof,N."""
-        return "asof" in self.text
-
-    @property
     def tables(self) -> int:
-        """Returns how many tables follow its word."""
         return {Fields.NOTHING: 0, Fields.TABLES: 2}.get(self.fields, 1)
 
     @property
@@ -109,7 +70,6 @@ CHANGES = tuple(word for word, form in COMMANDS.items() if form.answered is Answ
 
 
 def words_of(*fields: Fields) -> Tuple[str, ...]:
-    """Returns the commands with these fields."""
     return tuple(word for word, form in COMMANDS.items() if form.fields in fields)
 
 
@@ -128,7 +88,6 @@ class Command:
 
     @property
     def form(self) -> Form:
-        """Its line in COMMANDS."""
         return COMMANDS.get(self.word, NONE)
 
     @property
@@ -147,12 +106,11 @@ class Command:
     def as_of(self) -> Optional[str]:
         """Returns the number in its suffix `asof,N`, if it has one."""
         fields = self.record.fields
-        has_suffix = self.form.has_suffix and len(fields) > 2 and fields[-2] == "asof"
+        has_suffix = "asof" in self.form.text and len(fields) > 2 and fields[-2] == "asof"
         return fields[-1] if has_suffix else None
 
     @property
     def front(self) -> List[str]:
-        """Its fields without the suffix."""
         return list(self.record.fields[:-2] if self.as_of is not None else self.record.fields)
 
     @property
@@ -163,9 +121,7 @@ class Command:
     def record_of(self, number: int) -> Optional[Record]:
         """Returns the record of that number, if it belongs to this command."""
         place = number - self.record.number
-        if place == 0:
-            return self.record
-        return self.block[place - 1] if 0 < place <= len(self.block) else None
+        return self.record if not place else self.block[place - 1] if 0 < place <= len(self.block) else None
 
 
 def commands(source: Source, number: int = 1) -> Iterator[Command]:
@@ -215,5 +171,4 @@ def where_place(texts: Sequence[str]) -> int:
 
 
 def where_places(texts: Sequence[str]) -> range:
-    """Returns the indices of the columns after `where`."""
     return range(where_place(texts) + 1, len(texts) - 1, 2)

@@ -2,9 +2,12 @@
 import re
 from datetime import datetime, timedelta
 from functools import lru_cache
-from typing import NamedTuple, Optional, Sequence
+from typing import NamedTuple, Optional, Sequence, Tuple
 
-POINT = re.compile(r"(\d{4})-(\d\d)-(\d\d)(?:T(\d\d):(\d\d):(\d\d))?", re.ASCII)
+from ruzgalt.errors import Misfit
+from ruzgalt.script.records import short
+
+POINT = re.compile(r"\d{4}-\d\d-\d\d(?:T\d\d:\d\d:\d\d)?", re.ASCII)
 INTEGER = re.compile(r"0|-?[1-9]\d*", re.ASCII)
 # Examples of points, for a person.
 POINTS = "2024-01-05 or 2024-01-05T08:30:00"
@@ -24,14 +27,20 @@ SPACES, APOSTROPHES = " \u00a0\u202f", "'\u2019"
 
 
 def read_point(text: str) -> Optional[datetime]:
-    found = POINT.fullmatch(text)
-    if found is None:
-        return None
     try:
-        year, month, day, hour, minute, second = (int(part or 0) for part in found.groups())
-        return datetime(year, month, day, hour, minute, second)
+        # From 3.14 on, Python would read 24:00:00 as the next midnight.
+        return datetime.fromisoformat(text) if POINT.fullmatch(text) and text[11:13] != "24" else None
     except ValueError:
         return None
+
+
+def read_limits(start: Optional[str], end: Optional[str]) -> Tuple[Optional[datetime], Optional[datetime]]:
+    """Returns the points of --from and --to; None for one that isn't given. Raises Misfit for other texts."""
+    points = [None if text is None else read_point(text) for text in (start, end)]
+    for word, text, point in zip(("from", "to"), (start, end), points):
+        if text is not None and point is None:
+            raise Misfit(f"--{word} {short(text)}: not a date or time, such as {POINTS}")
+    return points[0], points[1]
 
 
 def print_point(point: datetime) -> str:
@@ -47,15 +56,8 @@ def printed(text: str) -> str:
     return print_point(point) if point else text
 
 
-@lru_cache(1 << 4)
-def next_second(point: str) -> str:
-    """Returns the next second, which exists since a row holds at this one."""
-    return print_point(at_second(seconds(point) + 1))
-
-
 @lru_cache(1 << 16)
 def is_printed(text: str) -> bool:
-    """Whether it is a point as dipq prints it."""
     return read_point(text) is not None and printed(text) == text
 
 
@@ -70,9 +72,8 @@ def at_second(number: int) -> datetime:
     return BEGINNING + timedelta(seconds=number)
 
 
-def is_integer(text: str) -> bool:
-    is_short_one = len(text) <= LONGEST_INTEGER and bool(INTEGER.fullmatch(text))
-    return is_short_one and -(1 << 63) <= int(text) < 1 << 63
+def is_integer(text: str, least: int = -(1 << 63)) -> bool:
+    return len(text) <= LONGEST_INTEGER and bool(INTEGER.fullmatch(text)) and least <= int(text) < 1 << 63
 
 
 def is_sum(text: str) -> bool:
@@ -80,7 +81,7 @@ def is_sum(text: str) -> bool:
 
 
 def is_count(text: str) -> bool:
-    return is_integer(text) and int(text) >= 0
+    return is_integer(text, 0)
 
 
 def is_name(text: str) -> bool:
@@ -114,7 +115,6 @@ def shifted(text: str, days: int) -> str:
 
 
 def is_month_end(text: str) -> bool:
-    """Whether the point is the midnight of a last day of a month."""
     return shifted(text, 1).endswith("-01")
 
 

@@ -64,5 +64,4 @@ def free(beginning: str, taken: Set[str]) -> str:
 
 
 def twice(names: Sequence[Any]) -> List[Any]:
-    """Returns the repeated names, in the order of their first positions."""
     return [name for name, count in Counter(names).items() if count > 1]

@@ -26,10 +26,6 @@ class Held(NamedTuple):
     values: Values
     origin: str
 
-    @property
-    def text(self) -> str:
-        return f"{self.origin}: {to_record([self.start, self.end, *self.values])}"
-
 
 class Loaded(NamedTuple):
     """A row of a load: the line on which it begins, its period as the program prints it, and its values."""
@@ -41,17 +37,13 @@ class Loaded(NamedTuple):
 
 
 def rows_of(load: Command) -> Iterator[Loaded]:
-    """Yields the rows of an accepted load."""
     if isinstance(load.block, Block):
         for line, (_, start, end, *values) in load.block.numbered():
             yield Loaded(line, printed(start), printed(end), tuple(values))
 
 
-class Change(NamedTuple):
-    """What a refused change would have done: the rows that it adds, and the ids of the rows that it closes."""
-
-    added: Sequence[Held]
-    closed: Set[int]
+# What a refused change would have done: the rows that it adds, and the ids of the rows that it closes.
+Change = Tuple[List[Held], Set[int]]
 
 
 def explained(past: Past, refused: Sequence[Answer]) -> Dict[int, List[str]]:
@@ -59,14 +51,9 @@ def explained(past: Past, refused: Sequence[Answer]) -> Dict[int, List[str]]:
     refused = [answer for answer in refused if answer.refused.name == "KeyOverlap"]
     past.ask(*(versions_of(answer.schema.name) for answer in refused))
     changes = changes_of(past, refused)
-    cases = [list(groups_of(past, answer, changes[answer.number])) for answer in refused]
+    cases = [groups_of(past, answer, *changes[answer.number]) for answer in refused]
     counted = zip(refused, cases, crowded(past.program, cases))
     return {answer.number: list(lines_of(answer, groups, counts)) for answer, groups, counts in counted}
-
-
-def rows_at(past: Past, answer: Answer) -> List[Version]:
-    """Returns the rows of a command's table before it. A refused command changes nothing."""
-    return past.versions(answer.schema.name).at(answer.commits)
 
 
 def changes_of(past: Past, refused: Sequence[Answer]) -> Dict[int, Change]:
@@ -76,13 +63,14 @@ def changes_of(past: Past, refused: Sequence[Answer]) -> Dict[int, Change]:
     for answer in refused:
         texts, record = answer.command.record.fields, answer.command.record
         if answer.command.word == "load":
-            found[answer.number] = Change([
+            found[answer.number] = [
                 Held(one.start, one.end, one.values, answer.where if record.is_asked else f"line {one.line}")
                 for one in rows_of(answer.command)
-            ], set())
+            ], set()
         else:
             wanted = [(answer.schema.index_of(texts[place]), texts[place + 1]) for place in where_places(texts)]
-            updates.append((answer, [one for one in rows_at(past, answer) if schemas.has_values(one.values, wanted)]))
+            rows = past.versions(answer.schema.name).at(answer.commits)
+            updates.append((answer, [one for one in rows if schemas.has_values(one.values, wanted)]))
     for (answer, rows), tried in zip(updates, run.tried(past.program, (updating(*one) for one in updates))):
         found[answer.number] = updated(answer, rows, tried[-1].table)
     return found
@@ -113,20 +101,21 @@ def updated(answer: Answer, rows: Sequence[Version], listed: Table) -> Change:
                 added.append(Held(start, last, tuple(values), f"{answer.where} in place of row {row.row_id}"))
                 if last == end:
                     break
-    return Change(added, closed)
+    return added, closed
 
 
-def groups_of(past: Past, answer: Answer, change: Change) -> Iterator[List[Held]]:
-    """Yields the rows that the change would leave for each value of the key that it adds rows of."""
+def groups_of(past: Past, answer: Answer, added: Sequence[Held], closed: Set[int]) -> List[List[Held]]:
+    """Returns the rows that the change would leave for each value of the key that it adds rows of."""
     key_of = itemgetter(*answer.schema.key)
     groups: Dict[object, List[Held]] = {}
-    for row in change.added:
+    for row in added:
         groups.setdefault(key_of(row.values), []).append(row)
-    for one in rows_at(past, answer):
+    # A refused command changes nothing.
+    for one in past.versions(answer.schema.name).at(answer.commits):
         group = groups.get(key_of(one.values))
-        if group is not None and one.row_id not in change.closed:
+        if group is not None and one.row_id not in closed:
             group.append(Held(one.start, one.end, one.values, f"row {one.row_id}, made by commit {one.made}"))
-    yield from groups.values()
+    return list(groups.values())
 
 
 def crowded(program: str, cases: Iterable[Sequence[Sequence[Held]]]) -> Iterator[Table]:
@@ -161,6 +150,6 @@ def lines_of(answer: Answer, groups: Sequence[Sequence[Held]], counts: Table) ->
     for one, other in islice(found, PAIRS):
         key = ", ".join(f"{schema.names[index]} {to_record([one.values[index]])}" for index in schema.key)
         yield f"{key}: both hold from {other.start} to {min(one.end, other.end)}"
-        yield from (f"  {row.text}" for row in (one, other))
+        yield from (f"  {row.origin}: {to_record([row.start, row.end, *row.values])}" for row in (one, other))
     if next(found, None):
         yield "and more pairs of rows"

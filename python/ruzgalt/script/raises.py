@@ -3,19 +3,19 @@ import decimal
 import re
 from collections import Counter
 from decimal import Decimal
-from typing import Iterator, List, NamedTuple, Optional, Sequence, Tuple
+from typing import Iterator, List, NamedTuple, Optional, Sequence
 
 from ruzgalt.errors import Misfit
 from ruzgalt.periods import ROUNDINGS
 from ruzgalt.script import schemas
 from ruzgalt.script.answers import Answer
-from ruzgalt.script.forms import POINTS, is_integer, printed, read_point
+from ruzgalt.script.forms import NO_END, is_integer, printed, read_limits
 from ruzgalt.script.records import short
 from ruzgalt.script.schemas import Column, Kind, Table, ints, unique
 
 PERCENT = re.compile(r"[+-]?\d{1,9}(?:\.\d{1,9})?", re.ASCII)
 # Up to where a raise holds, unless that is given: no row is known to end, or else none holds after the last point.
-NO_END, LAST = "9999-12-31", "9999-12-31T23:59:59"
+LAST = "9999-12-31T23:59:59"
 # An amount has 19 digits, and a percentage 18.
 EXACT = decimal.Context(prec=60)
 
@@ -54,16 +54,16 @@ class Raise:
         # The other columns and values that the updates ask for.
         self.others = [text for pair in wish.where if pair[0] != wish.column for text in pair]
         wanted = schemas.wanted_in(schema, wish.where)
-        refuse_points(wish)
+        start, end = read_limits(wish.start, wish.end)
+        if start and end and start >= end:
+            raise Misfit(f"--from {wish.start} isn't before --to {wish.end}")
         there = [record[1:] for record in rows.table.texts() if schemas.has_values(record[3:], wanted)]
         self.start = printed(wish.start)
         self.end = printed(wish.end) if wish.end else LAST if any(end > NO_END for _, end, *_ in there) else NO_END
         counts = Counter(int(row[2 + place]) for row in there if row[0] < self.end and self.start < row[1])
-        self.steps = [self.step(amount, counts[amount]) for amount in sorted(counts, key=self.order)]
-
-    def order(self, amount: int) -> Tuple[int, int]:
-        """Amounts go away from zero by a raise, so the farthest is first, and towards it by a cut."""
-        return (-abs(amount) if self.factor > 1 else abs(amount), amount)
+        # Amounts go away from zero by a raise, so the farthest is first, and towards it by a cut.
+        amounts = sorted(sorted(counts), key=abs, reverse=self.factor > 1)
+        self.steps = [self.step(amount, counts[amount]) for amount in amounts]
 
     def step(self, amount: int, rows: int) -> Step:
         # A zero without a sign.
@@ -105,7 +105,6 @@ class Raise:
                 yield ["update", *portion, "set", *changed, *self.others]
 
     def table(self) -> Table:
-        """Returns what each update would do."""
         columns = unique([*ints("rows", self.wish.column), Column("exact", Kind.TEXT), *ints("raised")])
         return Table(columns, [
             [str(one.rows), str(one.amount), f"{one.exact.normalize(EXACT):f}", str(one.raised)] for one in self.steps
@@ -127,18 +126,9 @@ class Raise:
 
 
 def factor_of(percent: str) -> Decimal:
-    """Returns what an amount is multiplied by."""
     if not PERCENT.fullmatch(percent):
         raise Misfit(f"--percent {short(percent)}: not a number such as 2.5 or -3")
     more = Decimal(percent)
     if more == 0 or more < -100:
         raise Misfit(f"--percent {percent}: {'nothing is raised' if more == 0 else 'more than all is taken'}")
     return EXACT.add(100, more).scaleb(-2)
-
-
-def refuse_points(wish: Wish) -> None:
-    for word, point in (("from", wish.start), ("to", wish.end)):
-        if point is not None and read_point(point) is None:
-            raise Misfit(f"--{word} {short(point)}: not a date or time, such as {POINTS}")
-    if wish.end is not None and printed(wish.start) >= printed(wish.end):
-        raise Misfit(f"--from {wish.start} isn't before --to {wish.end}")

@@ -8,14 +8,13 @@ import csv
 import io
 import re
 import unicodedata
-from bisect import bisect_left
+from array import array
 from contextlib import contextmanager
-from itertools import accumulate, islice
+from functools import cached_property
+from itertools import chain, islice
 from threading import RLock
 from types import SimpleNamespace
-from typing import (
-    Callable, Generic, Iterable, Iterator, List, NamedTuple, Optional, Sequence, Tuple, TypeVar, Union, overload,
-)
+from typing import Any, Callable, Iterable, Iterator, List, NamedTuple, Optional, Sequence, Tuple, TypeVar
 
 from ruzgalt.errors import Misfit
 
@@ -27,6 +26,8 @@ LIMITING = RLock()
 END = ["end"]
 # How many records of one form are processed at once.
 PIECE = 1 << 13
+# How many lines apart the bytes are that are kept to find a line.
+STRIDE = 1 << 8
 # The most rows that are searched for possible mistakes row by row.
 LOOKED_AT = 100_000
 LIST_END = re.compile(rb"\nend,(\d{1,9})\n")
@@ -40,8 +41,7 @@ BLANK = re.compile(
 
 
 class Record(NamedTuple):
-    """A record: its number from 1 on, the line on which it begins, its fields, and whether it is a question of --ask.
-    """
+    """A record: its number from 1 on, the line on which it begins, its fields, and whether --ask asks it."""
 
     number: int
     line: int
@@ -97,35 +97,18 @@ def code_of(character: str) -> str:
     return character.encode("unicode_escape").decode()
 
 
-class Printer:
-    """Prints records as dipq does, by Python's writer of CSV.
+def to_text(records: Iterable[Sequence[str]]) -> str:
+    """Returns the records, each with a line end.
 
-    The writer's lines end with CR and LF, so it quotes a field with either; the ends are taken off.
+    The lines of Python's writer end with CR and LF, so it quotes a field with either; the ends are replaced.
     """
-
-    def __init__(self) -> None:
-        self.lines: List[str] = []
-        self.writer = csv.writer(SimpleNamespace(write=self.lines.append), lineterminator="\r\n")
-
-    def text(self, records: Iterable[Sequence[str]]) -> str:
-        """Returns the records, each with a line end."""
-        self.writer.writerows(records)
-        text = "".join([line[:-2] + "\n" for line in self.lines])
-        self.lines.clear()
-        return text
-
-    def record(self, fields: Sequence[str]) -> str:
-        """Returns the record without a line end."""
-        self.writer.writerow(fields)
-        return self.lines.pop()[:-2]
+    lines: List[str] = []
+    csv.writer(SimpleNamespace(write=lines.append), lineterminator="\r\n").writerows(records)
+    return "".join([line[:-2] + "\n" for line in lines])
 
 
 def to_record(fields: Sequence[str]) -> str:
-    return Printer().record(fields)
-
-
-def to_text(records: Iterable[Sequence[str]]) -> str:
-    return Printer().text(records)
+    return to_text([fields])[:-1]
 
 
 # Reading.
@@ -151,39 +134,26 @@ class Place(NamedTuple):
 class Source:
     """The bytes of a script or of answers. Records after the first `own_lines` lines are questions of --ask."""
 
-    # How many bytes are counted at once to find a line.
-    STRIDE = 1 << 16
-
     def __init__(self, data: bytes, own_lines: Optional[int] = None) -> None:
-        self.data, self.own_lines = data, own_lines
-        self.has_zero = b"\0" in data
-        # Lines end with LF, or with CR and LF; if some end with only CR, the positions of all ends are kept.
-        has_others = data.count(b"\r") != data.count(b"\r\n")
-        self.ends = [found.end() for found in re.finditer(b"\r\n|\r|\n", data)] if has_others else None
-        self.counts: List[int] = []
+        self.data, self.own_lines, self.has_zero = data, own_lines, b"\0" in data
+        # Lines end with LF, or with CR and LF, unless some end with only CR.
+        self.line_end = re.compile(b"\n" if data.count(b"\r") == data.count(b"\r\n") else b"\r\n?|\n")
+
+    def starts_from(self, byte: int) -> Iterator[int]:
+        """Yields where lines begin, from this byte on, with which one begins."""
+        return chain([byte], (found.end() for found in self.line_end.finditer(self.data, byte)))
+
+    @cached_property
+    def starts(self) -> Sequence[int]:
+        """The starts of a few lines, each STRIDE lines after the one before it."""
+        return array("q", islice(self.starts_from(0), 0, None, STRIDE))
 
     def byte_of(self, line: int) -> int:
-        """Returns the index of the byte with which a line begins."""
         if line == 1:
             return len(BYTE_ORDER_MARK) if self.data.startswith(BYTE_ORDER_MARK) else 0
-        if self.ends is not None:
-            return self.ends[line - 2] if line - 2 < len(self.ends) else len(self.data)
-        if not self.counts:
-            starts = range(0, len(self.data), self.STRIDE)
-            self.counts = list(accumulate(self.data.count(b"\n", start, start + self.STRIDE) for start in starts))
-        stride = bisect_left(self.counts, line - 1)
-        byte = stride * self.STRIDE - 1
-        for _ in range(line - 1 - (self.counts[stride - 1] if stride else 0)):
-            byte = self.data.find(b"\n", byte + 1)
-            if byte < 0:
-                # The last line has no end.
-                return len(self.data)
-        return byte + 1
-
-    def lines_from(self, line: int) -> Iterator[str]:
-        buffer = io.BytesIO(self.data)
-        buffer.seek(self.byte_of(line))
-        return io.TextIOWrapper(buffer, "utf-8", "surrogateescape", newline="")
+        place, rest = divmod(line - 1, STRIDE)
+        near = self.starts[place] if place < len(self.starts) else len(self.data)
+        return next(islice(self.starts_from(near), rest, None), len(self.data))
 
 
 class Reader:
@@ -191,14 +161,17 @@ class Reader:
 
     def __init__(self, source: Source, place: Place = Place(1, 1)) -> None:
         self.source = source
+        self.begin(place)
+
+    def begin(self, place: Place) -> None:
         self.line, self.number = place
-        lines = source.lines_from(self.line)
-        self.first_line = self.line
-        self.csv = csv.reader((line.replace(ZERO, STAND_IN) for line in lines) if source.has_zero else lines)
-        self.fields = self.records()
-        if source.has_zero:
-            self.fields = ([one.replace(STAND_IN, ZERO) for one in fields] for fields in self.records())
-        self.held: Optional[Record] = None
+        self.first_line, buffer = self.line, io.BytesIO(self.source.data)
+        buffer.seek(self.source.byte_of(self.line))
+        lines = io.TextIOWrapper(buffer, "utf-8", "surrogateescape", newline="")
+        has_zero = self.source.has_zero
+        self.csv = csv.reader((line.replace(ZERO, STAND_IN) for line in lines) if has_zero else lines)
+        found = self.records()
+        self.fields = ([one.replace(STAND_IN, ZERO) for one in fields] for fields in found) if has_zero else found
 
     def records(self) -> Iterator[List[str]]:
         """Yields the fields of each record. Raises Misfit if a field is too long for the process."""
@@ -217,11 +190,9 @@ class Reader:
         return iter(self.next, None)
 
     def next(self) -> Optional[Record]:
-        record, self.held = self.held, None
-        if record is None:
-            for line, fields in self.numbered():
-                return self.made(line, fields)
-        return record
+        for line, fields in self.numbered():
+            return self.made(line, fields)
+        return None
 
     def numbered(self) -> Iterator[Tuple[int, List[str]]]:
         """Yields the fields of each record, with the line on which it begins."""
@@ -248,24 +219,23 @@ class Reader:
         self.number += count
         return Block(self.source, place, count, self.line, is_ended)
 
-    def after_list(self, first: Record) -> "Reader":
-        """Returns a reader after a list of records as dipq prints it, whose first record was read.
+    def after_list(self, word: str) -> Optional[Record]:
+        """Returns the record after a list of dipq's, whose first record was read.
 
         In a long list only the `end,N` is searched: it isn't in a field if the number of quotes before it is even.
         """
-        for count, fields in enumerate(islice(self.fields, PIECE), 1):
-            if fields[:1] != [first.word]:
-                self.line = self.first_line + self.csv.line_num
-                self.number += count - 1
-                self.held = self.made(self.line - 1 - sum(map(count_lines, map(encode, fields))), fields)
-                return self
-        data, line = self.source.data, self.first_line + self.csv.line_num
-        begun = self.source.byte_of(line)
+        number = self.number
+        for line, fields in islice(self.numbered(), PIECE):
+            if fields[0] != word:
+                return self.made(line, fields)
+            self.number += 1
+        data, begun = self.source.data, self.source.byte_of(self.line)
         for found in LIST_END.finditer(data, begun - 1):
             end = found.start() + 1
             if data.count(b'"', begun, end) % 2 == 0:
-                return Reader(self.source, Place(line + count_lines(data[begun:end]), first.number + int(found[1])))
-        return self
+                self.begin(Place(self.line + count_lines(data[begun:end]), number - 1 + int(found[1])))
+                break
+        return self.next()
 
 
 def count_lines(text: bytes) -> int:
@@ -277,7 +247,7 @@ T = TypeVar("T")
 Row = Sequence[Optional[str]]
 
 
-class Rows(Sequence[T], Generic[T]):
+class Rows(Sequence[T]):
     """A sequence of known length, which is made again each time that it is read."""
 
     def __init__(self, size: int, read: Callable[[], Iterator[T]]) -> None:
@@ -289,13 +259,7 @@ class Rows(Sequence[T], Generic[T]):
     def __iter__(self) -> Iterator[T]:
         return self.read()
 
-    @overload
-    def __getitem__(self, place: int) -> T: ...
-
-    @overload
-    def __getitem__(self, place: slice) -> Sequence[T]: ...
-
-    def __getitem__(self, place: Union[int, slice]) -> Union[T, Sequence[T]]:
+    def __getitem__(self, place: Any) -> Any:
         return list(self)[place]
 
     def __eq__(self, other: object) -> bool:
@@ -315,7 +279,6 @@ class Block(Rows[Record]):
 
     @property
     def rows(self) -> Rows[Record]:
-        """Its records without the `end`."""
         return Rows(self.size - self.is_ended, lambda: islice(iter(self), self.size - self.is_ended))
 
     def numbered(self) -> Iterator[Tuple[int, List[str]]]:

@@ -1,9 +1,9 @@
 """Explains refused commands to a person: the field at fault, its mistake, and the remedy."""
-from typing import Callable, Dict, Iterable, Iterator, List, NamedTuple, Optional, Sequence, Union
+from typing import Callable, Dict, Iterator, List, NamedTuple, Optional, Sequence, Tuple, Union
 
 from ruzgalt.script import forms
 from ruzgalt.script.answers import Answer
-from ruzgalt.script.commands import BLOCKS, COMMANDS, Answered, Command, Fields, Role, key_place, where_place
+from ruzgalt.script.commands import BLOCKS, COMMANDS, Answered, Command, Fields, Form, Role, key_place, where_place
 from ruzgalt.script.records import Record, short, to_record, visible
 from ruzgalt.script.schemas import Column, Kind, Schema, listed
 from ruzgalt.which import LOAD
@@ -29,86 +29,62 @@ class Field(NamedTuple):
         return f"field {self.number + 1}{column}, {text if text == text.strip() else repr(text)}"
 
 
+# The index of a field, its role, the table that it names a column of, and the column's name.
+Spot = Tuple[int, Role, Optional[Schema], str]
+
+
 def fields_of(answer: Answer) -> List[Field]:
     """Returns the fields of the record for which a command was refused, each with its role."""
-    command, record = answer.command, answer.refused.record
-    if record is not command.record:
-        own = answer.tables.get((*command.record.fields, "")[1])
-        return list(of_part(record.fields) if record.word == "part" else of_row(record.fields, own))
-    found = list(READERS.get(command.form.fields, of_query)(command.front, answer.tables))
-    last = len(record.fields) - 1
-    return [*found, *at(record.fields, [last] if command.as_of is not None else [], Role.SUFFIX)]
+    command, texts = answer.command, answer.refused.record.fields
+    if answer.refused.record is command.record:
+        found = list(spots(command.front, command.form, answer.tables))
+        found.extend([(len(texts) - 1, Role.SUFFIX, None, "")] * (command.as_of is not None))
+    elif texts[0] == "part":
+        found = [(index, Role.COUNT, None, "") for index in range(1, len(texts))]
+    else:
+        table = answer.tables.get((*command.record.fields, "")[1])
+        names = enumerate(table.names if table else (), 3)
+        found = [(1, Role.POINT, None, ""), (2, Role.POINT, None, "")]
+        found.extend((index, Role.VALUE, table, name) for index, name in names)
+    return [
+        Field(index, texts[index], role, table, {one.name: one for one in (table.columns if table else ())}.get(name))
+        for index, role, table, name in found if index < len(texts)
+    ]
 
 
-def at(texts: Sequence[str], indices: Iterable[int], role: Role, table: Optional[Schema] = None) -> Iterator[Field]:
-    """Yields the fields of one role. A column's field has the table's column of that name."""
-    for index in indices:
-        if index < len(texts):
-            columns = [one for one in (table.columns if table else ()) if one.name == texts[index]]
-            yield Field(index, texts[index], role, table, columns[0] if columns else None)
+def spots(texts: Sequence[str], form: Form, tables: Dict[str, Schema]) -> Iterator[Spot]:
+    """Yields the fields of a command's first record, without its words such as `set`."""
+    name, count = (*texts, "")[1], len(texts)
+    yield 1, Role.TABLE, None, ""
+    if form.fields is Fields.SCHEMA:
+        end = key_place(texts)
+        made = Schema(name, tuple(Column(one, Kind.TEXT) for one in texts[2:end:2]))
+        yield from ((index, Role.COLUMN, made, texts[index]) for index in range(2, end, 2))
+        yield from ((index, Role.KEY, made, texts[index]) for index in range(end + 1, count))
+    elif form.fields is Fields.PORTION:
+        end = where_place(texts)
+        yield from [(2, Role.POINT, None, ""), (3, Role.POINT, None, "")]
+        for index in [*range(5 if texts[0] == "update" else end, end - 1, 2), *range(end + 1, count - 1, 2)]:
+            yield index, Role.COLUMN, tables.get(name), texts[index]
+            yield index + 1, Role.VALUE, tables.get(name), texts[index]
+    elif form.fields is Fields.TABLES:
+        yield 2, Role.TABLE, None, ""
+        yield from ((index, Role.COLUMN, tables.get(texts[1 + index % 2]), texts[index]) for index in range(4, count))
+    elif form.fields is Fields.AGGREGATE:
+        indices = [3] * (count > 3 and texts[2] != "count") + [count - 1] * ("by" in texts[3:-1])
+        yield from ((index, Role.COLUMN, tables.get(name), texts[index]) for index in indices)
+    else:
+        yield from ((index, role, None, "") for index, role in enumerate(form.more, 2))
 
 
-def of_part(texts: Sequence[str]) -> Iterator[Field]:
-    return at(texts, range(1, len(texts)), Role.COUNT)
+# The mistake of a field, and the remedy. The text is empty if it isn't the field that is at fault.
 
-
-def of_row(texts: Sequence[str], table: Optional[Schema]) -> Iterator[Field]:
-    yield from at(texts, (1, 2), Role.POINT)
-    values = zip(range(3, len(texts)), table.columns if table else ())
-    yield from (Field(index, texts[index], Role.VALUE, table, column) for index, column in values)
-
-
-Tables = Dict[str, Schema]
-
-
-def of_query(texts: Sequence[str], _: Tables) -> Iterator[Field]:
-    """Yields the table, and after it points or numbers."""
-    for index, role in enumerate([Role.TABLE, *(COMMANDS[texts[0]].more if texts[0] in COMMANDS else ())], 1):
-        yield from at(texts, [index], role)
-
-
-def of_table(texts: Sequence[str], _: Tables) -> Iterator[Field]:
-    """Yields the table's name, its columns' names, and its key's."""
-    end = key_place(texts)
-    made = Schema((*texts, "")[1], tuple(Column(name, Kind.TEXT) for name in texts[2:end:2]))
-    yield from at(texts, [1], Role.TABLE)
-    yield from at(texts, range(2, end, 2), Role.COLUMN, made)
-    yield from at(texts, range(end + 1, len(texts)), Role.KEY, made)
-
-
-def of_change(texts: Sequence[str], tables: Tables) -> Iterator[Field]:
-    """Yields the table, the portion, and pairs of a column and a value, without the words `set` and `where`."""
-    yield from [*at(texts, [1], Role.TABLE), *at(texts, (2, 3), Role.POINT)]
-    end = where_place(texts)
-    for index in [*range(5 if texts[0] == "update" else end, end - 1, 2), *range(end + 1, len(texts) - 1, 2)]:
-        [column] = at(texts, [index], Role.COLUMN, tables.get((*texts, "")[1]))
-        yield column
-        yield Field(index + 1, texts[index + 1], Role.VALUE, column.table, column.column)
-
-
-def of_join(texts: Sequence[str], tables: Tables) -> Iterator[Field]:
-    yield from at(texts, (1, 2), Role.TABLE)
-    for index in range(4, len(texts)):
-        yield from at(texts, [index], Role.COLUMN, tables.get(texts[1 + index % 2]))
-
-
-def of_aggregate(texts: Sequence[str], tables: Tables) -> Iterator[Field]:
-    is_count = texts[2:3] == ["count"]
-    indices = ([] if is_count else [3]) + ([len(texts) - 1] if "by" in texts[3:-1] else [])
-    yield from [*at(texts, [1], Role.TABLE), *at(texts, indices, Role.COLUMN, tables.get((*texts, "")[1]))]
-
-
-READERS = {
-    Fields.SCHEMA: of_table, Fields.PORTION: of_change, Fields.TABLES: of_join, Fields.AGGREGATE: of_aggregate,
-}
-
-
-# The mistake of a field, and the remedy.
-
-BAD_POINT = f"isn't a date or time, such as {forms.POINTS}"
+COLUMNS = (Role.COLUMN, Role.KEY)
 
 
 def bad_name(field: Field, answer: Answer) -> str:
+    if field.role not in (Role.TABLE, *COLUMNS) or forms.is_name(field.text):
+        return ""
     if field.text == "asof" and answer.command.form.fields is Fields.PORTION:
         return "is only for queries: a change acts on the rows of the newest commit"
     if field.text in forms.RESERVED:
@@ -118,41 +94,52 @@ def bad_name(field: Field, answer: Answer) -> str:
 
 
 def of_point(text: str) -> str:
-    """Returns the mistake in a text that isn't a point."""
+    """Returns why a text isn't a point, or an empty text if it is one."""
+    if forms.read_point(text):
+        return ""
     if not forms.POINT.fullmatch(text):
-        return BAD_POINT
+        return f"isn't a date or time, such as {forms.POINTS}"
     day = forms.read_point(text[:10])
     return "isn't a time of day: the last is 23:59:59" if day else "isn't a day that exists"
 
 
 def bad_number(field: Field, answer: Answer) -> str:
+    is_value = field.role is Role.VALUE
+    if field.kind is not Kind.INT if is_value else field.role not in (Role.COUNT, Role.SUFFIX):
+        return ""
+    if forms.is_integer(field.text, -(1 << 63) if is_value else 0):
+        return ""
     digits = field.text[1:] if field.text.startswith("-") else field.text
     if digits.isascii() and digits.isdigit():
         if digits.startswith("0") and field.text != "0":
             return "has a zero in front, or a minus before 0: leave it out"
-        return f"isn't a number from {-(1 << 63) if field.role is Role.VALUE else 0} to {(1 << 63) - 1}"
-    if field.role is Role.VALUE:
+        return f"isn't a number from {-(1 << 63) if is_value else 0} to {(1 << 63) - 1}"
+    if is_value:
         return "isn't a whole number in digits only, such as 5000 or -8, or 500050 for cents"
     is_commit = field.role is Role.SUFFIX or answer.command.form.answered is Answered.VERSIONS
     return "isn't a commit's number, such as the 2 of `ok,2`" if is_commit else "isn't a whole number from 0 on"
 
 
-def bad_period(_: Field, answer: Answer) -> str:
+def bad_period(field: Field, answer: Answer) -> str:
     """A `between` may begin and end with one commit."""
-    more = {
+    about = {
         "between": "is greater than the next field",
         "fromto": "isn't less than the next field: for one commit, end on the next one",
-    }
-    return more.get(answer.command.word, "isn't before the next field: for one day, end on the next one")
+    }.get(answer.command.word, "isn't before the next field: for one day, end on the next one")
+    return about if field.role in (Role.POINT, Role.COUNT) else ""
 
 
-def no_table(_: Field, answer: Answer) -> str:
+def no_table(field: Field, answer: Answer) -> str:
+    if field.role is not Role.TABLE or field.text in answer.tables:
+        return ""
     there = ", ".join(answer.tables)
     return f"isn't a table; the tables are {there}" if there else "isn't a table: make it by a `table` record before"
 
 
 def no_column(field: Field, answer: Answer) -> str:
-    table = field.table or Schema("the table", ())
+    table = field.table
+    if field.role not in COLUMNS or table is None or field.column:
+        return ""
     if field.role is not Role.KEY:
         return f"isn't a column of {table.name}; {listed(table.names)}"
     columns = ", ".join(table.names) or "none is there"
@@ -162,81 +149,48 @@ def no_column(field: Field, answer: Answer) -> str:
 
 
 def wrong_kind(field: Field, answer: Answer) -> str:
-    texts = answer.command.front
+    """Of an aggregate the function's column is at fault; of a join the second of the first pair of two kinds."""
+    texts, other = answer.command.front, field.number - 1
+    if field.role is not Role.COLUMN:
+        return ""
     if answer.command.word == "agg":
-        return f"is a text, but {texts[2]} needs an int"
-    one, other = ("an int", "a text") if field.kind is Kind.INT else ("a text", "an int")
-    return f"is {one}, but field {field.number}, {texts[field.number - 1]}, is {other}"
+        return f"is a text, but {texts[2]} needs an int" if field.kind is Kind.TEXT else ""
+    before = next((one for one in fields_of(answer) if one.number == other and one.role is Role.COLUMN), field)
+    if field.number % 2 == 0 or field.kind is before.kind:
+        return ""
+    kinds = ("an int", "a text") if field.kind is Kind.INT else ("a text", "an int")
+    return f"is {kinds[0]}, but field {field.number}, {texts[other]}, is {kinds[1]}"
 
 
-def future(_: Field, answer: Answer) -> str:
+def future(field: Field, answer: Answer) -> str:
+    if field.role is not Role.SUFFIX:
+        return ""
     if answer.command.in_together:
         after = "ask for a later one, such as its load's, after the block's end"
         return f"is a later commit than the one that the block reads, {answer.commits}; {after}"
     return f"is a commit that doesn't exist yet: the newest is {answer.commits}; `log` lists them"
 
 
-# Whether a field is at fault, which is given with the fields before it.
-
-def is_bad_point(answer: Answer, field: Field, _: Sequence[Field]) -> bool:
-    is_open = answer.command.word == "check" and field.text == "-"
-    return field.role is Role.POINT and not is_open and forms.read_point(field.text) is None
+def named_twice(field: Field, answer: Answer) -> str:
+    before = [(one.text, one.role) for one in fields_of(answer) if one.number < field.number]
+    return "is given twice" if field.role in COLUMNS and (field.text, field.role) in before else ""
 
 
-def is_bad_number(_: Answer, field: Field, __: Sequence[Field]) -> bool:
-    if field.role in (Role.COUNT, Role.SUFFIX):
-        return not forms.is_count(field.text)
-    return is_value(field, Kind.INT) and not forms.is_integer(field.text)
+def is_text(field: Field) -> bool:
+    return field.role is Role.VALUE and field.kind is Kind.TEXT
 
 
-def is_value(field: Field, kind: Kind) -> bool:
-    return field.role is Role.VALUE and field.kind is kind
-
-
-def is_wrong_kind(answer: Answer, field: Field, before: Sequence[Field]) -> bool:
-    """Whether it is the function's column of an aggregate; of a join the second of the first pair with two kinds."""
-    if field.role is not Role.COLUMN:
-        return False
-    if answer.command.word == "agg":
-        return field.kind is Kind.TEXT
-    return field.number % 2 == 1 and before[-1].role is Role.COLUMN and field.kind is not before[-1].kind
-
-
-NAMES, COLUMNS = (Role.TABLE, Role.COLUMN, Role.KEY), (Role.COLUMN, Role.KEY)
-
-
-class Rule(NamedTuple):
-    """A refusal for a field: whether a field is at fault, its mistake, and the remedy."""
-
-    is_at_fault: Callable[[Answer, Field, Sequence[Field]], bool]
-    about: Union[str, Callable[[Field, Answer], str]]
-
-
-RULES = {
-    "BadName": Rule(lambda _, field, __: field.role in NAMES and not forms.is_name(field.text), bad_name),
-    "BadPoint": Rule(is_bad_point, lambda field, _: of_point(field.text)),
-    "BadNumber": Rule(is_bad_number, bad_number),
-    "BadPeriod": Rule(lambda _, field, __: field.role in (Role.POINT, Role.COUNT), bad_period),
-    "TwiceNamed": Rule(
-        lambda _, field, before: field.role in COLUMNS and field[1:3] in [one[1:3] for one in before], "is given twice",
-    ),
-    "TableExists": Rule(
-        lambda _, field, __: field.role is Role.TABLE,
-        "exists already: one `table` record makes it, and a load adds rows",
-    ),
-    "Future": Rule(lambda _, field, __: field.role is Role.SUFFIX, future),
-    "NoTable": Rule(lambda answer, field, _: field.role is Role.TABLE and field.text not in answer.tables, no_table),
-    "NoColumn": Rule(
-        lambda _, field, __: bool(field.role in COLUMNS and field.table and field.column is None), no_column,
-    ),
-    "WrongKind": Rule(is_wrong_kind, wrong_kind),
-    "TooLong": Rule(
-        lambda _, field, __: is_value(field, Kind.TEXT) and not forms.is_short(field.text), "has more than 4,096 bytes",
-    ),
-    "BadUtf8": Rule(
-        lambda _, field, __: is_value(field, Kind.TEXT) and not forms.is_utf8(field.text),
-        "isn't UTF-8; `iconv -f WINDOWS-1252 -t UTF-8` converts a file from Windows",
-    ),
+RULES: Dict[str, Callable[[Field, Answer], str]] = {
+    "BadName": bad_name, "BadNumber": bad_number, "BadPeriod": bad_period, "TwiceNamed": named_twice,
+    "Future": future, "NoTable": no_table, "NoColumn": no_column, "WrongKind": wrong_kind,
+    # A check of a table without rows names no point.
+    "BadPoint": lambda field, answer: "" if field.role is not Role.POINT or (
+        answer.command.word, field.text) == ("check", "-") else of_point(field.text),
+    "TableExists": lambda field, _: "exists already: one `table` record makes it, and a load adds rows" * (
+        field.role is Role.TABLE),
+    "TooLong": lambda field, _: "has more than 4,096 bytes" * (is_text(field) and not forms.is_short(field.text)),
+    "BadUtf8": lambda field, _: "isn't UTF-8; `iconv -f WINDOWS-1252 -t UTF-8` converts a file from Windows" * (
+        is_text(field) and not forms.is_utf8(field.text)),
 }
 
 
@@ -247,18 +201,17 @@ def described(answer: Answer) -> str:
 
 
 def reason(answer: Answer) -> str:
-    """Returns why a command was refused."""
     name = answer.refused.name
-    about = OF_RECORDS.get(name)
-    if about is not None:
-        return about if isinstance(about, str) else about(answer)
-    fields, rule = fields_of(answer), RULES.get(name)
-    found = [one for place, one in enumerate(fields) if rule and rule.is_at_fault(answer, one, fields[:place])]
-    if not rule or not found:
-        return f"see {answer.command.word} in docs/LANGUAGE.md"
-    text = rule.about if isinstance(rule.about, str) else rule.about(found[0], answer)
-    has_space = name.startswith("Bad") and found[0].text != found[0].text.strip()
-    return f"{found[0].shown}, {text}{'; spaces are part of a field, so leave none next to a comma' * has_space}"
+    of_record = OF_RECORDS.get(name)
+    if of_record is not None:
+        return of_record if isinstance(of_record, str) else of_record(answer)
+    rule = RULES.get(name, lambda _, __: "")
+    for field in fields_of(answer):
+        about = rule(field, answer)
+        if about:
+            has_space = name.startswith("Bad") and field.text != field.text.strip()
+            return f"{field.shown}, {about}{'; spaces are part of a field, so leave none next to a comma' * has_space}"
+    return f"see {answer.command.word} in docs/LANGUAGE.md"
 
 
 # Refusals of whole records.
@@ -278,14 +231,12 @@ def wrong_width(answer: Answer) -> str:
 
 
 def bad_command(answer: Answer) -> str:
-    record, command = answer.refused.record, answer.command
-    if record is not command.record:
-        return bad_part(record, command)
+    command, texts = answer.command, answer.command.record.fields
+    if answer.refused.record is not command.record:
+        return bad_part(answer.refused.record, command)
     if command.word == "end":
         return "an end without a block"
-    texts = record.fields
-    kinds = range(3, key_place(texts), 2) if command.word == "table" else range(0)
-    for index in kinds:
+    for index in range(3, key_place(texts), 2) if command.word == "table" else ():
         if texts[index] not in ("int", "text"):
             return f"field {index + 1}, {visible(to_record([texts[index]]))}, isn't a KIND, int or text"
     form = command.form.text
@@ -296,13 +247,12 @@ def bad_command(answer: Answer) -> str:
 
 def bad_part(record: Record, command: Command) -> str:
     """Returns the mistake in a record of a block."""
-    wanted = command.form.part
-    remedy = f"; each begins with the word {wanted}"
+    remedy = f"; each begins with the word {command.form.part}"
     if record.word in COMMANDS:
         remedy = "; is its end missing before it?"
     elif is_like_end(record):
         remedy = "; its end is just the word end"
-    return f"a {command.word} has only {wanted} records, not {visible(record.text)}{remedy}"
+    return f"a {command.word} has only {command.form.part} records, not {visible(record.text)}{remedy}"
 
 
 def no_word(word: str) -> str:

@@ -24,11 +24,10 @@ class Running:
     """Runs the program on a script. Its messages on standard error are shown."""
 
     def __init__(self, program: str, script: bytes) -> None:
-        self.program = program
+        self.program, self.printed = program, tempfile.TemporaryFile()
         with tempfile.TemporaryFile() as given:
             given.write(script)
             given.seek(0)
-            self.printed = tempfile.TemporaryFile()
             try:
                 self.process = subprocess.Popen([program], stdin=given, stdout=self.printed)
             except OSError as error:
@@ -62,8 +61,7 @@ def output(program: str, script: bytes) -> bytes:
 def named(word: str) -> Tuple[str, str]:
     """Returns the name of a question, or nothing, and the question.
 
-    A name is the text before a `=` that comes before the first comma: no command's word has that sign. It consists of
-    visible characters, and blanks between them.
+    A name is the text before a `=` that comes before the first comma: no command's word has that sign.
     """
     name, mark, question = word.partition("=")
     if not mark or "," in name:
@@ -106,7 +104,6 @@ def with_questions(script: bytes, questions: Sequence[str]) -> Source:
 
 
 def lines_of(questions: Sequence[str], source: Source) -> List[int]:
-    """Returns the line on which each question begins."""
     counts = (count_lines(line_of(question)) for question in questions)
     return list(accumulate(counts, initial=(source.own_lines or 0) + 1))[:-1]
 
@@ -184,7 +181,6 @@ class Version(NamedTuple):
 
 
 def version_of(record: Sequence[str]) -> Version:
-    """Returns the version that a record of an answer to `between` has."""
     row_id, start, end, made, closed, *values = record
     return Version(int(row_id), start, end, int(made), int(closed) if closed else None, tuple(values))
 
@@ -199,11 +195,9 @@ class Versions:
 
     @cached_property
     def all(self) -> List[Version]:
-        """All versions."""
         return list(map(version_of, self.table.texts()))
 
     def at(self, commit: int) -> List[Version]:
-        """Returns the rows of a commit."""
         if self.last[0] != commit:
             is_there = (one.made <= commit and (one.closed is None or commit < one.closed) for one in self.all)
             self.last = commit, list(compress(self.all, is_there))
@@ -219,7 +213,6 @@ class Versions:
 
 
 def versions_of(name: str) -> str:
-    """Returns the question for all versions of a table."""
     return f"between,{name},0,{NEWEST}"
 
 
@@ -228,7 +221,7 @@ class Past:
 
     def __init__(self, program: str, script: Source, output: bytes, begun: Sequence[Command],
                  found: Sequence[Answer]) -> None:
-        self.program, self.front = program, front_of(script, output, begun)
+        self.program, (self.script, self.output, self.records) = program, front_of(script, output, begun)
         self.tables = found[-1].tables if found else {}
         self.newest = max((answer.commits for answer in found), default=0)
         self.known: Dict[str, Answer] = {}
@@ -240,23 +233,21 @@ class Past:
         Raises Misfit if the program doesn't print the script's own answers again.
         """
         after = b"".join(map(line_of, questions))
-        printed = output(self.program, self.front.script + after)
-        if not printed.startswith(self.front.output):
+        printed = output(self.program, self.script + after)
+        if not printed.startswith(self.output):
             why = "it was run again on the same script, and printed other answers"
             raise Misfit(f"{self.program}: {why}: {NAMED_BY}")
-        reading = Reading(Source(printed[len(self.front.output):]))
+        reading = Reading(Source(printed[len(self.output):]))
         reading.tables, reading.commits = self.tables, self.newest
-        return list(reading.answers(commands(Source(after, 0), self.front.records + 1)))
+        return list(reading.answers(commands(Source(after, 0), self.records + 1)))
 
     def ask(self, *questions: str) -> List[Answer]:
         """Returns the answers to questions after the script. New ones are asked in one run."""
         new = [one for one in dict.fromkeys(questions) if one not in self.known]
-        if new:
-            self.known.update(zip(new, self.run(*new)))
+        self.known.update(zip(new, self.run(*new) if new else ()))
         return [self.known[one] for one in questions]
 
     def versions(self, name: str) -> Versions:
-        """Returns all versions of a table."""
         if name not in self.read:
             self.read[name] = Versions(*self.ask(versions_of(name)))
         return self.read[name]
@@ -268,29 +259,21 @@ class Past:
         return {int(number): (int(added), int(closed)) for number, *_, added, closed in log.table.texts()}
 
 
-class Front(NamedTuple):
-    """The complete statements of a script, ready for more lines after them; their answers and number of records."""
-
-    script: bytes
-    output: bytes
-    records: int
-
-
-def front_of(script: Source, output: bytes, begun: Sequence[Command]) -> Front:
-    """Returns the complete statements of a script with these commands.
+def front_of(script: Source, output: bytes, begun: Sequence[Command]) -> Tuple[bytes, bytes, int]:
+    """Returns the complete statements of a script, ready for more lines; their answers and number of records.
 
     If the last one has no `end`, it is left out with its answer, which is one line. An open quote of the last record is
     closed.
     """
     last = next((command for command in reversed(begun) if not command.in_together), None)
     if last is None:
-        return Front(b"", output, 0)
+        return b"", output, 0
     text, first, number = script.data, script.byte_of(last.line), last.record.number
     if not last.is_ended:
-        return Front(text[:first], output[:output.rfind(b"\n", 0, -1) + 1], number - 1)
+        return text[:first], output[:output.rfind(b"\n", 0, -1) + 1], number - 1
     if last.form.part or last.form.answered is Answered.TOGETHER:
-        return Front(text.rstrip(b"\r\n") + b"\n", output, number + len(last.block))
-    return Front(text[:first] + encode(to_record(last.record.fields)) + b"\n", output, number)
+        return text.rstrip(b"\r\n") + b"\n", output, number + len(last.block)
+    return text[:first] + encode(to_record(last.record.fields)) + b"\n", output, number
 
 
 class Beginnings:
@@ -299,12 +282,11 @@ class Beginnings:
     def __init__(self, found: Sequence[Answer]) -> None:
         self.made: Dict[str, int] = {}
         self.filled: Dict[str, int] = {}
-        for answer in found:
-            word = answer.command.word
-            if not answer.refusal and word in ("table", "load"):
-                begun = self.made if word == "table" else self.filled
-                if word == "table" or len(answer.command.rows):
-                    begun.setdefault(answer.command.record.fields[1], answer.commits)
+        for command, commit in ((one.command, one.commits) for one in found if not one.refusal):
+            if command.word == "table":
+                self.made[command.record.fields[1]] = commit
+            elif command.word == "load" and len(command.rows):
+                self.filled.setdefault(command.record.fields[1], commit)
 
     def notes_of(self, answer: Answer) -> Iterator[str]:
         """Names the tables of a query that have no rows yet at the commit of its suffix."""
@@ -323,12 +305,7 @@ def refuse_other_bytes(name: str, kept: bytes, now: bytes) -> None:
     for line, both in lines if kept != now else ():
         if both[0] != both[1]:
             where = f"{'standard input' if name == '-' else name}, line {line}"
-            has, prints = ("no more" if one is None else shown_line(one) for one in both)
-            remedy = "without --answers the program answers this script"
-            other = f"these answers are of another script or question; {remedy}"
+            texts = (one and one.rstrip(b"\n").decode("utf-8", "surrogateescape") for one in both)
+            has, prints = ("no more" if one is None else visible(str(one)) for one in texts)
+            other = "these answers are of another script or question; without --answers the program answers this script"
             raise Misfit(f"{where}: it has {has}, and the program prints {prints}: {other}")
-
-
-def shown_line(line: bytes) -> str:
-    """Returns a line of answers without its LF, for a person."""
-    return visible(line[:-1 if line.endswith(b"\n") else None].decode("utf-8", "surrogateescape"))

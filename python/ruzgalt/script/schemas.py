@@ -1,7 +1,7 @@
 """The columns of a table, and of the answer to each command."""
 from dataclasses import dataclass, field
 from enum import Enum
-from typing import Callable, Dict, Iterable, Iterator, List, Optional, Sequence, Tuple, Union
+from typing import Callable, Dict, Iterable, Iterator, List, NamedTuple, Optional, Sequence, Tuple, Union
 
 from ruzgalt.errors import Misfit
 from ruzgalt.script import naming
@@ -13,13 +13,10 @@ MOST_COLUMNS = 16
 
 
 class Kind(Enum):
-    INT = "int"
-    TEXT = "text"
-    POINT = "point"
+    INT, TEXT, POINT = "int", "text", "point"
 
 
-@dataclass(frozen=True)
-class Column:
+class Column(NamedTuple):
     name: str
     kind: Kind
 
@@ -50,7 +47,6 @@ class Schema:
 
     @property
     def fields(self) -> List[str]:
-        """The record that makes the table."""
         columns = [text for column in self.columns for text in (column.name, column.kind.value)]
         key = ["key", *(self.names[place] for place in self.key)] if self.key else []
         return ["table", self.name, *columns, *key]
@@ -121,8 +117,6 @@ PERIOD = [Column("valid_from", Kind.POINT), Column("valid_to", Kind.POINT)]
 COMMIT = [*ints("number", "caller"), Column("kind", Kind.TEXT), Column("of_table", Kind.TEXT), *ints("added", "closed")]
 VERDICT = [Column("verdict", Kind.TEXT), Column("reason", Kind.TEXT), *ints("count", "part", "row_id", "other_row_id")]
 DIVISION = [*ints("part", "row_id"), Column("instant", Kind.POINT)]
-
-
 # An answer's own columns, which precede the table's.
 OWN: Dict[Answered, List[Column]] = {
     Answered.ROWS: [*ints("row_id"), *PERIOD],
@@ -148,7 +142,6 @@ def header(command: Command, tables: Dict[str, Schema]) -> List[Column]:
 
 
 def of_steps(front: Sequence[str], table: Schema) -> List[Column]:
-    """Returns the group's column, the period, and the value's column, named by function and column."""
     named = front[2] if front[2] == "count" else "_".join(front[2:4])
     group = [table.columns[table.index_of(front[-1])]] if group_of(front) else []
     # The period is found by its names, so it keeps them if the group has one of them.
@@ -157,7 +150,6 @@ def of_steps(front: Sequence[str], table: Schema) -> List[Column]:
 
 
 def group_of(front: Sequence[str]) -> Optional[str]:
-    """Returns the column after `by`, if an aggregate has one."""
     return front[-1] if len(front) in (5, 6) and front[-2] == "by" else None
 
 
@@ -194,5 +186,4 @@ def wanted_in(of: Union[Schema, Table], where: Where) -> List[Tuple[int, str]]:
 
 
 def has_values(record: Sequence[str], wanted: Sequence[Tuple[int, str]]) -> bool:
-    """Returns whether a record has all of these values."""
     return all(record[place] == value for place, value in wanted)
