@@ -624,7 +624,7 @@ FILES: Cases = [
     *[("loaded", load_of(f"{P},Müller,1"), MÜLLER.encode(name), f"--encoding {name}")
       for name in ("cp1252", "cp850", "mac_roman", "utf-16", "utf-16-le")],
     ("refused", "byte 21 isn't ascii", MÜLLER, "--encoding ascii"),
-    ("refused", "byte 1 isn't punycode", f"-{ONE[0]}", "--encoding punycode"),
+    ("refused", "isn't punycode", f"-{ONE[0]}", "--encoding punycode"),
     ("refused", "not in the header: Name; it has '\\ufeffName'", f"\ufeff\ufeff{PLAIN}", ""),
     ("refused", "it has '# export'", f"# export\n{PLAIN}", ""), ("refused", "line 2: 1 fields", ["# half", *ONE], ""),
     ("refused", "line 2: 1 fields", PLAIN.replace(",", ";", 3), ""),
