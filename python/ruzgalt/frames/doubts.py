@@ -26,7 +26,7 @@ from ruzgalt.lint.texts import NO_VALUES, folds
 MOST_TEXTS, MOST_ROWS = 20_000, 4_000
 # Frames of fewer rows may well have no common value.
 FEW = 2
-# Ends from the one on and before the other may mean no end, like in files (load/dates.is_far_off).
+# Ends from the one on and before the other may mean no end, as in files (script/forms.is_far_off).
 FAR, FARTHEST = map(instants.second_of, ("2099-01-01", "9999-01-01"))
 REMEDY = (
     "they differ only in spaces, capitals, accents of their own, zeros in front, or .0 at the end: "
