@@ -144,11 +144,15 @@ fn push_ends(ends: &mut Vec<u32>, start: usize, more: &[u32]) -> Result<(), NoMe
     ensures err { OnErr result (ends.new.items ≡ ends.old.items) }
 {
     let count = ends.len();
-    for end in more {
-        if let Err(error) = ends.push((start + *end as usize) as u32) {
-            ends.truncate(count);
-            return Err(error.into());
-        }
+    let shifted = more.iter().map(
+        |end: &u32| -> u32
+            requires { start + end.now < 2 ^ 32 }
+            ensures { result ≡ start + end.now }
+        { (start + *end as usize) as u32 },
+    );
+    if let Err(error) = ends.extend(shifted) {
+        ends.truncate(count);
+        return Err(error);
     }
     Ok(())
 }

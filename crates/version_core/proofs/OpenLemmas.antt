@@ -1,7 +1,7 @@
 -- The positions of open versions, and what a change does at them.
-use Rattle.std.proofs.Common.{◌≡◌, ℕ, ◌+◌, ◌*◌, ◌<◌, ◌≤◌, List, [], ◌∷◌, ◌++◌, Bool, true, false, ◌&&◌, cond, Some, length, map, take, get_or, zero, suc, add-one, refl, ap, sym, ◌∙◌, arith, append_assoc, length-append}
+use Rattle.std.proofs.Common.{◌≡◌, ℕ, ◌+◌, ◌*◌, ◌<◌, ◌≤◌, List, [], ◌∷◌, ◌++◌, Bool, true, false, ◌&&◌, cond, Some, length, map, take, get_or, suc, refl, ap, sym, ◌∙◌, arith, append_assoc, length-append}
 use Rattle.std.specs.Prelude.{slice_get, slice_set, filter, fold, count_by, unwrap_or, option_map, flat_map, All}
-use Rattle.std.specs.List.{cons_option, AllByRecursion, range_with_len}
+use Rattle.std.specs.List.{cons_option, AllByRecursion}
 use Rattle.std.proofs.lemmas.List.{append-nil, length-map, take_more, length_push}
 use Rattle.std.proofs.lemmas.List.Elements.{filter_map-append, filter-append, All-from_recursion}
 use Rattle.std.proofs.lemmas.Grind.{flat_map-append}
@@ -285,14 +285,6 @@ parts_at-taken c vs taken e =
     ap (parts_at c vs) e
     ∙ ap (flat_map (λ (v : Version). parts_of c v.row)) (picked-places_from (is_taken c) vs)
     ∙ parts-taken c vs
-
-pub range_with_len-push : (a n : ℕ) → range_with_len a (n + 1) ≡ range_with_len a n ++ (a + n) ∷ []
-range_with_len-push a zero = ap (λ k. k ∷ []) (omega arith)
-range_with_len-push a (suc n) =
-    rw add-one
-    (ap (λ l. a ∷ l)
-    (ap (range_with_len (a + 1)) (sym (add-one n)) ∙ range_with_len-push (a + 1) n
-    ∙ ap (λ k. range_with_len (a + 1) n ++ k ∷ []) (omega arith)))
 
 -- one position more, removed or kept
 

@@ -98,11 +98,9 @@ fn push_places(places: &mut Vec<u32>, first: usize, count: usize) -> Result<(), 
     ensures err { OnErr result (places.new.items ≡ places.old.items) }
 {
     let before = places.len();
-    for place in first..first + count {
-        if let Err(error) = places.push(place as u32) {
-            places.truncate(before);
-            return Err(error.into());
-        }
+    if let Err(error) = places.extend(first as u32..(first + count) as u32) {
+        places.truncate(before);
+        return Err(error);
     }
     Ok(())
 }

@@ -154,13 +154,7 @@ fn push_system_periods(
         ≡ system_periods.old.items ++ replicate count (record { from = commit; to = None })) }
     ensures err { OnErr result (system_periods.new.items ≡ system_periods.old.items) }
 {
-    let before = system_periods.len();
-    let system_period = SystemPeriod::since(commit);
-    for _ in 0..count {
-        if let Err(error) = system_periods.push(system_period) {
-            system_periods.truncate(before);
-            return Err(error.into());
-        }
-    }
+    system_periods.reserve(count)?;
+    system_periods.resize(system_periods.len() + count, SystemPeriod::since(commit))?;
     Ok(())
 }

@@ -1,20 +1,11 @@
-use Rattle.std.proofs.Common.{◌≡◌, ◌+◌, ◌-◌, ◌∙◌, ◌++◌, ◌∷◌, [], append_assoc, sym, ap, arith}
-use Rattle.std.specs.List.{range_with_len}
-use Rattle.version_core.proofs.OpenLemmas.{range_with_len-push}
+use Rattle.std.proofs.Common.{◌∙◌, ◌+◌, ◌++◌, ap, arith, map-id, sym}
+use Rattle.std.proofs.lemmas.Iterator.{YieldsList-from_range, items_from_drains}
 use Rattle.version_core.proofs.places.push_places.Goals as goal
 
-pub loop-place-preserved : goal.loop-place-preserved
-loop-place-preserved c =
-    let from = c.loop-place.auto.place in
-    let n : c.loop-place.place + 1 - c.args.first ≡ c.loop-place.place - c.args.first + 1 = omega arith in
-    let last : c.loop-place.place ≡ c.args.first + (c.loop-place.place - c.args.first) = omega arith in
-    record {
-      start = c.loop-place.invariant.start;
-      pushed = c.in_default.ensures.items ∙ ap (λ l. l ++ c.loop-place.place ∷ []) c.loop-place.invariant.pushed
-          ∙ append_assoc c.args.places.now.items (range_with_len c.args.first (c.loop-place.place - c.args.first))
-          (c.loop-place.place ∷ [])
-          ∙ ap (λ l. c.args.places.now.items ++ l)
-          (ap (λ k. range_with_len c.args.first (c.loop-place.place - c.args.first) ++ k ∷ []) last
-          ∙ sym (range_with_len-push c.args.first (c.loop-place.place - c.args.first))
-          ∙ ap (range_with_len c.args.first) (sym n));
-    }
+-- the range gave each position
+pub returns-clause-ok : goal.returns-clause-ok
+returns-clause-ok c =
+    let ran = c.in_default.ensures.ran in
+    let all = YieldsList-from_range c.args.first (c.args.first + c.args.count) c.args.count ran.2 (omega arith) in
+    ran.3.0 ∙ ap (λ l. c.args.places.now.items ++ l)
+    (sym (map-id ran.1) ∙ items_from_drains ran.1 (ran.4.1.0, ran.4.1.1, λ _. (ran.4.0, ran.4.1.2)) all)
