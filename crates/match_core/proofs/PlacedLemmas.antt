@@ -1,13 +1,22 @@
 -- Rows as items by their indices, in any order of the indices.
-use Rattle.std.proofs.Common.{◌≡◌, ◌<◌, ◌≤◌, Bool, true, false, ℕ, zero, suc, ◌+◌, List, [], ◌∷◌, ◌++◌, length, map, take, get_or, Option, Some, None, unwrap_or, option_map, refl, sym, subst, ap, ◌∙◌, arith}
+use Rattle.std.proofs.Common.{◌≡◌, ◌<◌, ◌≤◌, Bool, true, false, ℕ, zero, suc, ◌+◌, List, [], ◌∷◌, ◌++◌, length, map, set, take, get_or, Option, Some, None, unwrap_or, option_map, refl, sym, subst, ap, ◌∙◌, append-nil, arith}
 use Rattle.std.specs.Prelude.{All, IsPermutation, IsTrue, slice_get}
+use Rattle.std.specs.Global.{Vec}
 use Rattle.std.specs.List.{IsAllAdjacentAnswer}
 use Rattle.std.specs.Ordering.{is_le, nat_cmp, partial_le}
 use Rattle.std.specs.List.Sorted.{IsNonDecreasingBy}
-use Rattle.std.proofs.lemmas.List.{get_or-map, length-map, map_more, take_all}
+use Rattle.std.proofs.lemmas.List.{get_or-map, length-map, map-append, map_more, take_all, take_more_set}
 use Rattle.std.proofs.lemmas.List.Elements.{All-cons}
 use Rattle.std.proofs.lemmas.Bool.Decides.{nat_tests}
 use Rattle.std.proofs.lemmas.List.Sorted.{All-permutation, IsNonDecreasingBy-from_all_adjacent, IsPermutation-map, IsPermutation-refl, length_permutation}
+use Rattle.list_core.specs.Chunks.{all_in}
+use Rattle.work_core.specs.Pieces.{items_within}
+use Rattle.work_core.specs.Ranges.{range}
+use Rattle.work_core.specs.Shares.{GivesFrom}
+use Rattle.work_core.specs.declared.range.Range.{Range}
+use Rattle.work_core.specs.declared.shares.Cut.{Cut}
+use Rattle.work_core.proofs.PieceLemmas.{piece_cut}
+use Rattle.work_core.proofs.ShareLemmas.{all_come}
 use Rattle.row_core.specs.declared.row.Row.{Row}
 use Rattle.dip_core.specs.declared.item.Item.{Item}
 use Rattle.match_core.specs.declared.row_items.ClassedPlace.{ClassedPlace}
@@ -94,6 +103,19 @@ placed_from-numbered numbers place (o ∷ old) (c ∷ classes) count each =
     (placed_from-numbered numbers (suc place) old classes (omega (arith, count))
     (λ i h. each (suc i) (omega (arith, h))))
 
+-- one more index with the number of its class, written in place
+pub numbered-more : (numbers : List ℕ) (old places : List ClassedPlace) (i : ℕ) (d : ClassedPlace)
+    → length places ≡ length old → i < length old → get_or places i d ≡ get_or old i d
+    → take i places ≡ map (numbered_by numbers) (take i old)
+    → take (i + 1) (set places i (numbered_by numbers (get_or places i d)))
+    ≡ map (numbered_by numbers) (take (i + 1) old)
+numbered-more numbers old places i d long inside same done =
+    let number = numbered_by numbers in
+    take_more_set places i (number (get_or places i d)) (omega (arith, long, inside))
+    ∙ ap (λ (l : List ClassedPlace). l ++ number (get_or places i d) ∷ []) done
+    ∙ ap (λ (at : ClassedPlace). map number (take i old) ++ number at ∷ []) same
+    ∙ sym (map_more number old i d inside)
+
 -- the indices after the first belong to the rows after the first
 placed_behind : (r : Row) (rows : List Row) (place : ℕ) (classes : List ℕ)
     → map (item_placed (r ∷ rows)) (placed_from (suc place) classes)
@@ -122,6 +144,29 @@ item_placed-more rows places i at row x inside here is =
     ∙ ap (λ (o : Option Row). map (item_placed rows) (take i places)
     ++ option_map (λ (r : Row). item_with r p.class) o ∷ []) (sym here)
     ∙ sym (map_more (item_placed rows) places i at inside)
+
+-- the items at a range of indices
+abbrev GivenItems : List Row → List ClassedPlace → Range ℕ → Vec Item → Type 0
+GivenItems rows places part items =
+    ℕ × (Range ℕ × (map Some items.items ≡ map (item_placed rows) (items_within part places)))
+
+-- the items at all ranges of indices together are the items at all indices
+pub placed-pieces : (rows : List Row) (places : List ClassedPlace) (cuts : List (Cut ℕ)) (lists : List (Vec Item))
+    → GivesFrom nat_cmp (GivenItems rows places) None cuts lists
+    → map Some (all_in lists) ≡ map (item_placed rows) places
+placed-pieces rows places cuts lists given =
+    all_come nat_cmp (GivenItems rows places)
+    (λ (part : Range ℕ) (ls : List (Vec Item)). map Some (all_in ls) ≡ map (item_placed rows) (items_within part places))
+    (λ part items one. ap (map Some) (append-nil items.items) ∙ one.1.1)
+    (λ from at items ls begun one rest.
+    (let front = items_within (range from (Some at)) places in
+    let back = items_within (range (Some at) None) places in
+    map-append Some items.items (all_in ls)
+    ∙ ap (λ l. l ++ map Some (all_in ls)) one.1.1
+    ∙ ap (λ l. map (item_placed rows) front ++ l) rest
+    ∙ sym (map-append (item_placed rows) front back)
+    ∙ ap (map (item_placed rows)) (sym (piece_cut from at places begun))))
+    None cuts lists given
 
 -- unwrapping a list of `Some`
 there : {X : Type 0} (d : X) (xs : List X) → map (λ o. unwrap_or o d) (map Some xs) ≡ xs

@@ -72,22 +72,16 @@ pub(crate) fn number_rows(ranks: &mut [u64], numbers: &[u64])
     }
 }
 
-/// Returns the indices with each rank replaced by its number.
-pub(crate) fn number_places(
-    alloc: Global,
-    places: &[ClassedPlace],
-    numbers: &[u64],
-) -> Result<Vec<ClassedPlace>, NoMemory>
-    requires { All (λ at. at.class < length numbers.now) places.now }
-    ensures { IfOk result
-        (λ numbered. numbered.items ≡ map (numbered_by numbers.now) places.now) }
+/// Replaces the rank at each index by that rank's number.
+pub(crate) fn number_places(places: &mut [ClassedPlace], numbers: &[u64])
+    requires { All (λ at. at.class < length numbers.now) places.old }
+    ensures { places.new ≡ map (numbered_by numbers.now) places.old }
 {
-    let mut numbered = Vec::with_capacity(alloc, places.len())?;
-    for at in places {
-        numbered.push(ClassedPlace {
+    for i in 0..places.len() {
+        let at = places[i];
+        places[i] = ClassedPlace {
             class: numbers[at.class as usize],
             place: at.place,
-        })?;
+        };
     }
-    Ok(numbered)
 }

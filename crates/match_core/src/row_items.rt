@@ -2,6 +2,7 @@
 
 ghost use Rattle.std.specs.Prelude.{◌≡◌, ◌<◌, ◌≤◌, All, IfOk, IsPermutation, IsTrue, Some, length, map};
 ghost use Rattle.std.specs.List.Sorted.{IsNonDecreasingBy};
+ghost use Rattle.std.specs.Thread.{IsSync};
 ghost use Rattle.match_core.specs.declared.row_items.ClassedPlace.{ClassedPlace};
 ghost use Rattle.match_core.specs.ClassedPlaces.{AreByClass, item_placed, placed_from};
 ghost use Rattle.match_core.specs.Items.{AreItemsByClass, item_with, items_in_range, items_of};
@@ -11,11 +12,14 @@ ghost use Rattle.table_core.specs.Lent.{lent_row};
 use crate::NoMemory;
 use crate::classes::Classes;
 use dip_core::Item;
+use list_core::in_one_list;
 use std::alloc::Global;
 use std::thread::{Threads, join};
 use table_core::{RowRef, SharedRows};
 use work_core::tuning::ROWS_FOR_THREAD;
-use work_core::{Crew, Range, items_within, places_within, sort_unstable_by_key};
+use work_core::{
+    Crew, Range, Shares, items_within, places_within, shared_out, sort_unstable_by_key,
+};
 
 /// A row's index and its class. Sorting moves these instead of the row's item, which is more than twice as large.
 #[derive(Clone, Copy, Debug)]
@@ -41,8 +45,8 @@ pub fn items(alloc: Global, rows: &SharedRows) -> Result<Vec<Item>, NoMemory>
     Ok(items)
 }
 
-/// Returns the rows of both sides as items with their classes, lower classes first. With many rows and at least two
-/// workers, one thread makes the left items and another the right ones.
+/// Returns the rows of both sides as items with their classes, lower classes first. With many rows, half of the workers
+/// make the left items and the others the right ones.
 ///
 /// # Errors
 ///
@@ -62,12 +66,7 @@ pub fn items_of_sides<R: Threads + Sync, G>(
     ensures right { IfOk result (λ both.
         AreItemsByClass right.now classes.right.items both.1.items) }
 {
-    let Crew {
-        rt,
-        alloc,
-        workers,
-        ..
-    } = *crew;
+    let (rt, alloc, workers) = (crew.rt, crew.alloc, crew.workers);
     // Frees the classes by row before it allocates items.
     let Classes {
         left_places,
@@ -77,22 +76,25 @@ pub fn items_of_sides<R: Threads + Sync, G>(
     let lefts = left_places.as_slice();
     let rights = right_places.as_slice();
     if workers < 2 || lefts.len().min(rights.len()) < ROWS_FOR_THREAD {
-        let lefts = items_at(alloc, left, lefts)?;
-        let rights = items_at(alloc, right, rights)?;
+        let lefts = items_by_range(rt, alloc, left, lefts, workers)?;
+        let rights = items_by_range(rt, alloc, right, rights, workers)?;
         return Ok((lefts, rights));
     }
+    let few = workers / 2;
+    let others = workers - few;
     let (lefts, rights) = join(
         rt,
         || -> Result<Vec<Item>, NoMemory>
-            requires { All (λ at. at.place < length left.now) lefts.now }
+            requires { IsSync R.row × (0 < few) × All (λ at. at.place < length left.now) lefts.now }
             ensures { IfOk result (λ items.
                 map Some items.items ≡ map (item_placed left.entry.now) lefts.entry.now) }
-        { items_at(alloc, left, lefts) },
+        { items_by_range(rt, alloc, left, lefts, few) },
         || -> Result<Vec<Item>, NoMemory>
-            requires { All (λ at. at.place < length right.now) rights.now }
+            requires { IsSync R.row × (0 < others)
+                × All (λ at. at.place < length right.now) rights.now }
             ensures { IfOk result (λ items.
                 map Some items.items ≡ map (item_placed right.entry.now) rights.entry.now) }
-        { items_at(alloc, right, rights) },
+        { items_by_range(rt, alloc, right, rights, others) },
     );
     let lefts = lefts?;
     let rights = rights?;
@@ -134,6 +136,33 @@ pub(crate) fn classed_places(alloc: Global, classes: &[u64]) -> Result<Vec<Class
         })?;
     }
     Ok(places)
+}
+
+/// Returns the rows at these indices as items, in the order of the indices. With many indices, each worker makes the
+/// items of a range of them.
+fn items_by_range<R: Threads + Sync>(
+    rt: &R,
+    alloc: Global,
+    rows: &SharedRows,
+    places: &[ClassedPlace],
+    workers: u32,
+) -> Result<Vec<Item>, NoMemory>
+    requires some { 0 < workers }
+    requires within { All (λ at. at.place < length rows.now) places.now }
+    ensures { IfOk result (λ items. map Some items.items ≡ map (item_placed rows.now) places.now) }
+{
+    let shares = Shares::of(alloc, places.len(), workers, &|i: usize| i)?;
+    let lists = shared_out(
+        rt,
+        alloc,
+        &shares,
+        &|range: Range<usize>, _workers: u32| -> Result<Vec<Item>, NoMemory>
+            requires { All (λ at. at.place < length rows.now) places.now }
+            ensures { IfOk result (λ items. map Some items.items
+                ≡ map (item_placed rows.entry.now) (items_within range places.entry.now)) }
+        { items_at(alloc, rows, items_within(range, places)) },
+    )?;
+    in_one_list(alloc, lists)
 }
 
 /// Returns the rows at these indices as items, in the order of the indices.

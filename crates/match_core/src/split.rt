@@ -44,9 +44,10 @@ pub(crate) fn refine<R: Threads + Sync, V: Ord + Copy + Send + Sync, S: Comparab
 {
     let (lefts, rights) = ranked_sides::<R, V, S>(rt, alloc, left, right, workers)?;
     let numbers = numbers_of(alloc, &lefts.firsts, &rights.firsts)?;
-    let right_places = number_places(alloc, &rights.places, &numbers)?;
     let mut right = rights.ranks;
     number_rows(&mut right, &numbers);
+    let mut right_places = rights.places;
+    number_places(&mut right_places, &numbers);
     // Left indices are already in ascending order of class. So are the right ones, except those of values without an
     // equal left value. Sorting a list that is in order takes one pass.
     Ok(Classes {

@@ -1,4 +1,4 @@
-use Rattle.std.proofs.Common.{◌≡◌, ◌∙◌, ◌<◌, Global, List, Some, Vec, ap, length, map, subst, sym}
+use Rattle.std.proofs.Common.{◌≡◌, ◌∙◌, ◌<◌, Global, List, Some, Vec, ap, length, map, rules, subst, sym}
 use Rattle.std.specs.Prelude.{All}
 use Rattle.std.proofs.lemmas.Result.{IfOk-at_ok}
 use Rattle.dip_core.specs.declared.item.Item.{Item}
@@ -7,15 +7,15 @@ use Rattle.match_core.specs.ClassedPlaces.{item_placed}
 use Rattle.match_core.proofs.PlacedLemmas.{by_class-items, by_class-within}
 use Rattle.match_core.proofs.row_items.items_of_sides.Goals as goal
 
-pub items_at-requires : goal.items_at-requires
-items_at-requires g c =
+pub items_by_range-requires-clause-within : goal.items_by_range-requires-clause-within
+items_by_range-requires-clause-within g c = λ κs outlives.
     subst (λ (l : List ClassedPlace). All (λ (at : ClassedPlace). at.place < length c.args.left.now) l)
     (sym c.as_slice-lefts.ensures.value)
     (by_class-within c.args.left.now c.args.classes.left.items c.args.classes.left_places.items
     c.requires.left c.requires.left_places)
 
-pub items_at-requires-then-workers-lt2 : goal.items_at-requires-then-workers-lt2
-items_at-requires-then-workers-lt2 g c =
+pub items_by_range-requires-then-workers-lt2-clause-within : goal.items_by_range-requires-then-workers-lt2-clause-within
+items_by_range-requires-then-workers-lt2-clause-within g c = λ κs outlives.
     subst (λ (l : List ClassedPlace). All (λ (at : ClassedPlace). at.place < length c.args.right.now) l)
     (sym c.as_slice-rights.ensures.value)
     (by_class-within c.args.right.now c.args.classes.right.items c.args.classes.right_places.items
@@ -33,9 +33,7 @@ join-lefts-requires-after_bounds g c κs within =
     (sym c.as_slice-rights.ensures.value)
     (by_class-within c.args.right.now c.args.classes.right.items c.args.classes.right_places.items
     c.requires.right c.requires.right_places) in
-    let both : All (λ (at : ClassedPlace). at.place < length c.args.left.now) c.as_slice-lefts.result.now
-    × All (λ (at : ClassedPlace). at.place < length c.args.right.now) c.as_slice-rights.result.now = (lefts, rights) in
-    both
+    search rules
 
 pub returns-then-workers-lt2-clause-left : goal.returns-then-workers-lt2-clause-left
 returns-then-workers-lt2-clause-left g c =

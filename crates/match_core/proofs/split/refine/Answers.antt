@@ -22,7 +22,7 @@ number_rows-requires g c k d lt =
     let at = ap (λ (l : List ℕ). get_or l k d) c.deref_mut.ensures.value in
     let len = ap length c.deref_mut.ensures.value in
     let firsts = ap length c.deref-2.ensures.value in
-    let numbers = ap length c.deref-5.ensures.value in
+    let numbers = ap length c.deref-3.ensures.value in
     let inside : k < length ranks = omega (arith, lt, len) in
     let rank = (right.each k (omega (arith, inside, count))).within in
     let same = get_or_default ranks k d 0 inside in
@@ -37,6 +37,16 @@ kept g c =
     let old = c.in_ok-lefts.rights.ranks.items in
     written_back old c.number_rows.new.ranks c.in_ok-lefts.rights.ranks.len
     (c.number_rows.auto.ranks ∙ ap length c.deref_mut.ensures.value) (sym c.in_ok-lefts.rights.ranks.ok.0)
+
+-- the right indices after they were written
+kept_places : (g : Over) (c : After-drop-lefts-2 g)
+    → take c.in_ok-lefts.rights.places.len
+    (c.number_places.new.places ++ drop (length c.number_places.new.places) c.in_ok-lefts.rights.places.items)
+    ≡ c.number_places.new.places
+kept_places g c =
+    let old = c.in_ok-lefts.rights.places.items in
+    written_back old c.number_places.new.places c.in_ok-lefts.rights.places.len
+    (c.number_places.auto.places ∙ ap length c.deref_mut-2.ensures.value) (sym c.in_ok-lefts.rights.places.ok.0)
 
 pub returns-clause-left : goal.returns-clause-left
 returns-clause-left g c = c.in_ok-lefts.ensures.left.ranked.count
@@ -72,7 +82,7 @@ returns-clause-split g c =
           (subst (λ (l : List (Cell g.row.V.Denot)). AreMatched cmp c.deref.result.now l numbers)
           c.deref-2.ensures.value c.in_ok-numbers.ensures);
       numbered = subst (λ (l : List ℕ). AreNumbered l numbers c.number_rows.new.ranks) c.deref_mut.ensures.value
-          (subst (λ (l : List ℕ). AreNumbered c.deref_mut.result.now l c.number_rows.new.ranks) c.deref-5.ensures.value
+          (subst (λ (l : List ℕ). AreNumbered c.deref_mut.result.now l c.number_rows.new.ranks) c.deref-3.ensures.value
           c.number_rows.ensures);
     } in
     subst (λ (l : List ℕ). Refines (one ++ other) (xs ++ ys) (ranks ++ l)) (sym (kept g c))
@@ -93,7 +103,7 @@ number_places-requires g c =
     let same = get_or_default ranks k d 0 lt in
     omega (arith, same, rank, matched, firsts, numbers)) in
     let P = λ (at : ClassedPlace). at.class < length c.deref-4.result.now in
-    subst (λ (l : List ClassedPlace). All P l) (sym c.deref-3.ensures.value)
+    subst (λ (l : List ClassedPlace). All P l) (sym c.deref_mut-2.ensures.value)
     (All-permutation P (placed_from 0 ranks) places c.in_ok-lefts.ensures.right.placed
     (placed_from-below 0 ranks (length c.deref-4.result.now) below))
 
@@ -109,8 +119,8 @@ returns-clause-right_places g c =
     let ranks = c.in_ok-lefts.rights.ranks.items in
     let new = c.number_rows.new.ranks in
     let places = c.in_ok-lefts.rights.places.items in
-    let made = c.in_ok-right_places.right_places.items in
-    let numbers = c.deref-5.result.now in
+    let made = c.number_places.new.places in
+    let numbers = c.deref-3.result.now in
     let number = numbered_by numbers in
     let lent = c.deref_mut.ensures.value in
     let count : length new ≡ length ranks = c.number_rows.auto.ranks ∙ ap length lent in
@@ -118,15 +128,17 @@ returns-clause-right_places g c =
     subst (λ (l : List ℕ). AreNumbered l numbers new) lent c.number_rows.ensures in
     let all : map number (placed_from 0 ranks) ≡ placed_from 0 new = placed_from-numbered numbers 0 ranks new count known in
     let same : made ≡ map number places =
-    c.in_ok-right_places.ensures
-    ∙ ap (λ (l : List ClassedPlace). map (numbered_by c.deref-4.result.now) l) c.deref-3.ensures.value
-    ∙ ap (λ (l : List ℕ). map (numbered_by l) places) (c.deref-4.ensures.value ∙ sym c.deref-5.ensures.value) in
+    c.number_places.ensures
+    ∙ ap (λ (l : List ClassedPlace). map (numbered_by c.deref-4.result.now) l) c.deref_mut-2.ensures.value
+    ∙ ap (λ (l : List ℕ). map (numbered_by l) places) (c.deref-4.ensures.value ∙ sym c.deref-3.ensures.value) in
     let moved : IsPermutation (placed_from 0 new) made =
     subst (λ (l : List ClassedPlace). IsPermutation l made) all
     (subst (IsPermutation (map number (placed_from 0 ranks))) (sym same)
     (IsPermutation-map number (placed_from 0 ranks) places c.in_ok-lefts.ensures.right.placed)) in
     record {
       same = subst (λ (l : List ℕ). IsPermutation (placed_from 0 l) c.by_class-2.result.items) (sym (kept g c))
-          (IsPermutation-trans (placed_from 0 new) made c.by_class-2.result.items moved c.by_class-2.ensures.same);
+          (IsPermutation-trans (placed_from 0 new) made c.by_class-2.result.items moved
+          (subst (λ (l : List ClassedPlace). IsPermutation l c.by_class-2.result.items) (kept_places g c)
+          c.by_class-2.ensures.same));
       rise = c.by_class-2.ensures.rise;
     }
