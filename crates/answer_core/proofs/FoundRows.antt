@@ -36,7 +36,7 @@ first_low rows k x d rise some here within =
     omega (arith, there, same)
 
 -- an id is at one index
-one_place : (rows : List Row) → RowsRise rows → (i k : ℕ) (d : Row) → i < length rows → k < length rows
+pub one_place : (rows : List Row) → RowsRise rows → (i k : ℕ) (d : Row) → i < length rows → k < length rows
     → (get_or rows i d).id ≡ (get_or rows k d).id → i ≡ k
 one_place rows rise i k d hi hk same = elim (cases_lt i k) [
   | inl less ↦ (

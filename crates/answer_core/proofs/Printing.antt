@@ -72,7 +72,7 @@ errors_in-division rows parts instant =
       errors_in-part_records 0 parts,
     )
 
--- The record at the index of an item is that of the item.
+-- The record at an item's index is the item's.
 pub record_at-map : {T : Type 0} (record_of : T → Record) (xs : List T) (i : ℕ) (x : T) → slice_get xs i ≡ Some x
     → get_or (map record_of xs) i [] ≡ record_of x
 record_at-map record_of xs i x is =

@@ -40,8 +40,8 @@ impl<'a> Model for RowsById<'a> {
 }
 
 impl<'a> RowsById<'a> {
-    /// Prepares the rows for a search by id. It stores at most 4 numbers of 32 bits for each row, and at most
-    /// 1,000,000, whatever the ids are.
+    /// Prepares the rows for a search by id. If the ids aren't consecutive, it stores at most 4 numbers of 32 bits for
+    /// each row, and at most 1,000,000, whatever the ids are.
     ///
     /// # Errors
     ///
@@ -59,8 +59,8 @@ impl<'a> RowsById<'a> {
         })
     }
 
-    /// Returns the row with the id, or `None`. The time is constant if the id's distance from the first id is below
-    /// the number of stored indices; otherwise it is a binary search.
+    /// Returns the row with the id, or `None`. The time is constant if the ids are consecutive, or if the id's distance
+    /// from the first id is below the number of stored indices; otherwise it is a binary search.
     pub(crate) fn get(&self, id: u64) -> Option<RowRef<'a>>
         ensures { option_map lent_row result ≡ find (λ row. row.id == id) self.now }
     {
@@ -79,7 +79,7 @@ fn first_id(rows: &SharedRows) -> u64
     rows.at(0).id()
 }
 
-/// Returns how many indices are stored.
+/// Returns how many indices are stored: none if the ids are consecutive, for example of rows that never changed.
 fn count_of_places(rows: &SharedRows, first: u64) -> usize
     ensures limit { result ≤ place_limit }
     ensures few { result ≤ 4 * length rows.now }
@@ -89,6 +89,10 @@ fn count_of_places(rows: &SharedRows, first: u64) -> usize
         return 0;
     }
     let apart = rows.at(len - 1).id().saturating_sub(first);
+    if apart == len as u64 - 1 {
+        // The ids are consecutive, and each row's index is its distance from the first.
+        return 0;
+    }
     let most = len.min(PLACE_LIMIT / PLACES_PER_ROW) * PLACES_PER_ROW;
     if apart < most as u64 {
         apart as usize + 1
@@ -145,7 +149,9 @@ fn place_of(rows: &SharedRows, first: u64, places: &[u32], id: u64) -> usize
         → result ≡ k }
 {
     let at = id.saturating_sub(first);
-    if at < places.len() as u64 {
+    if at < rows.len() as u64 && rows.at(at as usize).id() == id {
+        at as usize
+    } else if at < places.len() as u64 {
         places[at as usize] as usize
     } else {
         place_by_halves(rows, id)
