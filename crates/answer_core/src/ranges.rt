@@ -1,4 +1,4 @@
-//! Prints a list of records on several workers, each of which prints a partition of it.
+//! Prints a list of records on several workers: each prints a range of it.
 ghost use Rattle.std.specs.Prelude.{◌≡◌, ◌<◌, ◌++◌, [], List, get_or, length, IfOk, OnOk};
 ghost use Rattle.csv.specs.Writing.{row_text};
 ghost use Rattle.list_core.specs.Chunks.{all_in};
@@ -14,7 +14,7 @@ use std::alloc::Global;
 use std::thread::Threads;
 use work_core::{Crew, Range, Shares, places_within, shared_out};
 
-/// A list of records, each of which can be printed by itself.
+/// A list of records that can be printed one by one.
 pub(crate) trait RecordList: Sync {
     // The records.
     ghost records: { Self → List Record };
@@ -84,11 +84,11 @@ impl AnswerWriter {
     ) -> Result<(), NoMemory>
         ensures { OnOk result (Adds self.old self.new (L.records list.now)) }
     {
-        let shares = Shares::of(crew.alloc, list.len(), crew.workers, &|index: usize| index)?;
+        let shares = Shares::by_index(crew.alloc, list.len(), crew.workers)?;
         self.by_ranges(crew, &shares, list)
     }
 
-    /// Appends the records of a list. Each partition has a worker of its own.
+    /// Appends the records of a list, one text for each partition.
     pub(crate) fn by_ranges<R: Threads + Sync, G, L: RecordList>(
         &mut self,
         crew: &Crew<'_, R, G>,

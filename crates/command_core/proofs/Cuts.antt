@@ -1,9 +1,9 @@
 -- When the first records of a list belong to one command.
-use Rattle.std.proofs.Common.{◌≡◌, ℕ, zero, suc, ◌+◌, ◌<◌, ◌≤◌, List, [], ◌∷◌, ◌++◌, length, take, drop, true, false, All, Some, None, Option, refl, ap, subst, ◌∙◌, arith, inr}
-use Rattle.std.specs.List.{slice_get}
-use Rattle.std.specs.Option.{IfSome}
+use Rattle.std.proofs.Common.{◌≡◌, ℕ, suc, ◌+◌, ◌<◌, ◌≤◌, List, [], ◌∷◌, ◌++◌, length, take, drop, true, false, Some, None, Option, refl, ap, subst, sym, ◌∙◌, arith, inr, get_or-take, length-take}
+use Rattle.std.specs.List.{AllWithin, HoldsAt, slice_get}
+use Rattle.std.specs.Option.{IfSome, MatchOption}
 use Rattle.std.proofs.lemmas.List.{drop_all, take_all}
-use Rattle.std.proofs.lemmas.List.Elements.{All-append}
+use Rattle.std.proofs.lemmas.Option.{slice_get-get_or}
 use Rattle.command_core.specs.Records.{Record}
 use Rattle.command_core.specs.Words.{is_end, opens_block}
 use Rattle.command_core.specs.Meaning.{Meaning, Means, MeansBlock, MeansRecord, IsBody, block_meaning, record_meaning, refuse, meaning_or_refusal}
@@ -35,15 +35,21 @@ block-means (y ∷ ys) x number n meaning rest r e opens within before last mean
           means = means;
         }
 
--- One more record that doesn't end the block.
-pub IsBody-more : (xs : List Record) (x : Record) → IsBody xs → is_end x ≡ false → IsBody (xs ++ x ∷ [])
-IsBody-more xs x body e = All-append (λ line. is_end line ≡ false) xs (x ∷ []) body one
-  where
-    one : All (λ line. is_end line ≡ false) (x ∷ [])
-    one zero d lt = e
-    one (suc k) d lt = absurd (omega arith)
+-- The first record that ends a block, with the block's body before it.
+pub first-end : (lines : List Record) (found : Option ℕ)
+    → MatchOption found (AllWithin (λ line. is_end line ≡ false) lines 0 (length lines))
+    (λ n. (n < length lines) × HoldsAt (λ line. is_end line ≡ true) lines n
+    × AllWithin (λ line. is_end line ≡ false) lines 0 n)
+    → IfSome found (λ n. IsBody (take n lines))
+    × IfSome found (λ n. IfSome (slice_get lines n) (λ line. is_end line ≡ true))
+first-end lines None none = (tt, tt)
+first-end lines (Some n) (within, ends, before) = (
+  λ k line inside.
+      let sooner : k < n = omega (arith, length-take n lines, inside) in
+      subst (λ l. is_end l ≡ false) (sym (get_or-take n lines k line sooner)) (before k line (omega arith) sooner),
+  subst (λ o. IfSome o (λ line. is_end line ≡ true)) (sym (slice_get-get_or lines n [] within)) (ends []),
+)
 
--- A block whose `end` isn't among the records.
 pub unended-means : (xs : List Record) (x : Record) (number size : ℕ) (rest : List Record) → size ≡ length xs
     → rest ≡ drop 1 xs → slice_get xs 0 ≡ Some x → opens_block x ≡ true → IsBody rest
     → Means number (take size xs) (drop size xs) (refuse number Unended)

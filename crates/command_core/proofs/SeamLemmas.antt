@@ -3,9 +3,9 @@ use Rattle.std.proofs.Common.{◌≡◌, ◌≢◌, ◌⊎◌, ℕ, suc, ◌+◌
 use Rattle.std.specs.Prelude.{◌↔◌, IfOk, IfSome, IsFalse, IsTrue, MatchBool, nat_eq, not}
 use Rattle.std.specs.List.{starts_with}
 use Rattle.std.proofs.lemmas.Bool.{cases_Bool, eq-eqb, eqb-true, ne_eqb}
-use Rattle.std.proofs.lemmas.Option.{same_Some}
+use Rattle.std.proofs.lemmas.Option.{same_Some, slice_get_read}
 use native.Mathlib.Decide.{dec_lt}
-use Rattle.std.proofs.lemmas.List.{drop-drop, drop_all, get_or-map, get_or_read, length-map, take-append-drop}
+use Rattle.std.proofs.lemmas.List.{drop-drop, drop_all, get_or_default, get_or-map, get_or_read, length-map, take-append-drop}
 use Rattle.csv.specs.Machine.{Read, ends_at_end, field_after, fields_after, in_field, is_end, next_record, start_field, start_record, step}
 use Rattle.csv.specs.Reading.{AreRecords, Reached, default_config, is_bom, strip_bom}
 use Rattle.csv.specs.declared.parser.Action.{Action}
@@ -485,25 +485,21 @@ piece-le text (p ∷ pieces) (suc i) other within =
       length-append (text p) (joined (map text pieces)),
     )
 
--- If all answers are found, each is the records of its piece.
-pub all_found : {V E : Type 0} (texts : List (List ℕ)) (answers : List (Result (List Record) E))
-    (items : V → List (List Record)) → length answers ≡ length texts
-    → ((i : ℕ) (answer : Result (List Record) E) → i < length texts → answer ≡ get_or answers i answer
-    → IfOk answer (λ records. AreScriptRecords (get_or texts i []) records))
-    → (result : Result V E) → IfOk result (λ found. answers ≡ map Ok (items found))
+-- If each list has the records of the piece with its index, all are read.
+pub all_read : {V E : Type 0} (texts : List (List ℕ)) (items : V → List (List Record)) (result : Result V E)
+    → IfOk result (λ found. length (items found) ≡ length texts)
+    → IfOk result (λ found. (i : ℕ) (records : List Record) → slice_get (items found) i ≡ Some records
+    → AreScriptRecords (get_or texts i []) records)
     → IfOk result (λ found. AreRead texts (items found))
-all_found texts answers items len each (Err e) is = tt
-all_found {V} {E} texts answers items len each (Ok found) is =
-    let made : List Record → Result (List Record) E = λ x. Ok x in
-    let count : length texts ≡ length (items found) =
-    omega (arith, len, ap (λ (l : List (Result (List Record) E)). length l) is, length-map (items found) made) in (
-      count,
-      λ i within.
-          let one : Result (List Record) E = Ok (get_or (items found) i []) in
-          each i one within
-          (sym (ap (λ (l : List (Result (List Record) E)). get_or l i one) is
-          ∙ get_or-map made (items found) i [] one (omega (arith, count, within)))),
-    )
+all_read texts items (Err e) len each = tt
+all_read texts items (Ok found) len each = (
+  sym len,
+  λ i within.
+      let lists = items found in
+      let list = get_or lists i [] in
+      let inside : i < length lists = omega (arith, within, len) in
+      each i list (slice_get_read lists (length lists) i list refl inside (get_or_default lists i [] list inside)),
+)
 
 -- The seam between two neighbouring pieces.
 pub seam-at : {P : Type 0} (text : P → List ℕ) (pieces : List P) (lists : List (List Record)) (place : ℕ) (p : P)

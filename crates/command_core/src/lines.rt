@@ -2,6 +2,7 @@
 ghost use Rattle.std.specs.Prelude.{◌≡◌, ◌-◌, ◌<◌, ◌≤◌, length, take, drop, slice_get, Some};
 
 use crate::line::Line;
+use crate::line_iter::LineIter;
 use crate::records::Records;
 
 /// Consecutive records of a script.
@@ -44,6 +45,13 @@ impl<'a> Lines<'a> {
         ensures { slice_get (lines_in self.entry) place ≡ Some (fields_in result) }
     {
         self.records.line(self.from + place)
+    }
+
+    /// Returns an iterator over the records.
+    pub fn iter(self) -> LineIter<'a>
+        ensures { result ≡ lines_in self.entry }
+    {
+        self.records.range(self.from, self.to)
     }
 
     /// Returns the records at indices `from..to` of these.

@@ -143,12 +143,7 @@ pub(crate) fn body_len(lines: Lines<'_>) -> Option<usize>
         (λ n. IfSome (slice_get (lines_in lines.entry) n) (λ line. is_end line ≡ true)) }
     ensures none { IfNone result (IsBody (lines_in lines.entry)) }
 {
-    for place in 0..lines.len() {
-        if is_end(lines.get(place)) {
-            return Some(place);
-        }
-    }
-    None
+    lines.iter().position(is_end)
 }
 
 /// Returns the first command of the records, which must not be empty. `number` is the number of the first record.

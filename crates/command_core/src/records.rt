@@ -1,10 +1,11 @@
 //! The records of a script, and how many of them were consumed.
-ghost use Rattle.std.specs.Prelude.{◌≡◌, ◌+◌, ◌<◌, ◌≤◌, ◌^◌, drop, length, slice_get, IfSome, Some};
+ghost use Rattle.std.specs.Prelude.{◌≡◌, ◌+◌, ◌-◌, ◌<◌, ◌≤◌, ◌^◌, drop, length, slice_get, take, IfSome, Some};
 ghost use Rattle.command_core.specs.Lines.{fields_in};
 ghost use Rattle.command_core.specs.Seams.{joined};
 
 use crate::batch::Batch;
 use crate::line::Line;
+use crate::line_iter::{LineIter, line_and_rest};
 use std::marker::Model;
 
 /// Records of a script. Contracts see the list of the records that weren't consumed yet, each a list of its fields'
@@ -57,7 +58,16 @@ impl Records {
         requires { place < length self.now }
         ensures { slice_get self.now place ≡ Some (fields_in result) }
     {
-        line_in(&self.batches, self.passed + place)
+        line_and_rest(&self.batches, self.passed + place).0
+    }
+
+    /// Returns the records at indices `from..to`, counted from the first one left.
+    pub(crate) fn range(&self, from: usize, to: usize) -> LineIter<'_>
+        requires ordered { from ≤ to }
+        requires within { to ≤ length self.now }
+        ensures { result ≡ take (to - from) (drop from self.entry.now) }
+    {
+        LineIter::new(&self.batches, self.passed + from, to - from)
     }
 
     /// Consumes the next `count` records. Frees the batches that have consumed records only.
@@ -90,21 +100,6 @@ fn give_back(batches: &mut Vec<Batch>, passed: usize) -> usize
         gone += len;
     }
     gone
-}
-
-/// Returns the record of all batches at an index.
-fn line_in(batches: &[Batch], place: usize) -> Line<'_>
-    requires { place < length (joined batches.now) }
-    ensures { slice_get (joined batches.now) place ≡ Some (fields_in result) }
-{
-    let mut left = place;
-    for batch in batches {
-        if left < batch.len() {
-            return batch.line(left);
-        }
-        left -= batch.len();
-    }
-    unreachable!()
 }
 
 /// Returns the number of records of all batches.

@@ -1,6 +1,7 @@
 //! Reads the records of a script that arrives in several texts. Workers parse the pieces of a text in parallel.
 ghost use Rattle.std.specs.Prelude.{◌≡◌, ◌⊎◌, ◌+◌, ◌<◌, ◌≤◌, ◌^◌, ◌++◌, [], List, ℕ, suc, drop, take, length, get_or, map, IfOk, OnOk};
 ghost use Rattle.command_core.specs.Records.{AreScriptRecords};
+ghost use Rattle.work_core.specs.Limits.{worker_limit};
 ghost use Rattle.command_core.specs.Seams.{AreOfFront, AreRead, EndsInField, HasNoCut, IsCutWithin, joined};
 
 use crate::batch::Batch;
@@ -10,9 +11,8 @@ use crate::seams::{are_seams, end_in_fields, last_cut, pieces_of};
 use period_core::NoMemory;
 use std::alloc::Global;
 use std::marker::Model;
-use std::thread;
 use std::thread::Threads;
-use work_core::all_found;
+use work_core::{WORKER_LIMIT, call_each};
 
 /// Reads the records of a script as `csv` reads them, without a header and of any length. Contracts see the list of the
 /// records already read, each a list of its fields' bytes.
@@ -99,7 +99,7 @@ impl ScriptReader {
     }
 }
 
-/// Returns the records of a text, in consecutive lists. Workers each read a piece; if a piece ends within a record, one
+/// Returns the records of a text, in consecutive lists. Workers read pieces of it; if a piece ends within a record, one
 /// thread reads the whole text again.
 fn read_text<R: Threads + Sync>(
     rt: &R,
@@ -112,8 +112,9 @@ fn read_text<R: Threads + Sync>(
     ensures seams { IfOk result (λ read. (i : ℕ) → suc i < length read.items
         → EndsInField (get_or read.items i [])) }
 {
+    let workers = workers.clamp(1, WORKER_LIMIT);
     let pieces = pieces_of(alloc, text, workers)?;
-    let mut read = read_each(rt, alloc, &pieces)?;
+    let mut read = read_each(rt, alloc, &pieces, workers)?;
     if !are_seams(&pieces, &read) {
         read.clear();
         read.push(read_piece(alloc, text)?)?;
@@ -132,25 +133,28 @@ fn add_batches(batches: &mut Vec<Batch>, pieces: Vec<PieceRecords>) -> Result<()
     Ok(())
 }
 
-/// Returns the records of each piece. Each piece is read on a thread of its own if one can be started.
+/// Returns the records of each piece. Each worker reads the next piece when it is done with one.
 fn read_each<R: Threads + Sync>(
     rt: &R,
     alloc: Global,
     pieces: &[&[u8]],
+    workers: u32,
 ) -> Result<Vec<PieceRecords>, NoMemory>
-    requires { length (joined (map (λ p. p.now) pieces.now)) < 2 ^ 31 }
+    requires few { length pieces.now < 2 ^ 32 }
+    requires workers { (0 < workers) × (workers ≤ worker_limit) }
+    requires bytes { length (joined (map (λ p. p.now) pieces.now)) < 2 ^ 31 }
     ensures { IfOk result (λ lists. AreRead (map (λ p. p.now) pieces.now) lists.items) }
 {
-    let read = thread::map_indices(
+    call_each(
         rt,
         alloc,
         pieces.len(),
+        workers,
         &|number: usize| -> Result<PieceRecords, NoMemory>
             requires { (number < length pieces.now)
                 × (length (joined (map (λ p. p.now) pieces.now)) < 2 ^ 31) }
             ensures { IfOk result (λ records. AreScriptRecords
                 (get_or (map (λ p. p.now) pieces.entry.now) number []) records) }
         { read_piece(alloc, pieces[number]) },
-    )?;
-    all_found(alloc, read)
+    )
 }

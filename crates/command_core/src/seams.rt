@@ -1,13 +1,16 @@
 //! Cuts a script after line ends, so that its pieces can be read one by one. A record begins after most line ends, but
 //! not after one between quotes.
-ghost use Rattle.std.specs.Prelude.{◌≡◌, ◌≢◌, ◌↔◌, ℕ, ◌+◌, ◌<◌, ◌≤◌, ◌/◌, [], get_or, length, map, max, min, false, true, IfOk, IfSome, IsFalse, IsTrue, MatchBool, Some};
+ghost use Rattle.std.specs.Prelude.{◌≡◌, ◌≢◌, ◌↔◌, ℕ, ◌+◌, ◌*◌, ◌<◌, ◌≤◌, ◌/◌, [], get_or, length, map, max, min, false, true, IfOk, IfSome, IsFalse, IsTrue, MatchBool, Some};
 ghost use Rattle.csv.specs.Machine.{line_feed};
 ghost use Rattle.csv.specs.Reading.{strip_bom};
+ghost use Rattle.work_core.specs.Limits.{worker_limit};
 ghost use Rattle.command_core.specs.Seams.{AreSeams, EndsInField, HasNoCut, IsCut, IsSeam, joined, last};
 
 use crate::piece::PieceRecords;
 use period_core::NoMemory;
 use std::alloc::Global;
+use work_core::ranges_for;
+use work_core::tuning::RANGES_OF_WORKER;
 
 /// The least bytes of a piece: with fewer, a worker would finish before the next one had started.
 const BYTES_OF_PIECE: usize = 1_048_576;
@@ -18,22 +21,23 @@ const ROW: &[u8] = b"row,";
 /// How far from the wanted cut, in bytes, a row's record is searched for. Few records are longer.
 const BYTES_LOOKED_AT: usize = 65_536;
 
-/// Cuts a script after line ends, into at most one piece for each worker, of about equal length.
+/// Cuts a script after line ends, into pieces of about equal length for that many workers.
 pub(crate) fn pieces_of<'a>(
     alloc: Global,
     script: &'a [u8],
     workers: u32,
 ) -> Result<Vec<&'a [u8]>, NoMemory>
+    requires { (0 < workers) × (workers ≤ worker_limit) }
     ensures whole { IfOk result (λ pieces.
         joined (map (λ p. p.now) pieces.items) ≡ script.entry.now) }
-    ensures few { IfOk result (λ pieces.
-        length pieces.items ≤ max 1 (min (length script.entry.now / BYTES_OF_PIECE) workers)) }
+    ensures few { IfOk result (λ pieces. length pieces.items
+        ≤ max 1 (min (length script.entry.now / BYTES_OF_PIECE) (workers * RANGES_OF_WORKER))) }
 {
-    let count = (script.len() / BYTES_OF_PIECE).min(workers as usize);
+    let count = ranges_for(script.len() / BYTES_OF_PIECE, workers);
     let mut pieces = Vec::new(alloc);
     let mut rest = script;
     for left in (2..=count).rev() {
-        let Some(cut) = first_cut(rest, rest.len() / left) else {
+        let Some(cut) = first_cut(rest, rest.len() / left as usize) else {
             break;
         };
         let (piece, behind) = rest.split_at(cut);

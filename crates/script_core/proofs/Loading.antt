@@ -1,6 +1,5 @@
 -- Records that are read in order, each by itself.
-use Rattle.std.proofs.Common.{◌≡◌, ℕ, ◌+◌, List, [], ◌∷◌, ◌++◌, drop, Some, Result, Ok, Err, sym, ap, ◌∙◌, arith, append_assoc}
-use Rattle.std.specs.List.{slice_get}
+use Rattle.std.proofs.Common.{◌≡◌, ℕ, ◌+◌, List, [], ◌∷◌, ◌++◌, Result, Ok, Err, sym, ap, ◌∙◌, arith, append_assoc}
 use Rattle.row_core.specs.Refusals.{and_then, map_err, map_ok}
 use Rattle.script_core.specs.Failure.{Failure, IsFailureOf, IsRecordFailure}
 use Rattle.command_core.specs.Records.{Record}
@@ -9,7 +8,6 @@ use Rattle.script_core.specs.Effects.{all_or_fault}
 use Rattle.row_core.specs.declared.failure.Failure.TheVariants.{Refused, NoMemory}
 use Rattle.command_core.specs.declared.refusal.Fault.{Fault}
 use Rattle.command_core.specs.declared.refusal.Refusal.{Refusal}
-use Rattle.command_core.proofs.Cutting.{drop-slice_get}
 
 -- The values already read, followed by the result for the rest.
 abbrev pub behind : {T E : Type 0} → List T → Result (List T) E → Result (List T) E
@@ -36,39 +34,38 @@ behind-refused had first wrong others bad = ap (λ r. behind had (then_others r 
 abbrev one_or_fault : {T : Type 0} → ℕ → Result T Refusal → Result T Fault
 one_or_fault number read = map_err (fault number) read
 
-next_record : {T : Type 0} (read : Record → Result T Refusal) (number place : ℕ) (lines : List Record)
-    (line : Record) → slice_get lines place ≡ Some line
-    → all_or_fault read (number + place) (drop place lines) ≡ then_others (one_or_fault (number + place) (read line))
-    (all_or_fault read (number + (place + 1)) (drop (place + 1) lines))
-next_record read number place lines line e =
+next_record : {T : Type 0} (read : Record → Result T Refusal) (number place : ℕ) (lines rest : List Record)
+    (line : Record) → lines ≡ line ∷ rest
+    → all_or_fault read (number + place) lines ≡ then_others (one_or_fault (number + place) (read line))
+    (all_or_fault read (number + (place + 1)) rest)
+next_record read number place lines rest line e =
     let next : number + place + 1 ≡ number + (place + 1) = omega arith in
-    ap (all_or_fault read (number + place)) (drop-slice_get lines place line e)
-    ∙ ap (λ n. then_others (one_or_fault (number + place) (read line)) (all_or_fault read n (drop (place + 1) lines))) next
+    ap (all_or_fault read (number + place)) e
+    ∙ ap (λ n. then_others (one_or_fault (number + place) (read line)) (all_or_fault read n rest)) next
 
 -- One more record was read.
-pub behind-more : {T : Type 0} (read : Record → Result T Refusal) (number place : ℕ) (lines : List Record)
-    (line : Record) (had : List T) (first : T) → slice_get lines place ≡ Some line → read line ≡ Ok first
-    → behind had (all_or_fault read (number + place) (drop place lines)) ≡ behind (had ++ first ∷ [])
-    (all_or_fault read (number + (place + 1)) (drop (place + 1) lines))
-behind-more read number place lines line had first e good =
-    ap (behind had) (next_record read number place lines line e)
+pub behind-more : {T : Type 0} (read : Record → Result T Refusal) (number place : ℕ) (lines rest : List Record)
+    (line : Record) (had : List T) (first : T) → lines ≡ line ∷ rest → read line ≡ Ok first
+    → behind had (all_or_fault read (number + place) lines) ≡ behind (had ++ first ∷ [])
+    (all_or_fault read (number + (place + 1)) rest)
+behind-more read number place lines rest line had first e good =
+    ap (behind had) (next_record read number place lines rest line e)
     ∙ behind-next had (one_or_fault (number + place) (read line)) first
-    (all_or_fault read (number + (place + 1)) (drop (place + 1) lines)) (ap (one_or_fault (number + place)) good)
+    (all_or_fault read (number + (place + 1)) rest) (ap (one_or_fault (number + place)) good)
 
-behind-wrong : {T : Type 0} (read : Record → Result T Refusal) (number place : ℕ) (lines : List Record)
-    (line : Record) (had : List T) (refusal : Refusal) → slice_get lines place ≡ Some line → read line ≡ Err refusal
-    → behind had (all_or_fault read (number + place) (drop place lines)) ≡ Err (fault (number + place) refusal)
-behind-wrong read number place lines line had refusal e bad =
-    ap (behind had) (next_record read number place lines line e)
+behind-wrong : {T : Type 0} (read : Record → Result T Refusal) (number place : ℕ) (lines rest : List Record)
+    (line : Record) (had : List T) (refusal : Refusal) → lines ≡ line ∷ rest → read line ≡ Err refusal
+    → behind had (all_or_fault read (number + place) lines) ≡ Err (fault (number + place) refusal)
+behind-wrong read number place lines rest line had refusal e bad =
+    ap (behind had) (next_record read number place lines rest line e)
     ∙ behind-refused had (one_or_fault (number + place) (read line)) (fault (number + place) refusal)
-    (all_or_fault read (number + (place + 1)) (drop (place + 1) lines)) (ap (one_or_fault (number + place)) bad)
+    (all_or_fault read (number + (place + 1)) rest) (ap (one_or_fault (number + place)) bad)
 
 -- A record is refused.
-pub behind-failed : {T : Type 0} (read : Record → Result T Refusal) (number place : ℕ) (lines : List Record)
-    (line : Record) (had : List T) (meant : Result (List T) Fault) (failure : Failure)
-    → slice_get lines place ≡ Some line
-    → meant ≡ behind had (all_or_fault read (number + place) (drop place lines))
+pub behind-failed : {T : Type 0} (read : Record → Result T Refusal) (number place : ℕ) (lines rest : List Record)
+    (line : Record) (had : List T) (meant : Result (List T) Fault) (failure : Failure) → lines ≡ line ∷ rest
+    → meant ≡ behind had (all_or_fault read (number + place) lines)
     → IsRecordFailure (number + place) (read line) failure → IsFailureOf meant failure
-behind-failed read number place lines line had meant (Refused wrong) e is (refusal, bad, same) =
-    is ∙ (behind-wrong read number place lines line had refusal e bad ∙ ap Err (sym same))
-behind-failed read number place lines line had meant NoMemory e is h = tt
+behind-failed read number place lines rest line had meant (Refused wrong) e is (refusal, bad, same) =
+    is ∙ (behind-wrong read number place lines rest line had refusal e bad ∙ ap Err (sym same))
+behind-failed read number place lines rest line had meant NoMemory e is h = tt

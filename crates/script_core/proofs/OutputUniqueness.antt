@@ -42,7 +42,7 @@ takes_one number own later statement (inr (inr u)) = (u.opening, u.body ++ u.res
 none_more : (first : Record) (own left : List Record) → [] ≡ (first ∷ own) ++ left → ⊥
 none_more first own left e = cc e
 
--- Without records there is no further statement.
+-- Without records no statement follows.
 pub no_step : (old : Place) (done : Done) (new : Place) → old.left ≡ [] → Step old done new → ⊥
 no_step old done new over s =
     let (first, rest, is) = takes_one old.number s.own new.left done.statement s.states in

@@ -21,7 +21,7 @@ use Rattle.script_core.proofs.OutputUniqueness.{one_list_of_dones, one_outcome}
 
 -- ---- the answers to the records that were read
 
--- The statements of the records are those of the script.
+-- The statements of the records are the script's.
 reads_and : (Writes : List Done → Sink → Sink → Type 0) (before after : Streams) (script : List ℕ)
     (records : List Record) → ReadsScript before.reader after.reader script → AreScriptRecords script records
     → Answering Writes (start_of records) before.writer after.writer → ReadsAnd Writes before after

@@ -1,4 +1,4 @@
--- What a snapshot returns, as a script shows it.
+-- What a snapshot returns, and a script shows.
 use Rattle.std.proofs.Common.{◌≡◌, ℕ, ◌≤◌, List, [], ◌∷◌, Bool, true, false, Some, length, refl}
 use Rattle.std.specs.Prelude.{is_none, nat_lt}
 use Rattle.std.proofs.lemmas.Bool.{le-ltb}
@@ -19,7 +19,7 @@ present : {T : Type 0} (number : ℕ) (late gone : Bool) (rows : T) → late ≡
 present number late true rows e = rw e refl
 present number late false rows e = rw e refl
 
--- The rows that a snapshot returns are those of the commit that it shows.
+-- The rows that a snapshot returns are the rows of the commit that it shows.
 pub rows-reported : (number : ℕ) (h : History) (n : ℕ) (name : List ℕ) → n ≤ length h
     → rows_or_fault number h (Some n) name
     ≡ map_err (λ refused. fault number (table_refusal refused)) (rows_of_snapshot h n name)

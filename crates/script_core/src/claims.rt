@@ -39,8 +39,8 @@ pub(crate) fn read_claim(alloc: Global, lines: Lines<'_>, number: u64) -> Result
         (IsFailureOf (claim_of number (lines_in lines.entry))) }
 {
     let mut claim = Claim::new(alloc);
-    for place in 0..lines.len() {
-        push_part(&mut claim, lines.get(place), number + place as u64)?;
+    for (place, line) in lines.iter().enumerate() {
+        push_part(&mut claim, line, number + place as u64)?;
     }
     Ok(claim)
 }

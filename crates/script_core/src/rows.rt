@@ -53,8 +53,7 @@ fn rows_of_records(
         (IsFailureOf (loaded_rows schema.now number (lines_in lines.entry))) }
 {
     let mut reader = RowReader::new(alloc, schema, room);
-    for place in 0..lines.len() {
-        let line = lines.get(place);
+    for (place, line) in lines.iter().enumerate() {
         reader = read_next(reader, line, number + place as u64)?;
     }
     Ok(reader.into_rows())
@@ -128,7 +127,7 @@ pub(crate) fn loaded_rows<T: Threads + Sync>(
 {
     let Crew { rt, alloc, .. } = *crew;
     let count = lines.len();
-    let shares = Shares::of(alloc, count, crew.workers, &|place: usize| place)?;
+    let shares = Shares::by_index(alloc, count, crew.workers)?;
     if shares.len() == 1 {
         // Most loads have one row or a few, and need no list of ranges.
         return rows_of_records(alloc, schema, lines, number, count);

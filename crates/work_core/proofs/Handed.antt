@@ -5,13 +5,12 @@ use Rattle.std.proofs.lemmas.List.{map-append}
 use Rattle.std.proofs.lemmas.List.Elements.{All-nil, All-push, All-same}
 use Rattle.atomic_table.specs.Table.{Me}
 use Rattle.work_core.specs.declared.claim_view.ClaimView.{ClaimView}
-use Rattle.work_core.specs.declared.job.PairWork as PairWork
 use Rattle.work_core.specs.declared.kept.KeptValues.{KeptValues}
 use Rattle.work_core.specs.declared.numbered.Numbered.{Numbered}
 use Rattle.work_core.specs.Claims.{joined_view}
 use Rattle.work_core.specs.Collected.{AreAtTheirPlaces}
 use Rattle.work_core.specs.Counting.{times}
-use Rattle.work_core.specs.Workers.{numbers_of, count_at, count_kept, KeepsValue, IsOfItsPair, IsRun, AreOfDrawn}
+use Rattle.work_core.specs.Workers.{numbers_of, count_at, count_kept, KeepsValue, IsOfItsCall, IsCalled, AreOfDrawn}
 use Rattle.work_core.proofs.Counting.{times-append, times-other}
 use Rattle.work_core.proofs.PresentValues.{not_none}
 use Rattle.work_core.proofs.Places.{count_at-set, at_their_places-set}
@@ -72,17 +71,17 @@ same_in zero i x = search rules
 same_in (suc n) zero x = refl
 same_in (suc n) (suc i) x = same_in n i x
 
-module _ {W Out : Type 0} (g : PairWork.Ghosts W Out) (w : W) where
-  -- the number drawn last was run, and one more was drawn
-  pub drawn_next : (drawn : List ℕ) (n next : ℕ) (before after : KeptValues Out) → n < g.pairs w
-      → IsRun g w n before after → AreOfDrawn g w drawn (n ∷ []) before
-      → AreOfDrawn g w (drawn ++ next ∷ []) (next ∷ []) after
+module _ {Out : Type 0} (count : ℕ) (IsValue : ℕ → Out → Type 0) where
+  -- the number drawn last was called, and one more was drawn
+  pub drawn_next : (drawn : List ℕ) (n next : ℕ) (before after : KeptValues Out) → n < count
+      → IsCalled IsValue n before after → AreOfDrawn count IsValue drawn (n ∷ []) before
+      → AreOfDrawn count IsValue (drawn ++ next ∷ []) (next ∷ []) after
   drawn_next drawn n next before after below run was =
       let o = run.value in
       let gives = run.gives in
       let keeps = run.keeps in
       let old = before.places.items in
-      let each : (x : ℕ) → x < g.pairs w → 0 < times x (drawn ++ next ∷ [])
+      let each : (x : ℕ) → x < count → 0 < times x (drawn ++ next ∷ [])
       → 0 < count_kept after x + times x (next ∷ []) = λ x inside some.
       one_more (times x drawn) (count_kept before x) (times x (n ∷ [])) (count_kept after x) (times x (next ∷ []))
       (was.each x inside) (kept_more n x o before after keeps)
@@ -90,17 +89,17 @@ module _ {W Out : Type 0} (g : PairWork.Ghosts W Out) (w : W) where
       ⊎_elim
       (λ (inside : n < length old).
       let new = keeps.placed inside in record {
-        placed = subst (AreAtTheirPlaces g w) (sym new.0) (at_their_places-set g w n o old inside gives was.placed);
-        listed = All-same (IsOfItsPair g w) after.values.items before.values.items new.1 was.listed;
+        placed = subst (AreAtTheirPlaces IsValue) (sym new.0) (at_their_places-set IsValue n o old inside gives was.placed);
+        listed = All-same (IsOfItsCall count IsValue) after.values.items before.values.items new.1 was.listed;
         whole = λ all. new.1 ∙ was.whole (let e = ap length new.0 ∙ length-set old n (Some o) in omega (arith, e, all));
         each = each;
       })
       (λ (past : length old ≤ n).
       let new = keeps.listed past in record {
-        placed = subst (AreAtTheirPlaces g w) (sym new.0) was.placed;
-        listed = All-same (IsOfItsPair g w) after.values.items
+        placed = subst (AreAtTheirPlaces IsValue) (sym new.0) was.placed;
+        listed = All-same (IsOfItsCall count IsValue) after.values.items
             (before.values.items ++ record { number = n; value = o } ∷ []) new.1
-            (All-push (IsOfItsPair g w) before.values.items (record { number = n; value = o }) was.listed
+            (All-push (IsOfItsCall count IsValue) before.values.items (record { number = n; value = o }) was.listed
             (record { inside = below; gives = gives }));
         whole = λ all. absurd (let e = ap length new.0 in omega (arith, e, all, below, past));
         each = each;
@@ -109,21 +108,21 @@ module _ {W Out : Type 0} (g : PairWork.Ghosts W Out) (w : W) where
 
   -- one number is drawn, and nothing is kept
   pub drawn_none : (n : ℕ) (kept : KeptValues Out) → kept.places.items ≡ replicate (length kept.places.items) None
-      → kept.values.items ≡ [] → AreOfDrawn g w (n ∷ []) (n ∷ []) kept
+      → kept.values.items ≡ [] → AreOfDrawn count IsValue (n ∷ []) (n ∷ []) kept
   drawn_none n kept none empty = record {
     placed = λ i o there.
         absurd (not_none (Some o)
         (sym there ∙ ap (λ (l : List (Option Out)). slice_index_or l i None) none
         ∙ same_in (length kept.places.items) i None)
         (search rules));
-    listed = All-same (IsOfItsPair g w) kept.values.items [] empty (All-nil (IsOfItsPair g w));
+    listed = All-same (IsOfItsCall count IsValue) kept.values.items [] empty (All-nil (IsOfItsCall count IsValue));
     whole = λ all. empty;
     each = λ x below some. omega (arith, some);
   }
 
-  -- the number drawn last is past the last pair
-  pub drawn_past : (drawn : List ℕ) (n : ℕ) (kept : KeptValues Out) → g.pairs w ≤ n
-      → AreOfDrawn g w drawn (n ∷ []) kept → AreOfDrawn g w drawn [] kept
+  -- the number drawn last is past the last call
+  pub drawn_past : (drawn : List ℕ) (n : ℕ) (kept : KeptValues Out) → count ≤ n
+      → AreOfDrawn count IsValue drawn (n ∷ []) kept → AreOfDrawn count IsValue drawn [] kept
   drawn_past drawn n kept past are = record {
     placed = are.placed;
     listed = are.listed;

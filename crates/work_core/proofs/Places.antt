@@ -9,7 +9,7 @@ use Rattle.std.proofs.Math.Logic.{∥∥₁_elim}
 use Rattle.std.specs.Prelude.{if◌then◌else◌}
 use Rattle.work_core.specs.declared.job.PairWork as PairWork
 use Rattle.work_core.specs.declared.name.PairName.{PairName}
-use Rattle.work_core.specs.Collected.{AreAtTheirPlaces, ArePlaces}
+use Rattle.work_core.specs.Collected.{AreAtTheirPlaces, AreJobPlaces, ArePlaces}
 use Rattle.work_core.specs.Counting.{times}
 use Rattle.work_core.specs.Jobs.{Gives, Shares, AreValues}
 use Rattle.work_core.specs.Workers.{count_at}
@@ -75,6 +75,38 @@ pub some_there : {T : Type 0} (places : List (Option T)) (x : ℕ) → 0 < count
     → IsSome (slice_index_or places x None)
 some_there places x some = is_there (slice_index_or places x None) some
 
+module _ {Out : Type 0} (IsValue : ℕ → Out → Type 0) where
+  -- a value of index i in slot i
+  pub at_their_places-set : (i : ℕ) (o : Out) (places : List (Option Out)) → i < length places → IsValue i o
+      → AreAtTheirPlaces IsValue places → AreAtTheirPlaces IsValue (slice_set places i (Some o))
+  at_their_places-set i o places inside gives are k x read =
+      ⊎_elim
+      (λ (e : k ≡ i).
+      let at_k = ap (λ (j : ℕ). slice_index_or (slice_set places i (Some o)) j None) e in
+      let same : Some x ≡ Some o = sym read ∙ (at_k ∙ get_or-set_same places i (Some o) None inside) in
+      subst (λ (y : Out). IsValue k y) (sym (same_Some x o same)) (subst (λ (j : ℕ). IsValue j o) (sym e) gives))
+      (λ (ne : k ≢ i). are k x (sym (get_or-set_other places i k (Some o) None ne) ∙ read))
+      (cases_eq k i)
+
+  -- the same with a slot for each index
+  pub places-put : (count i : ℕ) (o : Out) (places : List (Option Out)) → i < count → IsValue i o
+      → ArePlaces count IsValue places → ArePlaces count IsValue (slice_set places i (Some o))
+  places-put count i o places inside gives are = record {
+    len = length-set places i (Some o) ∙ are.len;
+    each = at_their_places-set i o places (omega (arith, inside, are.len)) gives are.each;
+  }
+
+  -- a value in each slot, and so a value for each index
+  pub values_of_places : (count : ℕ) (places : List (Option Out)) (outs : List Out) → ArePlaces count IsValue places
+      → places ≡ map (λ (x : Out). Some x) outs
+      → (length outs ≡ count) × ((i : ℕ) (o : Out) → slice_get outs i ≡ Some o → IsValue i o)
+  values_of_places count places outs are e = (
+    (let h = ap (λ (l : List (Option Out)). length l) e in
+        let m = length-map outs (λ (x : Out). Some x) in
+        omega (arith, h, m, are.len)),
+    λ i o at. are.each i o (ap (λ (l : List (Option Out)). slice_index_or l i None) e ∙ mapped_at outs i o at),
+  )
+
 module _ {W Out : Type 0} (g : PairWork.Ghosts W Out) where
   -- a number found by a pair's name has that name
   abbrev pub Named : W → Type 0
@@ -82,7 +114,7 @@ module _ {W Out : Type 0} (g : PairWork.Ghosts W Out) where
 
   -- the slot of a pair is one of the slots
   pub place_inside : (w : W) (p : PairName) (i : ℕ) (places : List (Option Out)) → Named w → g.place_of w p ≡ Some i
-      → ArePlaces g w places → i < length places
+      → AreJobPlaces g w places → i < length places
   place_inside w p i places named at are = let here = named p i at in omega (arith, here.0, are.len)
 
   -- a value of the pair in one job is one of the pair in a job that shares it
@@ -91,41 +123,16 @@ module _ {W Out : Type 0} (g : PairWork.Ghosts W Out) where
   shared_value prop v w p o shares value =
       ∥∥₁_elim value (prop (g.inputs_of w p) o) (λ h. subst (λ (x : g.Inputs). g.IsValue x o) (sym shares.2) h)
 
-  -- a value of pair i in slot i
-  pub at_their_places-set : (w : W) (i : ℕ) (o : Out) (places : List (Option Out)) → i < length places
-      → Gives g w (g.name_of w i) o → AreAtTheirPlaces g w places → AreAtTheirPlaces g w (slice_set places i (Some o))
-  at_their_places-set w i o places inside gives are k x read =
-      ⊎_elim
-      (λ (e : k ≡ i).
-      let at_k = ap (λ (j : ℕ). slice_index_or (slice_set places i (Some o)) j None) e in
-      let same : Some x ≡ Some o = sym read ∙ (at_k ∙ get_or-set_same places i (Some o) None inside) in
-      subst (λ (y : Out). Gives g w (g.name_of w k) y) (sym (same_Some x o same))
-      (subst (λ (j : ℕ). Gives g w (g.name_of w j) o) (sym e) gives))
-      (λ (ne : k ≢ i). are k x (sym (get_or-set_other places i k (Some o) None ne) ∙ read))
-      (cases_eq k i)
-
-  -- the same with a slot for each pair
-  pub places-put : (w : W) (i : ℕ) (o : Out) (places : List (Option Out)) → i < g.pairs w
-      → Gives g w (g.name_of w i) o → ArePlaces g w places → ArePlaces g w (slice_set places i (Some o))
-  places-put w i o places inside gives are = record {
-    len = length-set places i (Some o) ∙ are.len;
-    each = at_their_places-set w i o places (omega (arith, inside, are.len)) gives are.each;
-  }
-
   -- the same by the name of the pair
   pub places-set : (w : W) (p : PairName) (i : ℕ) (o : Out) (places : List (Option Out)) → Named w
-      → g.place_of w p ≡ Some i → Gives g w p o → ArePlaces g w places → ArePlaces g w (slice_set places i (Some o))
+      → g.place_of w p ≡ Some i → Gives g w p o → AreJobPlaces g w places → AreJobPlaces g w (slice_set places i (Some o))
   places-set w p i o places named at gives are =
       let here = named p i at in
-      places-put w i o places here.0 (subst (λ (q : PairName). Gives g w q o) (sym here.1) gives) are
+      places-put (λ j x. Gives g w (g.name_of w j) x) (g.pairs w) i o places here.0 (subst (λ (q : PairName). Gives g w q o) (sym here.1) gives) are
 
   -- a value in each slot, and so the values of all pairs
-  pub values_at_places : (w : W) (places : List (Option Out)) (outs : List Out) → ArePlaces g w places
+  pub values_at_places : (w : W) (places : List (Option Out)) (outs : List Out) → AreJobPlaces g w places
       → places ≡ map (λ (x : Out). Some x) outs → AreValues g w outs
-  values_at_places w places outs are e = record {
-    len =
-        (let h = ap (λ (l : List (Option Out)). length l) e in
-        let m = length-map outs (λ (x : Out). Some x) in
-        omega (arith, h, m, are.len));
-    each = λ i o at. are.each i o (ap (λ (l : List (Option Out)). slice_index_or l i None) e ∙ mapped_at outs i o at);
-  }
+  values_at_places w places outs are e =
+      let values = values_of_places (λ i o. Gives g w (g.name_of w i) o) (g.pairs w) places outs are e in
+      record { len = values.0; each = values.1 }

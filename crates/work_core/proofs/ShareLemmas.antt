@@ -1,10 +1,10 @@
 -- Consecutive ranges and their values.
-use Rattle.std.proofs.Common.{arith, ◌∙◌, suc, map, Result, Ok, Err, IfOk, ◌≡◌, ℕ, zero, suc, ◌+◌, ◌<◌, ◌≤◌, List, [], ◌∷◌, Option, Some, None, refl, sym, ap, length, true, slice_index_or, All, AllPairs}
+use Rattle.std.proofs.Common.{arith, Result, Ok, Err, IfOk, ◌≡◌, ℕ, zero, suc, ◌+◌, ◌<◌, ◌≤◌, List, [], ◌∷◌, Option, Some, None, refl, sym, ap, length, true, slice_get, slice_index_or, All, AllPairs}
 use Rattle.std.specs.declared.cmp.Ordering.{Ordering}
-use Rattle.std.proofs.lemmas.List.{length-map}
-use Rattle.std.proofs.Math.ListN.{get_or-map}
+use Rattle.std.proofs.lemmas.List.Sums.{sum_by-cons}
+use Rattle.std.proofs.lemmas.Option.{slice_get_read}
 use Rattle.work_core.specs.Ranges.{has_begun, range}
-use Rattle.work_core.specs.Shares.{Gives, GivesFrom, IsCutBefore, end_at, range_at}
+use Rattle.work_core.specs.Shares.{Gives, GivesFrom, IsCutBefore, end_at, range_at, workers_in}
 use Rattle.work_core.specs.declared.range.Range.{Range}
 use Rattle.work_core.specs.declared.shares.Cut.{Cut}
 
@@ -51,23 +51,28 @@ pub all_begun : {T : Type 0} (cmp : T → T → Ordering) (cuts : List (Cut T))
     → All (λ (c : Cut T). has_begun cmp None c.at ≡ true) cuts
 all_begun cmp cuts = λ k d within. refl
 
--- the values of answers that belong to the ranges
+-- each range that ends at a cut has a worker, so there are no more cuts than workers
+pub few_cuts : {T : Type 0} (n : ℕ) (cuts : List (Cut T))
+    → All (λ (c : Cut T). (0 < c.workers) × (c.workers ≤ n)) cuts → length cuts ≤ workers_in cuts
+few_cuts n [] some = omega arith
+few_cuts {T} n (c ∷ cs) some =
+    let first = (some 0 c (omega arith)).0 in
+    let rest = few_cuts n cs (λ k d within. some (suc k) d (omega (arith, within))) in
+    let all = sum_by-cons (λ (x : Cut T). x.workers) c cs in
+    omega (arith, first, rest, all)
+
+-- if each value is one that a call for its range may return, the values belong to the ranges
 pub all_given : {T X V E : Type 0} (cmp : T → T → Ordering) (post : Range T → ℕ → Result X E → Type 0)
-    (cuts : List (Cut T)) (answers : List (Result X E)) (items : V → List X) → AllPairs (IsCutBefore cmp) cuts
-    → length answers ≡ length cuts + 1
-    → ((i : ℕ) (r : Result X E) → i ≤ length cuts → r ≡ slice_index_or answers i r
-    → (n : ℕ) × post (range_at None cuts i) n r)
-    → (result : Result V E) → IfOk result (λ (found : V). answers ≡ map (λ (x : X). Ok x) (items found))
+    (cuts : List (Cut T)) (items : V → List X) → AllPairs (IsCutBefore cmp) cuts
+    → (result : Result V E) → IfOk result (λ (found : V). length (items found) ≡ length cuts + 1)
+    → IfOk result (λ (found : V). (i : ℕ) (x : X) → slice_get (items found) i ≡ Some x
+    → (n : ℕ) × post (range_at None cuts i) n (Ok x))
     → IfOk result (λ (found : V). GivesFrom cmp (Gives post) None cuts (items found))
-all_given cmp post cuts answers items rise len each (Err e) is = tt
-all_given {T} {X} {V} {E} cmp post cuts answers items rise len each (Ok found) is =
-    let made : X → Result X E = λ x. Ok x in
-    let count : length (items found) ≡ suc (length cuts) =
-    omega (arith, len, ap (λ (l : List (Result X E)). length l) is, length-map (items found) made) in
-    gives_from cmp (Gives post) None cuts (items found) count (all_begun cmp cuts) rise
-    (λ i x within at. each i (Ok x) within
-    (ap made at ∙ sym (get_or-map made (items found) i x)
-    ∙ ap (λ (l : List (Result X E)). slice_index_or l i (Ok x)) (sym is)))
+all_given cmp post cuts items rise (Err e) len each = tt
+all_given cmp post cuts items rise (Ok found) len each =
+    let xs = items found in
+    gives_from cmp (Gives post) None cuts xs (omega (arith, len)) (all_begun cmp cuts) rise
+    (λ i x within at. each i x (slice_get_read xs (length xs) i x refl (omega (arith, within, len)) at))
 
 -- a property of the ranges together follows from one of each
 module _ {T X : Type 0} (cmp : T → T → Ordering) (gives : Range T → X → Type 0) (come : Range T → List X → Type 0)

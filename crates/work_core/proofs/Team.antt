@@ -5,7 +5,6 @@ use Rattle.std.proofs.lemmas.List.{get_or_append_left, length_push}
 use Rattle.std.proofs.lemmas.List.Elements.{All-from_get_or}
 use Rattle.std.proofs.Math.Seq.{get_or-append_seam}
 use Rattle.atomic_table.specs.Seated.{TableId}
-use Rattle.work_core.specs.declared.job.PairWork as PairWork
 use Rattle.work_core.specs.declared.worker.Worker.{Worker}
 use Rattle.work_core.specs.declared.worker.WorkerAnswer.{WorkerAnswer}
 use Rattle.work_core.specs.declared.kept.KeptValues.{KeptValues}
@@ -82,55 +81,55 @@ either_way : (d d' a b c : ℕ) → (0 < d → 0 < a) → (0 < d' → 0 < b) →
 either_way (suc d) d' a b c f h then some = let p : 0 < a = f (omega arith) in then (omega (arith, p))
 either_way zero d' a b c f h then some = let p : 0 < b = h (omega (arith, some)) in then (omega (arith, p))
 
-module _ {W Out : Type 0} (g : PairWork.Ghosts W Out) (w : W) where
+module _ {Out : Type 0} (count : ℕ) (IsValue : ℕ → Out → Type 0) where
   -- the answer of the last worker
   pub last_answer : (table : TableId) (answers others : List (WorkerAnswer Out)) (last : WorkerAnswer Out)
-      → answers ≡ others ++ last ∷ [] → AreAnswers g w table answers → IsWorkerAnswer g w table (g.pairs w) last
+      → answers ≡ others ++ last ∷ [] → AreAnswers count IsValue table answers → IsWorkerAnswer count IsValue table (count) last
   last_answer table answers others last e are =
       let size : length answers ≡ length others + 1 =
       ap (λ (l : List (WorkerAnswer Out)). length l) e ∙ length_push others last in
       let k = length others in
-      let n = places_of-last (length answers) (g.pairs w) k (sym size) in
+      let n = places_of-last (length answers) (count) k (sym size) in
       let at = ap (λ (l : List (WorkerAnswer Out)). slice_index_or l k last) e
       ∙ get_or-append_seam others last [] last in
-      subst (λ (a : WorkerAnswer Out). IsWorkerAnswer g w table (g.pairs w) a) at
-      (subst (λ (m : ℕ). IsWorkerAnswer g w table m (slice_index_or answers k last)) n
+      subst (λ (a : WorkerAnswer Out). IsWorkerAnswer count IsValue table (count) a) at
+      (subst (λ (m : ℕ). IsWorkerAnswer count IsValue table m (slice_index_or answers k last)) n
       (are k last (omega (arith, size))))
 
   -- the answers of the others
   pub other_answers : (table : TableId) (answers others : List (WorkerAnswer Out)) (last : WorkerAnswer Out)
-      → answers ≡ others ++ last ∷ [] → AreAnswers g w table answers → All (IsWorkerAnswer g w table 0) others
+      → answers ≡ others ++ last ∷ [] → AreAnswers count IsValue table answers → All (IsWorkerAnswer count IsValue table 0) others
   other_answers table answers others last e are k d before =
       let size : length answers ≡ length others + 1 =
       ap (λ (l : List (WorkerAnswer Out)). length l) e ∙ length_push others last in
-      let n = places_of-other (length answers) (g.pairs w) k (omega (arith, size, before)) in
+      let n = places_of-other (length answers) (count) k (omega (arith, size, before)) in
       let at = ap (λ (l : List (WorkerAnswer Out)). slice_index_or l k d) e
       ∙ get_or_append_left others (last ∷ []) d k before in
-      subst (λ (a : WorkerAnswer Out). IsWorkerAnswer g w table 0 a) at
-      (subst (λ (m : ℕ). IsWorkerAnswer g w table m (slice_index_or answers k d)) n
+      subst (λ (a : WorkerAnswer Out). IsWorkerAnswer count IsValue table 0 a) at
+      (subst (λ (m : ℕ). IsWorkerAnswer count IsValue table m (slice_index_or answers k d)) n
       (are k d (omega (arith, size, before))))
 
   -- the answer of the worker at that index of its team
   pub team_answer : (table table' : TableId) (n m k : ℕ) (team : List (Worker Out)) (worker : Worker Out)
       (answer : WorkerAnswer Out) → table' ≡ table → HasPlaces n team → k < length team
-      → slice_index_or team k worker ≡ worker → n ≡ g.pairs w → length team ≡ m
-      → IsWorkerAnswer g w table (length worker.kept.places.items) answer
-      → IsWorkerAnswer g w table' (places_of m (g.pairs w) k) answer
+      → slice_index_or team k worker ≡ worker → n ≡ count → length team ≡ m
+      → IsWorkerAnswer count IsValue table (length worker.kept.places.items) answer
+      → IsWorkerAnswer count IsValue table' (places_of m (count) k) answer
   team_answer table table' n m k team worker answer tables places inside at all size is =
       let a = ap (λ (x : Worker Out). length x.kept.places.items) at in
-      let b : length worker.kept.places.items ≡ places_of m (g.pairs w) k =
+      let b : length worker.kept.places.items ≡ places_of m (count) k =
       sym a ∙ (places k worker inside ∙ (ap (λ (i : ℕ). places_of i n k) size ∙ ap (λ (i : ℕ). places_of m i k) all)) in
-      subst (λ (t : TableId). IsWorkerAnswer g w t (places_of m (g.pairs w) k) answer) (sym tables)
-      (subst (λ (i : ℕ). IsWorkerAnswer g w table i answer) b is)
+      subst (λ (t : TableId). IsWorkerAnswer count IsValue t (places_of m (count) k) answer) (sym tables)
+      (subst (λ (i : ℕ). IsWorkerAnswer count IsValue table i answer) b is)
 
-  -- the slots that a worker with a slot for each pair kept
-  pub kept_places : (drawn : List ℕ) (kept : KeptValues Out) → AreOfDrawn g w drawn [] kept
-      → length kept.places.items ≡ g.pairs w → ArePlaces g w kept.places.items
+  -- the slots that a worker with a slot for each call kept
+  pub kept_places : (drawn : List ℕ) (kept : KeptValues Out) → AreOfDrawn count IsValue drawn [] kept
+      → length kept.places.items ≡ count → ArePlaces count IsValue kept.places.items
   kept_places drawn kept are len = record { len = len; each = are.placed }
 
   -- it has a value in the slot of each number that it drew
-  pub kept_there : (drawn : List ℕ) (kept : KeptValues Out) → AreOfDrawn g w drawn [] kept
-      → length kept.places.items ≡ g.pairs w → (x : ℕ) → x < g.pairs w → 0 < times x drawn
+  pub kept_there : (drawn : List ℕ) (kept : KeptValues Out) → AreOfDrawn count IsValue drawn [] kept
+      → length kept.places.items ≡ count → (x : ℕ) → x < count → 0 < times x drawn
       → 0 < count_at kept.places.items x
   kept_there drawn kept are len x below some =
       let none = ap (λ (l : List (Numbered Out)). times x (numbers_of l)) (are.whole (omega (arith, len))) in
@@ -138,8 +137,8 @@ module _ {W Out : Type 0} (g : PairWork.Ghosts W Out) (w : W) where
       omega (arith, none, h)
 
   -- a worker without slots has the values in its list
-  pub kept_listed : (drawn : List ℕ) (kept : KeptValues Out) → AreOfDrawn g w drawn [] kept
-      → length kept.places.items ≡ 0 → (x : ℕ) → x < g.pairs w → 0 < times x drawn
+  pub kept_listed : (drawn : List ℕ) (kept : KeptValues Out) → AreOfDrawn count IsValue drawn [] kept
+      → length kept.places.items ≡ 0 → (x : ℕ) → x < count → 0 < times x drawn
       → 0 < times x (numbers_of kept.values.items)
   kept_listed drawn kept are len x below some =
       let none = count_at-short kept.places.items x len in

@@ -21,19 +21,23 @@ present_values [] = []
 present_values (Some x ∷ places) = x ∷ present_values places
 present_values (None ∷ places) = present_values places
 
+-- each value is one that its index may have
+abbrev pub AreAtTheirPlaces : {Out : Type 0} → (ℕ → Out → Type 0) → List (Option Out) → Type 0
+AreAtTheirPlaces {Out} IsValue places = (i : ℕ) (o : Out) → slice_index_or places i None ≡ Some o → IsValue i o
+
+-- so many slots, each of which is empty or has a value that its index may have
+pub record ArePlaces {Out : Type 0} (count : ℕ) (IsValue : ℕ → Out → Type 0) (places : List (Option Out)) : Type 0 where
+  pub len : length places ≡ count
+  pub each : AreAtTheirPlaces IsValue places
+
 module _ {W Out : Type 0} (g : PairWork.Ghosts W Out) where
-  -- each value is a value of the pair with its index
-  abbrev pub AreAtTheirPlaces : W → List (Option Out) → Type 0
-  AreAtTheirPlaces w places = (i : ℕ) (o : Out) → slice_index_or places i None ≡ Some o → Gives g w (g.name_of w i) o
+  -- a slot for each pair of the job, which is empty or has a value of that pair
+  abbrev pub AreJobPlaces : W → List (Option Out) → Type 0
+  AreJobPlaces w = ArePlaces (g.pairs w) (λ i o. Gives g w (g.name_of w i) o)
 
   -- a job without any pair's value
   abbrev pub nothing_of : W → Collected W Out
   nothing_of w = record { job = w; places = replicate (g.pairs w) None }
-
-  -- a slot for each pair of the job, which is empty or has a value of that pair
-  pub record ArePlaces (w : W) (places : List (Option Out)) : Type 0 where
-    pub len : length places ≡ g.pairs w
-    pub each : AreAtTheirPlaces w places
 
   -- the pair's slot was empty, has the value o afterwards, and nothing else is changed
   pub record Fills (p : PairName) (o : Out) (old new : Collected W Out) : Type 0 where

@@ -21,13 +21,13 @@ pub struct Collector<'j, W: PairWork> {
 }
 
 impl<'j, W: PairWork> Model for Collector<'j, W> {
-    ghost use Rattle.work_core.specs.Collected.{Collected, ArePlaces};
+    ghost use Rattle.work_core.specs.Collected.{Collected, AreJobPlaces};
 
     ghost Value = { Collected W W.Out };
 
     ghost view = { λ c. record { job = c.job.now; places = c.places.items } };
 
-    ghost invariant = { λ c. ArePlaces W.PairWork c.job.now c.places.items };
+    ghost invariant = { λ c. AreJobPlaces W.PairWork c.job.now c.places.items };
 }
 
 /// Why a piece was refused.

@@ -1,16 +1,18 @@
 //! Partitions of the work: consecutive ranges of values, cut at the values of a sample, so that all workers have about
 //! the same amount of work. Each range is worked on by itself.
 
-ghost use Rattle.std.specs.Prelude.{◌≡◌, ◌+◌, ◌/◌, max, min, ℕ, ◌<◌, ◌≤◌, None, Ok, map, length, IfOk, IfSome, true};
+ghost use Rattle.std.specs.Prelude.{◌≡◌, ◌+◌, ◌*◌, ◌/◌, ◌^◌, max, min, ℕ, ◌<◌, ◌≤◌, None, length, IfOk, IfSome, true};
 ghost use Rattle.std.specs.Thread.{IsSync};
+ghost use Rattle.work_core.specs.Limits.{worker_limit};
 ghost use Rattle.work_core.specs.Ranges.{is_from};
 ghost use Rattle.work_core.specs.Shares.{AreCuts, Gives, GivesFrom, HaveEach, IsShare, end_at, range_at, workers_at, workers_in};
 ghost use Rattle.work_core.specs.declared.range.Range.{Range as AnyRange};
 
+use crate::drawing::call_each;
 use crate::range::Range;
-use crate::tuning::{ITEMS_OF_SHARE, SAMPLE};
+use crate::run::WORKER_LIMIT;
+use crate::tuning::{ITEMS_OF_SHARE, RANGES_OF_WORKER, SAMPLE};
 use std::alloc::{AllocError, Global};
-use std::thread;
 use std::thread::Threads;
 
 /// The boundary between two neighbouring ranges.
@@ -31,9 +33,33 @@ pub struct Shares<T: Ord> {
     pub last: u32,
     /// How many workers the ranges have in all.
     pub workers: u32,
+    /// How many ranges are worked on at the same time.
+    pub threads: u32,
     pub ghost rise: { AreCuts T.cmp cuts.items workers },
     pub ghost some: { (0 < last) × (last ≤ workers) },
     pub ghost shared: { workers_in cuts.items + last ≡ workers },
+    pub ghost few: { length cuts.items < 2 ^ 32 },
+    pub ghost busy: { (0 < threads) × (threads ≤ worker_limit) },
+}
+
+impl Shares<usize> {
+    /// Partitions the indices below `count` into ranges of about equal length (`ranges_for`), each with one worker.
+    ///
+    /// # Errors
+    ///
+    /// `AllocError` if an allocation is refused.
+    pub fn by_index(alloc: Global, count: usize, workers: u32) -> Result<Shares<usize>, AllocError>
+        requires { (0 < workers) × (workers ≤ worker_limit) }
+        ensures { IfOk result (λ shares. shares.threads ≡ workers) }
+    {
+        let parts = ranges_for(count / ITEMS_OF_SHARE, workers);
+        let step = count / parts as usize;
+        let mut starts = Vec::with_capacity(alloc, parts as usize)?;
+        for part in 0..parts as usize {
+            starts.push(part * step)?;
+        }
+        cut_at(alloc, &starts, parts, parts, workers)
+    }
 }
 
 impl<T: Ord + Copy> Shares<T> {
@@ -58,7 +84,7 @@ impl<T: Ord + Copy> Shares<T> {
     {
         let parts = parts_for(count, workers);
         let sample = sample_of(alloc, count, parts, value_at)?;
-        cut_at(alloc, &sample, parts, workers)
+        cut_at(alloc, &sample, parts, workers, workers)
     }
 
     /// Returns the number of ranges.
@@ -107,6 +133,23 @@ fn end_of<T: Copy>(cuts: &[Cut<T>], number: usize) -> Option<T>
     }
 }
 
+/// Returns into how many ranges work is cut if each of `most` ranges is enough for a worker: as many for each worker, and
+/// several for each of several workers, so that a worker that is done with one takes the next. If there are fewer than
+/// workers, a worker has at most one.
+pub fn ranges_for(most: usize, workers: u32) -> u32
+    requires { (0 < workers) × (workers ≤ worker_limit) }
+    ensures some { 0 < result }
+    ensures few { result ≤ max 1 (min most (workers * RANGES_OF_WORKER)) }
+{
+    let most_each = if workers > 1 {
+        RANGES_OF_WORKER as usize
+    } else {
+        1
+    };
+    let each = (most / workers as usize).clamp(1, most_each);
+    (workers as usize * each).min(most).max(1) as u32
+}
+
 /// Returns for how many of the workers `count` items are enough work; at least 1.
 fn parts_for(count: usize, workers: u32) -> u32
     requires { 0 < workers }
@@ -140,16 +183,21 @@ fn sample_of<T: Ord + Copy, F: Fn(usize) -> T>(
 }
 
 /// Cuts a sorted sample into `parts` parts, and drops a boundary whose value doesn't differ from the one before. Each
-/// range has a worker for each part in it, and the last range has all that remain.
+/// range has a worker for each part in it, and the last range has all that remain. At most `threads` ranges are
+/// worked on at the same time.
 fn cut_at<T: Ord + Copy>(
     alloc: Global,
     sample: &[T],
     parts: u32,
     workers: u32,
+    threads: u32,
 ) -> Result<Shares<T>, AllocError>
-    requires { (0 < parts) × (parts ≤ workers) }
-    ensures { IfOk result (λ shares. shares.workers ≡ workers) }
+    requires parts { (0 < parts) × (parts ≤ workers) }
+    requires threads { 0 < threads }
+    ensures workers { IfOk result (λ shares. shares.workers ≡ workers) }
+    ensures threads { IfOk result (λ shares. shares.threads ≡ min threads worker_limit) }
 {
+    let threads = threads.min(WORKER_LIMIT);
     let mut cuts = Vec::new(alloc);
     let mut left = workers;
     let Some(first) = sample.first() else {
@@ -157,6 +205,7 @@ fn cut_at<T: Ord + Copy>(
             cuts,
             last: left,
             workers,
+            threads,
         });
     };
     let step = sample.len() / parts as usize;
@@ -175,6 +224,7 @@ fn cut_at<T: Ord + Copy>(
         cuts,
         last: left,
         workers,
+        threads,
     })
 }
 
@@ -186,9 +236,8 @@ fn value_behind<T: Ord + Copy>(first: T, second: Option<&T>) -> Option<T>
     if first < second { Some(second) } else { None }
 }
 
-/// Calls `work` with each range and the number of its workers, and returns the results in the order of the ranges. Each
-/// call runs on a thread of its own, if one can be started. `work` is called only with these ranges and numbers of
-/// workers.
+/// Calls `work` with each range and the number of its workers, and returns the results in the order of the ranges.
+/// Threads take one range after another. `work` is called only with these ranges and numbers of workers.
 ///
 /// # Errors
 ///
@@ -204,10 +253,11 @@ pub fn shared_out<
     ensures { IfOk result (λ found.
         GivesFrom T.cmp (Gives (F.post work.now)) None shares.now.cuts.items found.items) }
 {
-    let answers = thread::map_indices(
+    call_each(
         rt,
         alloc,
         shares.len(),
+        shares.threads,
         &|number: usize| -> Result<X, AllocError>
             requires { (number ≤ length shares.now.cuts.items)
                 × ((r : AnyRange T) (n : ℕ) → 0 < n → n ≤ shares.now.workers
@@ -216,24 +266,5 @@ pub fn shared_out<
                 × F.post work.entry.now
                 (range_at None shares.entry.now.cuts.items number) n result }
         { work(shares.range(number), shares.workers_of(number)) },
-    )?;
-    all_found(alloc, answers)
-}
-
-/// Returns the values of all answers, in their order.
-///
-/// # Errors
-///
-/// The first error among the answers, or `AllocError` if an allocation is refused.
-pub fn all_found<X: Drop>(
-    alloc: Global,
-    answers: Vec<Result<X, AllocError>>,
-) -> Result<Vec<X>, AllocError>
-    ensures { IfOk result (λ found. answers.items ≡ map Ok found.items) }
-{
-    let mut found = Vec::with_capacity(alloc, answers.len())?;
-    for answer in answers {
-        found.push(answer?)?;
-    }
-    Ok(found)
+    )
 }

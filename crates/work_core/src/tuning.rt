@@ -14,6 +14,10 @@ pub const ITEMS_FOR_SORT: usize = 100_000;
 /// A worker with fewer items of a partition would finish before another had started.
 pub const ITEMS_OF_SHARE: usize = 8_192;
 
+/// The most ranges of indices for each of several workers. With one, all would wait for the slowest; with many, more
+/// lists would be put together at the end.
+pub const RANGES_OF_WORKER: u32 = 3;
+
 /// The number of items in a sample, by whose values items are cut.
 pub const SAMPLE: usize = 1_023;
 

@@ -1,6 +1,8 @@
-//! Tests from outside of jobs that run on workers, and of their pieces.
+//! Tests from outside of jobs that run on workers, of their pieces, and of ranges of indices.
 #![tactic(auto)]
 
+#[cfg(test)]
+mod calls;
 #[cfg(test)]
 mod pieces;
 #[cfg(test)]

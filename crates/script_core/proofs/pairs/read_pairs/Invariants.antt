@@ -1,4 +1,4 @@
--- The values are those of the pairs before index `place`.
+-- The values belong to the pairs before index `place`.
 use Rattle.std.proofs.Common.{◌≡◌, drop}
 use Rattle.command_core.specs.PairsIn.{pairs_in}
 use Rattle.script_core.specs.Effects.{pairs_read}

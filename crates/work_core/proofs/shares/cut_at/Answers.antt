@@ -1,6 +1,7 @@
 use Rattle.std.proofs.Common.{arith, ◌≡◌, ◌∙◌, ◌+◌, ◌-◌, Vec, Global, ap}
 use Rattle.work_core.specs.declared.shares.Cut.{Cut}
 use Rattle.work_core.proofs.CutLemmas.{moved, next_part, one_more}
+use Rattle.work_core.proofs.ShareLemmas.{few_cuts}
 use Rattle.work_core.proofs.shares.cut_at.Goals.{in-Some-value_behind+in_ok-push, in_default-value_behind}
 use Rattle.work_core.proofs.shares.cut_at.Goals as goal
 
@@ -25,3 +26,10 @@ loop-part-preserved g c =
           moved cmp c.args.workers behind (ap (λ (l : Vec (Cut g.row.T.Denot) Global). l.items) w.cuts-is) w.last-is w.some-is
           w.left-is so
     ]
+
+pub invariant_of-result-2-clause-few : goal.invariant_of-result-2-clause-few
+invariant_of-result-2-clause-few g c =
+    let was = c.loop-part.invariant in
+    let few = few_cuts c.args.workers c.loop-part.cuts.items was.cut.some in
+    let fits = c.ranges.workers.fits in
+    omega (arith, few, was.shared, fits)

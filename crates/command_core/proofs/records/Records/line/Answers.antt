@@ -1,4 +1,4 @@
-use Rattle.std.proofs.Common.{◌+◌, ◌∙◌, ap, arith, length, length-drop, slice_get, sym}
+use Rattle.std.proofs.Common.{ℕ, ◌≡◌, ◌+◌, ◌∙◌, ap, arith, drop, length, length-drop, slice_get, sym}
 use Rattle.list_core.proofs.PlaceLemmas.{slice_get-drop}
 use Rattle.command_core.specs.Seams.{joined}
 use Rattle.command_core.proofs.records.Records.line.Goals as goal
@@ -17,7 +17,10 @@ overflow_add-self-inside c =
 pub returns : goal.returns
 returns c =
     let records = joined c.self.inside.batches.items in
+    let at : ℕ = c.self.inside.passed + c.args.place in
+    let first : at + 0 ≡ at = omega arith in
     sym (ap (λ l. slice_get l c.args.place) c.self.view_is)
     ∙ slice_get-drop c.self.inside.passed records c.args.place
-    ∙ sym (ap (λ l. slice_get (joined l) (c.self.inside.passed + c.args.place)) c.deref.ensures.value)
-    ∙ c.line_in.ensures
+    ∙ sym (slice_get-drop at records 0 ∙ ap (slice_get records) first)
+    ∙ ap (λ l. slice_get (drop at (joined l)) 0) (sym c.deref.ensures.value)
+    ∙ ap (λ l. slice_get l 0) c.line_and_rest.ensures

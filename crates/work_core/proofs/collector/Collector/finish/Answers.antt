@@ -1,5 +1,5 @@
 use Rattle.std.proofs.Common.{rules, Option, List, All, IsSome, refl, ap, sym, subst, ◌∙◌}
-use Rattle.work_core.specs.Collected.{Collected, IsFirstGap, ArePlaces}
+use Rattle.work_core.specs.Collected.{Collected, IsFirstGap, AreJobPlaces}
 use Rattle.work_core.proofs.Places.{values_at_places}
 use Rattle.work_core.proofs.collector.Collector.finish.Goals as goal
 
@@ -29,7 +29,7 @@ returns g c =
     let accepted = sym (ap (λ (v : Seen). v.places) c.self.view_is) ∙ c.at_places.ensures in
     record {
       values = values_at_places g.W.PairWork c.args.self.job c.args.self.places c.at_places.result
-          (subst (λ (v : Seen). ArePlaces g.W.PairWork v.job v.places) c.self.view_is c.self.invariant)
+          (subst (λ (v : Seen). AreJobPlaces g.W.PairWork v.job v.places) c.self.view_is c.self.invariant)
           accepted;
       accepted = accepted;
       back = tt;

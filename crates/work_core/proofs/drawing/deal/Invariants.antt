@@ -2,7 +2,7 @@ use Rattle.std.proofs.Common.{◌≡◌, ◌+◌, ◌*◌, All, [], length, vec_
 use Rattle.work_core.specs.Claims.{all_parts}
 use Rattle.work_core.specs.Limits.{draw_limit, word_limit}
 use Rattle.work_core.specs.Workers.{IsFreshWorker}
-use Rattle.work_core.proofs.run.deal.Given as goal
+use Rattle.work_core.proofs.drawing.deal.Given as goal
 
 abbrev pub invariant-loop : goal.invariant-loop
 invariant-loop g l = record {

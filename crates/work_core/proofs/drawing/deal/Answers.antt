@@ -6,7 +6,7 @@ use Rattle.work_core.proofs.Team.{fresh_worker, team_has_places}
 use Rattle.std.proofs.Common.{◌+◌}
 use Rattle.std.proofs.lemmas.List.Elements.{All-nil}
 use Rattle.work_core.specs.Limits.{draw_limit}
-use Rattle.work_core.proofs.run.deal.Goals as goal
+use Rattle.work_core.proofs.drawing.deal.Goals as goal
 
 pub loop-preserved : goal.loop-preserved
 loop-preserved g c =

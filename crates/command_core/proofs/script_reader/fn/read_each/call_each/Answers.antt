@@ -1,7 +1,7 @@
 use Rattle.std.proofs.Common.{arith, List, [], ℕ}
 use denote.Ref.{Bor}
 use Rattle.command_core.proofs.SeamLemmas.{piece-le}
-use Rattle.command_core.proofs.script_reader.fn.read_each.map_indices.Goals as goal
+use Rattle.command_core.proofs.script_reader.fn.read_each.call_each.Goals as goal
 
 pub read_piece-requires : goal.read_piece-requires
 read_piece-requires c =
