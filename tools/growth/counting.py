@@ -1,4 +1,4 @@
-"""The cost of a program's run, in counts that are the same in each run and on any machine."""
+"""The cost of a program's run, in counts that hardly change from run to run and from machine to machine."""
 import json
 import os
 import re
@@ -50,8 +50,9 @@ def of_callgrind(path: Path) -> PerThread:
 # Instructions and allocated bytes. If a block grows, all bytes of the longer block count. Dhat replaces the C library's
 # functions for memory and copies by its own, so these count alike on all machines.
 DHAT = Tool("--tool=dhat --num-callers=1 --dhat-out-file={}", of_dhat)
-# The instructions of each thread.
-CALLGRIND = Tool("--tool=callgrind --separate-threads=yes --callgrind-out-file={}", of_callgrind)
+# The instructions of each thread. Valgrind runs one thread at a time: in turns if its scheduler is fair, and else often
+# one thread until its end, which then draws what all should share.
+CALLGRIND = Tool("--tool=callgrind --fair-sched=yes --separate-threads=yes --callgrind-out-file={}", of_callgrind)
 
 
 @dataclass(frozen=True)
