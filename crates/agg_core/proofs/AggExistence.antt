@@ -35,7 +35,7 @@ use Rattle.agg_core.proofs.PlateauLemmas.{maximal_of_items, maximal_of_rows, per
 AggRow-same : (a b : AggRow) → a.group ≡ b.group → a.period ≡ b.period → a.value ≡ b.value → a ≡ b
 AggRow-same a b g p v = λ i. record { group = g i; period = p i; value = v i }
 
--- ---- an order in which only equal rows compare as equal
+-- ---- an order: only equal rows compare as equal
 
 -- The order by group and start, then by end and value.
 abbrev full_cmp : AggRow → AggRow → Ordering

@@ -1,4 +1,4 @@
-//! What an aggregate measures and in which column, and why it is refused.
+//! What an aggregate measures, in what column, and why it is refused.
 
 ghost use Rattle.std.specs.Prelude.{◌≡◌};
 ghost use Rattle.row_core.specs.Refusals.{first_of};

@@ -1,4 +1,4 @@
-//! The pairs of parts of an anti-join, as a job for workers.
+//! A job for workers: the pairs of parts of an anti-join.
 
 ghost use Rattle.merge_core.specs.Gaps.{ListsGaps};
 

@@ -1,4 +1,4 @@
--- A list of two, from which the last element was taken first.
+-- A list of two elements. The last one was taken first.
 use Rattle.std.proofs.Common.{◌≡◌, ◌+◌, List, [], ◌∷◌, ◌++◌, length, ap, ◌∙◌, arith, length-append}
 
 pub two-of : {A : Type 0} (all rest left : List A) (x y : A) → length all ≡ 2 → all ≡ rest ++ y ∷ []

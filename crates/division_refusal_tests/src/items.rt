@@ -27,7 +27,7 @@ pub(crate) fn item(rt: &impl Abort, id: u64, from: u8, to: u8, class: u64) -> It
     }
 }
 
-// Five items, in the order in which they are placed. Three of them hold on the third.
+// Five items, in the order of their placing. Three of them hold on the third.
 pub(crate) fn five(rt: &impl Abort) -> [Item; 5] {
     [
         item(rt, 1, 1, 5, 0),

@@ -27,7 +27,7 @@ rest-more bytes text more passed rest = record {
       (subst (λ l. AreScriptRecords l later) (append_assoc text more on) are));
 }
 
--- After the end of a record, the records are those of the following bytes.
+-- After the end of a record, the following bytes have the other records.
 lines-end : (byte : ℕ) (bytes : List ℕ) (lines : List Record) → IsLineEnd byte → AreScriptRecords (byte ∷ bytes) lines
     → AreLines bytes lines
 unfolding strip_bom next_record
@@ -133,7 +133,7 @@ begun-cut text r scan s c knows = record {
   knows = record { spot = knows.spot; first = knows.first; is_first = knows.is_first; block = knows.block };
 }
 
--- The records of the complete statements are those of a prefix of the text.
+-- A prefix of the text has the records of the complete statements.
 pub front-records : (text : List ℕ) (r : Reading) (s : IsScanned text r) (end : ℕ) (records : List Record)
     → end ≡ length s.lead + length r.whole → AreScriptRecords (take end text) records → records ≡ r.done
 unfolding next_record

@@ -83,7 +83,7 @@ front-before dones before after w =
           w.written,
     )
 
--- The statements that were to be answered, when answering stopped.
+-- The statements that wait for an answer, when answering stopped.
 pub stops : (records : List Record) (old : Session) (before after : Sink) (fault : RunFault)
     → ((dones : List Done) × AreRest (place_of old records) dones) → StopsAnswering records old before after fault
     → (dones : List Done) × AreRest (place_of old records) dones × ExplainsStop dones before after fault

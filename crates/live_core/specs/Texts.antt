@@ -81,7 +81,7 @@ pub record IsRead (r : Reading) : Type 0 where
       → AreLines (r.behind ++ more) (r.pending ++ later)
   pub opens : Opens (block_after block.Outside r.pending) r.pending
 
--- The bytes of the reading are those of a text.
+-- The reading has a text's bytes.
 pub record IsScanned (text : List ℕ) (r : Reading) : Type 0 where
   pub lead : List ℕ
   pub is : text ≡ lead ++ (r.whole ++ r.behind)

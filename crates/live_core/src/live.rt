@@ -185,7 +185,7 @@ impl Live {
     }
 }
 
-/// Returns the index at which a script's records begin, after a byte order mark. Returns `None` if the bytes may still
+/// Returns the index where a script's records begin, after a byte order mark. Returns `None` if the bytes may still
 /// become one.
 fn first_place(text: &[u8]) -> Option<usize>
     ensures some { IfSome result (λ place. (place ≤ length text.now)

@@ -111,7 +111,7 @@ gathering_more measure items left own later first list old new e parted steps ad
       rise = high-rise (first.class + 1) left own later parted i.rise;
     })
 
--- Without items there are no intervals.
+-- Without items, the list of intervals is empty.
 none-plateaus : (measure : Measure) → ArePlateaus measure [] []
 none-plateaus measure = IsListOf-none PlateauBefore (IsPlateau measure []) (λ p is. no_plateau measure [] p refl is)
 

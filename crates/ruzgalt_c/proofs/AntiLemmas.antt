@@ -88,7 +88,7 @@ chain-own class rights matching own later apart from parted =
     let high = parted.below k d h in
     omega (arith, low, high))
 
--- The index of each row is that of a left row.
+-- The index of each row is a left row's index.
 pub index-few : (left : Columns) (lefts rights : List Item) (rows : List AntiRow) → AreRows left lefts
     → length left.from ≤ item_limit → IsItemsAnti lefts rights rows
     → All (λ (row : AntiRow). row.id < item_limit) rows

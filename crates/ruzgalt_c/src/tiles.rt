@@ -51,7 +51,7 @@ fn by_start(alloc: Global, items: &[Item]) -> Result<Vec<Item>, NoMemory>
     Ok(sorted)
 }
 
-/// Returns the points at which both sides are cut.
+/// Returns the points where both sides are cut.
 fn cuts_between(alloc: Global, left: &[Item], right: &[Item]) -> Result<Vec<Point>, NoMemory> {
     let mut starts = Vec::new(alloc);
     let mut ends = Vec::new(alloc);

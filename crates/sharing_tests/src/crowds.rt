@@ -1,4 +1,4 @@
-//! Many callers at once: their answers are those of one history, at points that don't go back for any caller.
+//! Many callers at once: one history has all their answers, at points that don't go back for any caller.
 
 ghost use Rattle.std.specs.Prelude.{◌≡◌};
 ghost use Rattle.store_core.specs.Passes.{IsPassOf};

@@ -135,7 +135,7 @@ fn keeps_a_snapshot_while_changes_go_on(rt: HostRuntime) -> Result<(), Fail> {
     Ok(())
 }
 
-// A snapshot of a snapshot is limited by the commits that the first shows, not by those of its book.
+// A snapshot of a snapshot is limited by the commits that the first shows, not by its book's commits.
 #[test]
 fn looks_back_from_a_snapshot(rt: HostRuntime) -> Result<(), Fail> {
     let (store, mut pass) = one_pass(rt.alloc(), 4)?;

@@ -1,4 +1,4 @@
-//! More callers than processors, each of which holds its turn for a moment: all are served.
+//! More callers than processors. Each holds its turn for a moment, and all are served.
 
 ghost use Rattle.std.specs.Prelude.{◌≡◌, ℕ, ◌+◌, ◌<◌, IfOk, Some, slice_get};
 ghost use Rattle.turn_core.specs.Calls.{IsSameCaller};

@@ -118,7 +118,7 @@ fn add_alone<R: Wait>(
     }
 }
 
-// Returns a copy of the numbers, which begin with those that the seat has seen; `None` if memory is refused.
+// Returns a copy of the numbers, which begin with the numbers that the seat has seen; `None` if memory is refused.
 pub(crate) fn look<R: Wait>(
     rt: &R,
     turn: &Turn<Numbers>,
